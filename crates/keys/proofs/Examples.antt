@@ -1,0 +1,31 @@
+-- The starred examples of 01 hold: each by computation, the tie by the law of ties.
+-- Assumes nothing.
+use mathlib.Core.Path.{refl}
+use Rattle.laws.specs.Order.{isLess, byNumber, byElements}
+use Rattle.laws.specs.Prefix.{sameNumber, sameList, prefixOf}
+use Rattle.keys.specs.Path.{cut, components, legalEnds, legal, joined, endsFrom, pathOf}
+use Rattle.keys.specs.Above.{orElse, raisedByte, raisedBytes, raised, aboveIn, above}
+use Rattle.keys.specs.Encode.{escaped, componentKey, pathKey}
+use Rattle.keys.specs.Range.{includes, beforeEnd, timesEnd, timesInclude}
+use Rattle.keys.specs.Area.{pathsUpTo, areaRange}
+use Rattle.keys.specs.Examples.{Examples}
+use Rattle.keys.proofs.EntryLaws.{newer-neither}
+
+pub examples : Examples
+unfolding byNumber byElements isLess sameNumber sameList prefixOf cut components legalEnds legal joined endsFrom pathOf orElse raisedByte raisedBytes raised aboveIn above escaped componentKey pathKey includes beforeEnd timesEnd timesInclude pathsUpTo areaRange
+examples = record {
+  empty-path = refl;
+  empty-component = refl;
+  two-components = refl;
+  path-order = (refl, refl, refl);
+  prefix-by-component = (refl, refl);
+  tie-not-newer = λ a b t d n. newer-neither a b .1 (λ i. record { timestamp = t i; «payload_digest» = d i; «payload_length» = n i });
+  closed-times = (refl, refl);
+  open-times = refl;
+  component-of-64 = (refl, refl);
+  components-8 = (refl, refl);
+  total-128 = (refl, refl);
+  area-at-61 = λ s t. refl;
+  area-at-empty = λ s t. refl;
+  order-traps = (refl, refl, refl, refl);
+}

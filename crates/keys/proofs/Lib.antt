@@ -1,0 +1,15 @@
+pub mod Answers
+pub mod Values
+pub mod Orders
+pub mod Compare
+pub mod Raise
+pub mod Least
+pub mod Raised
+pub mod AboveLaws
+pub mod EntryLaws
+pub mod Fits
+pub mod NextSubspace
+pub mod AreaLaws
+pub mod Behind
+pub mod Examples
+pub mod RangeLaws

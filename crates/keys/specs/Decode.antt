@@ -1,0 +1,134 @@
+-- Reading a path's bytes, and a key's, back: what an encoder writes is taken, all else is refused with 5.
+use Prim.Native.Nat.{ℕ, zero, suc, _+_, _-_, _*_, min}
+use mathlib.Core.Path.{_≡_}
+use mathlib.Core.List.{List, [], _∷_, _++_}
+use mathlib.Core.Bool.{Bool, true, false, cond}
+use lib.ListN.{length, take, drop, replicate}
+use lib.Dec.{eqb}
+use Rattle.laws.specs.Lists.{put}
+use Rattle.keys.specs.Path.{Figures, field, Component, Components, pathOf}
+use Rattle.keys.specs.Subspace.{firstSubspace}
+use Rattle.keys.specs.Encode.{Triple}
+use Rattle.keys.specs.Refusal.{noKey}
+use Rattle.keys.specs.declared.parameters.Subspace.{Subspace}
+use Rattle.keys.specs.declared.decode.Token.{Token}
+use Rattle.keys.specs.declared.decode.Token.the-variants as token
+use Rattle.keys.specs.declared.decode.Part.{Part}
+use Rattle.keys.specs.declared.decode.Part.the-variants as part
+use Rattle.keys.specs.declared.decode.Next.{Next}
+use Rattle.keys.specs.declared.decode.Next.the-variants as next
+use Rattle.keys.specs.declared.decode.ComponentRead.{ComponentRead}
+use Rattle.keys.specs.declared.decode.PathRead.{PathRead}
+use Rattle.keys.specs.declared.decode.Decoded.{Decoded}
+
+-- What stands at the front: 00 00 ends a path, 00 01 a component, 00 02 is the byte 00, any other byte is itself.
+unfoldable pub mark : ℕ → Token
+mark zero = token.PathEnd
+mark (suc zero) = token.ComponentEnd
+mark (suc (suc zero)) = token.Byte 0
+mark (suc (suc (suc m))) = token.Refused noKey
+
+unfoldable pub tokenOf : List ℕ → Token
+tokenOf [] = token.Refused noKey
+tokenOf (suc b ∷ k) = token.Byte (suc b)
+tokenOf (zero ∷ []) = token.Refused noKey
+tokenOf (zero ∷ m ∷ k) = mark m
+
+unfoldable pub endsPath : Token → Bool
+endsPath (token.Byte b) = false
+endsPath token.ComponentEnd = false
+endsPath token.PathEnd = true
+endsPath (token.Refused n) = false
+
+-- What was read and how many bytes it took; or refused.
+pub data Taken (A : Type 0) : Type 0 where
+  refused : Taken A
+  took : A → ℕ → Taken A
+
+-- The same after n bytes more, which f puts before it.
+unfoldable pub more : {A : Type 0} → (A → A) → ℕ → Taken A → Taken A
+more f n refused = refused
+more f n (took a u) = took (f a) (n + u)
+
+unfoldable pub bind : {A B : Type 0} → Taken A → (A → ℕ → Taken B) → Taken B
+bind refused f = refused
+bind (took a u) f = f a u
+
+-- A component of at most lim bytes and its end.
+unfoldable pub readComponent : ℕ → List ℕ → Taken Component
+readComponent lim [] = refused
+readComponent zero (suc b ∷ k) = refused
+readComponent (suc lim) (suc b ∷ k) = more (suc b ∷_) 1 (readComponent lim k)
+readComponent lim (zero ∷ []) = refused
+readComponent lim (zero ∷ zero ∷ k) = refused
+readComponent lim (zero ∷ suc zero ∷ k) = took [] 2
+readComponent zero (zero ∷ suc (suc zero) ∷ k) = refused
+readComponent (suc lim) (zero ∷ suc (suc zero) ∷ k) = more (0 ∷_) 2 (readComponent lim k)
+readComponent lim (zero ∷ suc (suc (suc m)) ∷ k) = refused
+
+-- A path of at most n components of at most mcl bytes each and room bytes in all, and its end.
+unfoldable pub readComponents : ℕ → ℕ → ℕ → List ℕ → Taken Components
+readComponents mcl room zero k = cond (endsPath (tokenOf k)) (took [] 2) refused
+readComponents mcl room (suc n) k =
+    cond (endsPath (tokenOf k)) (took [] 2)
+    (bind (readComponent (min mcl room) k) (λ c u. more (c ∷_) u (readComponents mcl (room - length c) n (drop u k))))
+
+unfoldable pub readPath : Figures → List ℕ → Taken Components
+readPath f k = readComponents (f .mcl) (f .mpl) (f .mcc) k
+
+-- The number of bytes that follow those of n, big-endian.
+unfoldable pub numberFrom : ℕ → List ℕ → ℕ
+numberFrom n [] = n
+numberFrom n (b ∷ bs) = numberFrom (n * 256 + b) bs
+
+-- The number in the first 8 bytes, and the subspace in the first 16.
+unfoldable pub number : List ℕ → ℕ
+number k = numberFrom 0 (take 8 k)
+
+unfoldable pub subspaceAt : List ℕ → Subspace
+subspaceAt k = record { high = number k; low = number (drop 8 k) }
+
+-- A key is taken whole: its path with what stands before and after it are all of its bytes.
+unfoldable pub whole : (before after len : ℕ) → (Components → ℕ → Triple) → Taken Components → Taken Triple
+whole before after len f t = bind t (λ cs u. cond (eqb (before + u + after) len) (took (f cs u) len) refused)
+
+-- The path is read from byte 16 on, the timestamp behind it.
+unfoldable pub readSpt : Figures → List ℕ → Taken Triple
+readSpt f k =
+    whole 16 8 (length k) (λ cs u. record { subspace = subspaceAt k; path = cs; timestamp = number (drop (16 + u) k) })
+    (readPath f (drop 16 k))
+
+-- The timestamp, the subspace from byte 8 on, and the path from byte 24 on.
+unfoldable pub readTsp : Figures → List ℕ → Taken Triple
+readTsp f k =
+    whole 24 0 (length k) (λ cs u. record { subspace = subspaceAt (drop 8 k); path = cs; timestamp = number k })
+    (readPath f (drop 24 k))
+
+-- The answers: 5 and all else 0, or refusal 0 and what was read.
+unfoldable pub decoded : Taken Triple → Decoded
+decoded refused = record { refusal = noKey; subspace = firstSubspace; path = pathOf []; timestamp = 0 }
+decoded (took t u) = record { refusal = 0; subspace = t .subspace; path = pathOf (t .path); timestamp = t .timestamp }
+
+-- A path and the position behind it.
+unfoldable pub pathRead : ℕ → Taken Components → PathRead
+pathRead at refused = record { refusal = noKey; path = pathOf []; next = 0 }
+pathRead at (took cs u) = record { refusal = 0; path = pathOf cs; next = at + u }
+
+-- The next component and the position behind it, or the path's end.
+unfoldable pub nextComponent : ℕ → Taken Component → ComponentRead
+nextComponent at refused = record { next = next.Refused noKey; bytes = replicate (field .mcl) 0 }
+nextComponent at (took c u) = record { next = next.Component (length c) (at + u); bytes = c ++ replicate (field .mcl - length c) 0 }
+
+unfoldable pub componentRead : Figures → ℕ → List ℕ → ComponentRead
+componentRead f at k =
+    cond (endsPath (tokenOf k)) (record { next = next.PathEnd (at + 2); bytes = replicate (field .mcl) 0 })
+    (nextComponent at (readComponent (f .mcl) k))
+
+-- How many elements were read, and how many bytes they took; the buffer is filled with them from the front, if any were.
+unfoldable pub partOf : {A : Type 0} → Taken (List A) → Part
+partOf refused = part.Refused
+partOf (took c u) = part.Took (length c) u
+
+abbrev pub Filled : {A : Type 0} → (A → List ℕ) → Taken A → List ℕ → List ℕ → Type 0
+Filled f refused old new = Unit
+Filled f (took a u) old new = new ≡ put (f a) old

@@ -1,0 +1,12 @@
+pub mod Refusal
+pub mod Path
+pub mod Above
+pub mod Least
+pub mod Subspace
+pub mod Entry
+pub mod Range
+pub mod Range3d
+pub mod Area
+pub mod Encode
+pub mod Decode
+pub mod Examples

@@ -1,0 +1,5 @@
+// Keys, written.
+pub enum Encoded {
+    Written(usize),
+    Refused(u8),
+}

@@ -1,0 +1,5 @@
+pub mod Truth
+pub mod Order
+pub mod Prefix
+pub mod Sorted
+pub mod Lists

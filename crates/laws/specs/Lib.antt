@@ -1,0 +1,4 @@
+pub mod Order
+pub mod Prefix
+pub mod Sorted
+pub mod Lists
