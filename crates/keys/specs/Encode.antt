@@ -45,6 +45,9 @@ pub record Triple : Type 0 where
   pub path : Components
   pub timestamp : ℕ
 
+abbrev pub triple : Subspace → Components → ℕ → Triple
+triple s p t = record { subspace = s; path = p; timestamp = t }
+
 -- Subspace-first: subspace, path, timestamp. Time-first: timestamp, subspace, path.
 unfoldable pub sptKey : Triple → List ℕ
 sptKey t = subspaceKey (t .subspace) ++ (pathKey (t .path) ++ be 8 (t .timestamp))

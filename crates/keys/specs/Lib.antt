@@ -9,4 +9,5 @@ pub mod Range3d
 pub mod Area
 pub mod Encode
 pub mod Decode
+pub mod KeyOrder
 pub mod Examples

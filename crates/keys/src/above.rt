@@ -1,4 +1,5 @@
 // The least legal path above a path that the path does not prefix.
+use crate::path::MCC;
 use crate::path::MCL;
 use crate::path::MPL;
 use crate::path::Path;
@@ -52,8 +53,8 @@ fn front(p: Path, n: usize, e: usize) -> Path
     requires { ⌜ (n ≤ field .mcc) × (e ≤ field .mpl) ⌝ }
     ensures { λ r. ⌜ r ≡ frontOf (take e (p .bytes)) (take n (p .ends)) n ⌝ }
 {
-    let mut bytes = [0u8; 128];
-    let mut ends = [0usize; 8];
+    let mut bytes = [0u8; MPL];
+    let mut ends = [0usize; MCC];
     let old_bytes = p.bytes;
     let old_ends = p.ends;
     copy_bytes(&old_bytes[..e], &mut bytes);

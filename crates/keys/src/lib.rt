@@ -1,5 +1,6 @@
 // The data model and its keys: paths, entries, ranges and areas, and the two keys of an entry with their decoders.
-// Public entries have no `requires`; what only the layers above call, on paths that are legal already, is in `checked`.
+// The public entries have no `requires`. `checked`, `above` and `number` are for the layers above and below these entries: their
+// functions ask what a caller has tested already, as that a path is legal.
 pub mod above;
 pub mod answer;
 pub mod area;
@@ -8,6 +9,7 @@ pub mod checked;
 pub mod decode;
 pub mod encode;
 pub mod entry;
+pub mod number;
 pub mod parameters;
 pub mod path;
 pub mod range;

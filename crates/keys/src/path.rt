@@ -23,8 +23,8 @@ pub const MPL: usize = 128;
 
 // The component ends, of which the first `count` count, cut the bytes; what lies behind is never looked at.
 pub struct Path {
-    pub bytes: [u8; 128],
-    pub ends: [usize; 8],
+    pub bytes: [u8; MPL],
+    pub ends: [usize; MCC],
     pub count: usize,
 }
 
@@ -62,8 +62,8 @@ impl Path {
         ensures { λ r. ⌜ r ≡ pathOf [] ⌝ }
     {
         Path {
-            bytes: [0; 128],
-            ends: [0; 8],
+            bytes: [0; MPL],
+            ends: [0; MCC],
             count: 0,
         }
     }

@@ -1,0 +1,257 @@
+-- Laws of tokens, and of a loop that reads a component: what was read so far, in front of what reading on gives.
+-- Assumes nothing.
+use Prim.Native.Nat.{ℕ, zero, suc, _+_, _-_, _≤_, _<_}
+use mathlib.Core.Path.{_≡_, refl, sym, ap, ap₂, subst, _∙_}
+use mathlib.Core.Bool.{Bool, true, false, _&&_}
+use mathlib.Core.List.{List, [], _∷_, _++_, append-nil}
+use native.Mathlib.Omega.{arith}
+use native.Mathlib.Nat.{zero-add}
+use native.Mathlib.Numerals.{add-one}
+use lib.Dec.{eqb}
+use borrow.Author.Tests.{eq-eqb, ne-eqb}
+use lib.ListN.{length, take, drop, getD, set, length-drop, length-set, take-append-drop, drop-of-length-le}
+use lib.Seq.{take-all, take-suc-set, drop-cons, drop-set-lt, drop-drop, length-take-le, append-snoc}
+use Rattle.laws.specs.Lists.{put}
+use Rattle.laws.specs.Prefix.{sameNumber, sameList}
+use Rattle.laws.proofs.Truth.{clash}
+use Rattle.laws.proofs.Prefix.{number-equality, list-equality}
+use Rattle.keys.specs.Path.{sameComponent}
+use Rattle.keys.specs.Encode.{escaped}
+use Rattle.keys.specs.Decode.{Taken, refused, took, more, mark, tokenOf, readComponent, partOf, Filled}
+use Rattle.keys.specs.Refusal.{noKey}
+use Rattle.keys.specs.declared.decode.Token.{Token}
+use Rattle.keys.specs.declared.decode.Token.the-variants as token
+use Rattle.keys.specs.declared.decode.Part.the-variants as part
+use Rattle.keys.proofs.Encoding.{pair-is}
+
+and-end : (b : Bool) → b ≡ (b && true)
+and-end true = refl
+and-end false = refl
+
+-- Two bytes that are a mark, and two that are not.
+pub mark-is : (b m n : ℕ) → sameComponent (b ∷ m ∷ []) (0 ∷ n ∷ []) ≡ true → m ≡ n
+mark-is b m n e = let q = list-equality sameNumber number-equality .equal (b ∷ m ∷ []) (0 ∷ n ∷ []) e in cc
+
+pub mark-not : (b m n : ℕ) → b ≡ 0 → sameComponent (b ∷ m ∷ []) (0 ∷ n ∷ []) ≡ false → m ≡ n → ⊥
+mark-not b m n z e q = clash {b = sameComponent (b ∷ m ∷ []) (0 ∷ n ∷ [])} (cc (list-equality sameNumber number-equality .self (b ∷ m ∷ []))) e
+
+module _ (a b : List ℕ) (m : length a ≡ 2) (n : length b ≡ 2) where
+  pub marks-same : getD a 0 0 ≡ getD b 0 0 → eqb (getD a 1 0) (getD b 1 0) ≡ sameComponent a b
+  unfolding sameNumber sameList
+  marks-same e = rw (pair-is a m, pair-is b n) (rw (eq-eqb (getD a 0 0) (getD b 0 0) e) (and-end (eqb (getD a 1 0) (getD b 1 0))))
+
+  pub marks-differ : (getD a 0 0 ≡ getD b 0 0 → ⊥) → false ≡ sameComponent a b
+  unfolding sameNumber sameList
+  marks-differ e = rw (pair-is a m, pair-is b n) (rw (ne-eqb (getD a 0 0) (getD b 0 0) e))
+
+-- What stands at a place.
+token-front : (b : ℕ) (k : List ℕ) → (b ≡ 0 → ⊥) → tokenOf (b ∷ k) ≡ token.Byte b
+unfolding tokenOf
+token-front zero k h = absurd (h refl)
+token-front (suc b) k h = refl
+
+module _ (k : List ℕ) (at : ℕ) where
+  pub token-past : length k ≤ at → tokenOf (drop at k) ≡ token.Refused noKey
+  unfolding tokenOf
+  token-past h = rw (drop-of-length-le k h)
+
+  pub token-byte : at < length k → (getD k at 0 ≡ 0 → ⊥) → tokenOf (drop at k) ≡ token.Byte (getD k at 0)
+  token-byte h n = ap tokenOf (drop-cons k at 0 h) ∙ token-front (getD k at 0) (drop (suc at) k) n
+
+  pub token-cut : at + 1 ≡ length k → getD k at 0 ≡ 0 → tokenOf (drop at k) ≡ token.Refused noKey
+  unfolding tokenOf
+  token-cut h e =
+      let z : drop (suc at) k ≡ [] = drop-of-length-le k {i = suc at} (omega arith) in
+      ap tokenOf (drop-cons k at 0 (omega arith) ∙ ap₂ _∷_ e z)
+
+  pub token-mark : at + 1 < length k → getD k at 0 ≡ 0 → tokenOf (drop at k) ≡ mark (getD k (at + 1) 0)
+  unfolding tokenOf
+  token-mark h e =
+      let z : drop (suc at) k ≡ getD k (suc at) 0 ∷ drop (suc (suc at)) k = drop-cons k (suc at) 0 (omega arith) in
+      ap tokenOf (drop-cons k at 0 (omega arith) ∙ ap₂ _∷_ e z) ∙ ap (λ (i : ℕ). mark (getD k i 0)) (sym (add-one at))
+
+pub mark-other : (m : ℕ) → (m ≡ 0 → ⊥) → (m ≡ 1 → ⊥) → (m ≡ 2 → ⊥) → mark m ≡ token.Refused noKey
+unfolding mark
+mark-other zero a b c = absurd (a refl)
+mark-other (suc zero) a b c = absurd (b refl)
+mark-other (suc (suc zero)) a b c = absurd (c refl)
+mark-other (suc (suc (suc m))) a b c = refl
+
+-- What a component's reading does, by the token that it meets.
+abbrev pub stepComponent : ℕ → List ℕ → Token → Taken (List ℕ)
+stepComponent lim k token.ComponentEnd = took [] 2
+stepComponent lim k token.PathEnd = refused
+stepComponent lim k (token.Refused n) = refused
+stepComponent zero k (token.Byte b) = refused
+stepComponent (suc lim) k (token.Byte b) = more (b ∷_) (length (escaped b)) (readComponent lim (drop (length (escaped b)) k))
+
+pub component-step : (lim : ℕ) (k : List ℕ) → readComponent lim k ≡ stepComponent lim k (tokenOf k)
+unfolding tokenOf mark readComponent escaped
+component-step lim [] = refl
+component-step zero (suc b ∷ k) = refl
+component-step (suc lim) (suc b ∷ k) = refl
+component-step lim (zero ∷ []) = refl
+component-step lim (zero ∷ zero ∷ k) = refl
+component-step lim (zero ∷ suc zero ∷ k) = refl
+component-step zero (zero ∷ suc (suc zero) ∷ k) = refl
+component-step (suc lim) (zero ∷ suc (suc zero) ∷ k) = refl
+component-step lim (zero ∷ suc (suc (suc m)) ∷ k) = refl
+
+-- How many bytes a token takes.
+abbrev pub tokenSize : Token → ℕ
+tokenSize (token.Byte b) = length (escaped b)
+tokenSize token.ComponentEnd = 2
+tokenSize token.PathEnd = 2
+tokenSize (token.Refused n) = 0
+
+pub token-fits : (k : List ℕ) → tokenSize (tokenOf k) ≤ length k
+unfolding tokenOf mark escaped
+token-fits [] = omega arith
+token-fits (suc b ∷ k) = omega arith
+token-fits (zero ∷ []) = omega arith
+token-fits (zero ∷ zero ∷ k) = omega arith
+token-fits (zero ∷ suc zero ∷ k) = omega arith
+token-fits (zero ∷ suc (suc zero) ∷ k) = omega arith
+token-fits (zero ∷ suc (suc (suc m)) ∷ k) = omega arith
+
+pub token-within : (k : List ℕ) (at : ℕ) (t : Token) → at ≤ length k → tokenOf (drop at k) ≡ t → at + tokenSize t ≤ length k
+token-within k at t h e = omega (arith, subst (λ (x : Token). tokenSize x ≤ length (drop at k)) e (token-fits (drop at k)), length-drop at k)
+
+-- The part of a slice from a place on.
+pub rest : (k : List ℕ) (at : ℕ) → take (length k - at) (drop at k) ≡ drop at k
+rest k at = take-all (length k - at) (drop at k) (simp length-drop (omega arith))
+
+module _ {A : Type 0} where
+  pub more-id : (f : A → A) → ((x : A) → f x ≡ x) → (t : Taken A) → more f 0 t ≡ t
+  unfolding more
+  more-id f h refused = refl
+  more-id f h (took a u) = rw (h a, zero-add)
+
+  pub more-more : (f g : A → A) (n m : ℕ) (t : Taken A) → more f n (more g m t) ≡ more (λ (x : A). f (g x)) (n + m) t
+  unfolding more
+  more-more f g n m refused = refl
+  more-more f g n m (took a u) = ap (took (f (g a))) (omega arith)
+
+  pub more-same : (f g : A → A) (n : ℕ) → ((x : A) → f x ≡ g x) → (t : Taken A) → more f n t ≡ more g n t
+  unfolding more
+  more-same f g n h refused = refl
+  more-same f g n h (took a u) = rw (h a)
+
+-- A loop that reads a component: what was read so far, in front of what reading on from `at` gives.
+pub record Reading (lim : ℕ) (k old bytes : List ℕ) (at n : ℕ) : Type 0 where
+  pub within : at ≤ length k
+  pub below : n ≤ lim
+  pub size : length bytes ≡ length old
+  pub kept : drop n bytes ≡ drop n old
+  pub so-far : readComponent lim k ≡ more (take n bytes ++_) at (readComponent (lim - n) (drop at k))
+
+pub reading-none : (lim : ℕ) (k old : List ℕ) → Reading lim k old old 0 0
+reading-none lim k old = record {
+  within = omega arith;
+  below = omega arith;
+  size = refl;
+  kept = refl;
+  so-far = sym (more-id (take 0 old ++_) (λ x. refl) (readComponent (lim - 0) k) ∙ ap (λ (l : ℕ). readComponent l k) (omega arith));
+}
+
+module _ (lim : ℕ) (k old bytes : List ℕ) (at n : ℕ) (h : Reading lim k old bytes at n) where
+  pub reading-none-left : length k ≤ at → readComponent lim k ≡ refused
+  unfolding readComponent more
+  reading-none-left g = h .so-far ∙ ap (λ (x : List ℕ). more (take n bytes ++_) at (readComponent (lim - n) x)) (drop-of-length-le k g)
+
+  -- The token at the place settles how reading goes on.
+  pub reading-token : (t : Token) → tokenOf (drop at k) ≡ t → readComponent lim k ≡ more (take n bytes ++_) at (stepComponent (lim - n) (drop at k) t)
+  reading-token t e = h .so-far ∙ ap (more (take n bytes ++_) at) (component-step (lim - n) (drop at k) ∙ ap (stepComponent (lim - n) (drop at k)) e)
+
+  pub reading-full : (b : ℕ) → tokenOf (drop at k) ≡ token.Byte b → lim ≤ n → readComponent lim k ≡ refused
+  unfolding more
+  reading-full b e g =
+      let z : lim - n ≡ 0 = omega arith in
+      reading-token (token.Byte b) e ∙ ap (λ (l : ℕ). more (take n bytes ++_) at (stepComponent l (drop at k) (token.Byte b))) z
+
+  pub reading-ends : tokenOf (drop at k) ≡ token.ComponentEnd → readComponent lim k ≡ took (take n bytes) (at + 2)
+  unfolding more
+  reading-ends e = reading-token token.ComponentEnd e ∙ ap (λ (c : List ℕ). took c (at + 2)) (append-nil (take n bytes))
+
+  pub reading-put : n ≤ length bytes → bytes ≡ put (take n bytes) old
+  unfolding put
+  reading-put g =
+      sym (take-append-drop n bytes)
+      ∙ ap (take n bytes ++_) (h .kept ∙ ap (λ (m : ℕ). drop m old) (sym (length-take-le n bytes g)))
+
+  pub reading-more : (b w : ℕ) → tokenOf (drop at k) ≡ token.Byte b → w ≡ length (escaped b) → n < lim → n < length bytes
+      → Reading lim k old (set bytes n b) (at + w) (n + 1)
+  reading-more b w e v l r = record {
+    within = omega (arith, token-within k at (token.Byte b) (h .within) e);
+    below = omega arith;
+    size = length-set bytes n b ∙ h .size;
+    kept =
+        drop-set-lt (n + 1) bytes n b (omega arith)
+        ∙ sym (drop-drop 1 n bytes)
+        ∙ ap (drop 1) (h .kept)
+        ∙ drop-drop 1 n old;
+    so-far =
+        reading-token (token.Byte b) e
+        ∙ ap (λ (m : ℕ). more (take n bytes ++_) at (stepComponent m (drop at k) (token.Byte b))) left
+        ∙ more-more (take n bytes ++_) (b ∷_) at (length (escaped b)) (readComponent (lim - (n + 1)) (drop (length (escaped b)) (drop at k)))
+        ∙ more-same (λ (x : List ℕ). take n bytes ++ b ∷ x) (take (n + 1) (set bytes n b) ++_) (at + length (escaped b)) same
+        (readComponent (lim - (n + 1)) (drop (length (escaped b)) (drop at k)))
+        ∙ rw (drop-drop, v);
+  }
+    where
+      left : lim - n ≡ suc (lim - (n + 1))
+      left = omega arith
+
+      same : (x : List ℕ) → take n bytes ++ b ∷ x ≡ take (n + 1) (set bytes n b) ++ x
+      same x = rw (add-one, take-suc-set bytes n b r) (sym (append-snoc (take n bytes) b x))
+
+pub part-refused : (t : Taken (List ℕ)) (old new : List ℕ) → t ≡ refused → (part.Refused ≡ partOf t) × Filled (λ c. c) t old new
+unfolding partOf
+part-refused t old new e = subst (λ (t : Taken (List ℕ)). (part.Refused ≡ partOf t) × Filled (λ c. c) t old new) (sym e) (refl, tt)
+
+pub part-took : (t : Taken (List ℕ)) (old new c : List ℕ) (n u : ℕ) → t ≡ took c u → n ≡ length c → new ≡ put c old → (part.Took n u ≡ partOf t) × Filled (λ c. c) t old new
+unfolding partOf
+part-took t old new c n u e l p =
+    subst (λ (t : Taken (List ℕ)). (part.Took n u ≡ partOf t) × Filled (λ c. c) t old new) (sym e) (ap (λ (m : ℕ). part.Took m u) l, p)
+
+-- What a component takes is within the bytes, and within its limit.
+abbrev pub Fit : ℕ → ℕ → Taken (List ℕ) → Type 0
+Fit lim len refused = Unit
+Fit lim len (took c u) = (u ≤ len) × (length c ≤ lim)
+
+fit-more : (lim len n b : ℕ) (t : Taken (List ℕ)) → Fit lim len t → Fit (suc lim) (n + len) (more (b ∷_) n t)
+unfolding more
+fit-more lim len n b refused h = tt
+fit-more lim len n b (took c u) h = (omega arith, omega arith)
+
+pub component-fit : (lim : ℕ) (k : List ℕ) → Fit lim (length k) (readComponent lim k)
+unfolding readComponent
+component-fit lim [] = tt
+component-fit zero (suc b ∷ k) = tt
+component-fit (suc lim) (suc b ∷ k) = subst (λ (n : ℕ). Fit (suc lim) n (more (suc b ∷_) 1 (readComponent lim k))) (omega arith) (fit-more lim (length k) 1 (suc b) (readComponent lim k) (component-fit lim k))
+component-fit lim (zero ∷ []) = tt
+component-fit lim (zero ∷ zero ∷ k) = tt
+component-fit lim (zero ∷ suc zero ∷ k) = (omega arith, omega arith)
+component-fit zero (zero ∷ suc (suc zero) ∷ k) = tt
+component-fit (suc lim) (zero ∷ suc (suc zero) ∷ k) = subst (λ (n : ℕ). Fit (suc lim) n (more (0 ∷_) 2 (readComponent lim k))) (omega arith) (fit-more lim (length k) 2 0 (readComponent lim k) (component-fit lim k))
+component-fit lim (zero ∷ suc (suc (suc m)) ∷ k) = tt
+
+pub component-fits : (lim : ℕ) (k c : List ℕ) (u : ℕ) → readComponent lim k ≡ took c u → (u ≤ length k) × (length c ≤ lim)
+component-fits lim k c u e = subst (Fit lim (length k)) e (component-fit lim k)
+
+-- What a call answered and wrote, taken apart.
+pub record TookIt (t : Taken (List ℕ)) (old new : List ℕ) (n u : ℕ) : Type 0 where
+  pub c : List ℕ
+  pub is : t ≡ took c u
+  pub long : n ≡ length c
+  pub new-is : new ≡ put c old
+
+pub took-it : (t : Taken (List ℕ)) (old new : List ℕ) (n u : ℕ) → part.Took n u ≡ partOf t → Filled (λ c. c) t old new → TookIt t old new n u
+unfolding partOf
+took-it refused old new n u e f = absurd (let z : _≡_ {A = ℕ} 0 1 = cc in omega arith)
+took-it (took c v) old new n u e f = record { c = c; is = cc; long = cc; new-is = f }
+
+pub refused-it : (t : Taken (List ℕ)) → part.Refused ≡ partOf t → t ≡ refused
+unfolding partOf
+refused-it refused e = refl
+refused-it (took c u) e = absurd (let z : _≡_ {A = ℕ} 0 1 = cc in omega arith)

@@ -1,0 +1,45 @@
+// Numbers as 8 bytes, big-endian, at the front of a slice: for the encoders and decoders here, and for the layers above.
+ghost use mathlib.Core.Path.{_≡_};
+ghost use Prim.Native.Nat.{_≤_, _<_};
+ghost use lib.ListN.{length};
+ghost use Rattle.laws.specs.Lists.{put};
+ghost use Rattle.keys.specs.Encode.{be};
+ghost use Rattle.keys.specs.Decode.{number};
+
+pub fn write_u64(x: u64, out: &mut [u8]) -> usize
+    requires { ⌜ 8 ≤ length (now out) ⌝ }
+    ensures { λ r. ⌜ (r ≡ 8) × (now (out .exit) ≡ put (be 8 x) (now (out .entry))) ⌝ }
+{
+    out[0] = (x / 0x100_0000_0000_0000 % 256) as u8;
+    out[1] = (x / 0x1_0000_0000_0000 % 256) as u8;
+    out[2] = (x / 0x100_0000_0000 % 256) as u8;
+    out[3] = (x / 0x1_0000_0000 % 256) as u8;
+    out[4] = (x / 0x100_0000 % 256) as u8;
+    out[5] = (x / 0x1_0000 % 256) as u8;
+    out[6] = (x / 0x100 % 256) as u8;
+    out[7] = (x % 256) as u8;
+    8
+}
+
+fn wide(b: u8) -> u64
+    ensures { λ r. ⌜ (r ≡ b) × (r < 256) ⌝ }
+{
+    b as u64
+}
+
+pub fn read_u64(k: &[u8]) -> u64
+    requires { ⌜ 8 ≤ length (now k) ⌝ }
+    ensures { λ r. ⌜ r ≡ number (now (k .entry)) ⌝ }
+{
+    let b0 = wide(k[0]);
+    let b1 = wide(k[1]);
+    let b2 = wide(k[2]);
+    let b3 = wide(k[3]);
+    let b4 = wide(k[4]);
+    let b5 = wide(k[5]);
+    let b6 = wide(k[6]);
+    let b7 = wide(k[7]);
+    let h = ((b0 * 256 + b1) * 256 + b2) * 256 + b3;
+    let l = ((b4 * 256 + b5) * 256 + b6) * 256 + b7;
+    h * 0x1_0000_0000 + l
+}
