@@ -1,25 +1,27 @@
 -- An area includes what its 3d range includes.
 -- Assumes nothing.
-use Prim.Native.Nat.{ℕ}
+use Prim.Native.Nat.{ℕ, _≤_}
 use mathlib.Core.Path.{_≡_, sym, ap₂, _∙_}
 use mathlib.Core.Option.{Option, some, none}
 use mathlib.Core.Bool.{Bool, true, _&&_}
 use native.Mathlib.Omega.{arith}
+use lib.ListN.{length}
 use Rattle.laws.specs.Order.{isLess}
 use Rattle.laws.proofs.Truth.{refute}
 use Rattle.laws.proofs.Order.{is-less}
-use Rattle.keys.specs.Path.{Figures, Components, components, isPath, byComponents}
+use Rattle.keys.specs.Path.{Figures, Components, components, legal, isPath, byComponents}
 use Rattle.keys.specs.Above.{above}
 use Rattle.keys.specs.Least.{endOf}
 use Rattle.keys.specs.Subspace.{firstSubspace, bySubspace}
 use Rattle.keys.specs.Range.{includes, beforeEnd, subspacesEnd, pathsEnd, subspacesInclude, pathsInclude, timesInclude}
 use Rattle.keys.specs.Range3d.{rangeIncludes}
 use Rattle.keys.specs.Area.{areaSubspace, areaIncludes, subspacesOf, pathsUpTo, areaRange}
+use Rattle.keys.specs.declared.path.Path.{Path}
 use Rattle.keys.specs.declared.parameters.Subspace.{Subspace}
 use Rattle.keys.specs.declared.area.AreaSubspace.{AreaSubspace}
 use Rattle.keys.specs.declared.area.AreaSubspace.the-variants.{Any, Id}
 use Rattle.keys.specs.declared.area.Area.{Area}
-use Rattle.keys.proofs.Fits.{components-of}
+use Rattle.keys.proofs.Fits.{Bytes, components-of, legal-fits}
 use Rattle.keys.proofs.AboveLaws.{above-splits}
 use Rattle.keys.proofs.NextSubspace.{Words, less-cases, next-splits}
 
@@ -49,3 +51,10 @@ area-range f a s p t h k v w =
     ap₂ (λ (x y : Bool). x && (y && timesInclude (a .times) t))
     (area-subspaces (a .subspace) s v w)
     (above-splits f cs p k h ∙ sym (paths-up-to cs (above f cs) p))
+
+-- The same for the values that the calls are handed.
+pub area-range-values : (f : Figures) (a : Area) (s : Subspace) (p : Path) (t : ℕ)
+    → f .mpl ≤ length (a .path .bytes) → f .mpl ≤ length (p .bytes) → Bytes (a .path .bytes) → Bytes (p .bytes) → AreaWords (a .subspace) → Words s
+    → legal f (a .path) ≡ true → legal f p ≡ true
+    → areaIncludes a s (components p) t ≡ rangeIncludes (areaRange f a) s (components p) t
+area-range-values f a s p t m n b c v w h k = area-range f a s (components p) t (legal-fits f (a .path) m b h) (legal-fits f p n c k) v w

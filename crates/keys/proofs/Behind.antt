@@ -10,15 +10,11 @@ use lib.ListN.{take, drop}
 use lib.Seq.{take-take}
 use borrow.Author.Tests.{leb-true}
 use Rattle.laws.proofs.Truth.{and-true}
-use Rattle.keys.specs.Path.{Figures, cut, components, legalEnds, legal}
+use Rattle.keys.specs.Path.{Figures, cut, components, legalEnds, legal, lastEnd}
 use Rattle.keys.specs.declared.path.Path.{Path}
-use Rattle.keys.proofs.Values.{legal-these}
+use Rattle.keys.proofs.Values.{legal-these, last-within}
 
 -- The last end that counts, and 0 if none does.
-unfoldable pub lastEnd : ℕ → List ℕ → ℕ
-lastEnd from [] = from
-lastEnd from (e ∷ es) = lastEnd e es
-
 abbrev pub total : Path → ℕ
 total p = lastEnd 0 (take (p .count) (p .ends))
 
@@ -34,13 +30,6 @@ take-drop-take m (suc i) (suc n) [] h = refl
 take-drop-take m (suc i) (suc n) (x ∷ l) h = take-drop-take m i n l (omega arith)
 
 module _ (mcl mpl : ℕ) where
-  pub ends-total : (from : ℕ) (es : List ℕ) → legalEnds mcl mpl from es ≡ true → from ≤ lastEnd from es
-  unfolding legalEnds lastEnd
-  ends-total from [] h = omega arith
-  ends-total from (e ∷ es) h =
-      let a = and-true (leb from e) (leb (e - from) mcl && legalEnds mcl mpl e es) h in
-      omega (arith, leb-true from e (a .0), ends-total e es (and-true (leb (e - from) mcl) (legalEnds mcl mpl e es) (a .1) .1))
-
   -- Legal ends cut no byte from the total on.
   cut-take : (bytes : List ℕ) (n from : ℕ) (es : List ℕ) → legalEnds mcl mpl from es ≡ true → lastEnd from es ≤ n → cut (take n bytes) from es ≡ cut bytes from es
   unfolding legalEnds lastEnd cut
@@ -49,7 +38,7 @@ module _ (mcl mpl : ℕ) where
       let a = and-true (leb from e) (leb (e - from) mcl && legalEnds mcl mpl e es) h in
       let b = and-true (leb (e - from) mcl) (legalEnds mcl mpl e es) (a .1) in
       let up : from ≤ e = leb-true from e (a .0) in
-      let low : e ≤ lastEnd e es = ends-total e es (b .1) in
+      let low : e ≤ lastEnd e es = last-within mcl mpl e es (b .1) .0 in
       ap₂ _∷_ (take-drop-take (e - from) from n bytes (omega arith)) (cut-take bytes n e es (b .1) l)
 
 module _ (f : Figures) (p q : Path) (h : Alike p q) where

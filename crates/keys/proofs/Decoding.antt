@@ -8,6 +8,7 @@ use native.Mathlib.Omega.{arith}
 use lib.Dec.{eqb}
 use lib.ListN.{length, drop, getD, replicate}
 use borrow.Author.Tests.{eq-eqb, ne-eqb, eqb-true}
+use Rattle.laws.proofs.Lists.{put-zeros}
 use Rattle.laws.specs.Lists.{put}
 use Rattle.keys.specs.Path.{Figures, field, Component, Components, joined, endsFrom, pathOf}
 use Rattle.keys.specs.Encode.{Triple}
@@ -20,16 +21,6 @@ use Rattle.keys.specs.declared.decode.PathRead.{PathRead}
 use Rattle.keys.specs.declared.decode.Decoded.{Decoded}
 use Rattle.keys.proofs.Values.{ends-length}
 use Rattle.keys.proofs.Walking.{PathFit, path-fit, path-empty}
-
--- A buffer of zeros, written from the front.
-drop-zeros : (m n : ℕ) → drop {A = ℕ} m (replicate n 0) ≡ replicate (n - m) 0
-drop-zeros zero n = let e : n ≡ n - 0 = omega arith in ap (λ (k : ℕ). replicate {A = ℕ} k 0) e
-drop-zeros (suc m) zero = let e : 0 ≡ 0 - suc m = omega arith in ap (λ (k : ℕ). replicate {A = ℕ} k 0) e
-drop-zeros (suc m) (suc n) = let e : n - m ≡ suc n - suc m = omega arith in drop-zeros m n ∙ ap (λ (k : ℕ). replicate {A = ℕ} k 0) e
-
-put-zeros : (xs : List ℕ) (n : ℕ) → put xs (replicate n 0) ≡ xs ++ replicate (n - length xs) 0
-unfolding put
-put-zeros xs n = ap (xs ++_) (drop-zeros (length xs) n)
 
 -- The next component: the path's end, a component, or neither.
 next-took : (at : ℕ) (t : Taken Component) (n u : ℕ) (bytes : List ℕ) → part.Took n u ≡ partOf t → Filled (λ c. c) t (replicate (field .mcl) 0) bytes

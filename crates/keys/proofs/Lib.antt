@@ -14,6 +14,7 @@ pub mod BigEndian
 pub mod Inverse
 pub mod Ordered
 pub mod KeyLength
+pub mod Extensions
 pub mod Least
 pub mod Raised
 pub mod AboveLaws

@@ -18,7 +18,7 @@ use Rattle.keys.specs.Path.{Figures, field, Component, Components, cut, 
 use Rattle.keys.specs.Above.{orElse, raisedByte, raisedBytes, raised, aboveIn, above, raisedAt, aboveFound}
 use Rattle.keys.specs.declared.path.Path.{Path}
 use Rattle.keys.specs.declared.above.Above.{Above}
-use Rattle.keys.proofs.Values.{ends-top, ends-fewer, legal-these, legal-count, legal-within, cut-take, joined-more, ends-more, ends-length, length-piece, cut-length}
+use Rattle.keys.proofs.Values.{last-within, ends-top, ends-fewer, legal-these, legal-count, legal-within, cut-take, joined-more, ends-more, ends-length, length-piece, cut-length}
 
 -- The last of the first ends.
 pub last-none : (from : ℕ) (es : List ℕ) → lastEnd from (take 0 es) ≡ from
@@ -30,15 +30,6 @@ unfolding lastEnd
 last-some from i [] h = absurd (omega arith)
 last-some from zero (e ∷ es) h = refl
 last-some from (suc i) (e ∷ es) h = let k : suc i + 1 ≡ suc (i + 1) = omega arith in rw k (last-some e i es (omega arith))
-
-pub last-within : (mcl mpl from : ℕ) (es : List ℕ) → legalEnds mcl mpl from es ≡ true → (from ≤ lastEnd from es) × (lastEnd from es ≤ mpl)
-unfolding legalEnds lastEnd
-last-within mcl mpl from [] h = (omega arith, leb-true from mpl h)
-last-within mcl mpl from (e ∷ es) h =
-    let a = and-true (leb from e) (leb (e - from) mcl && legalEnds mcl mpl e es) h in
-    let b = and-true (leb (e - from) mcl) (legalEnds mcl mpl e es) (a .1) in
-    let r = last-within mcl mpl e es (b .1) in
-    (omega (arith, leb-true from e (a .0), r .0), r .1)
 
 -- Legal ends cut the bytes up to the last of them, and the pieces end there.
 pub cut-joins : (bytes : List ℕ) (mcl from : ℕ) (es : List ℕ) → legalEnds mcl (length bytes) from es ≡ true → take from bytes ++ joined (cut bytes from es) ≡ take (lastEnd from es) bytes

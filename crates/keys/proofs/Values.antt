@@ -12,7 +12,7 @@ use lib.ListN.{length, take, drop, getD, replicate, drop-of-length-le, length-ap
 use lib.Seq.{drop-cons, length-take-le, take-at, drop-at, take-take}
 use Rattle.laws.specs.Lists.{piece}
 use Rattle.laws.proofs.Truth.{and-true}
-use Rattle.keys.specs.Path.{Figures, field, Components, cut, components, joined, endsFrom, legalEnds, legal, pathOf}
+use Rattle.keys.specs.Path.{Figures, field, Components, cut, components, joined, endsFrom, legalEnds, legal, pathOf, lastEnd}
 use Rattle.keys.specs.declared.path.Path.{Path}
 
 -- Of ends read one by one: what the end at i says of those from i on.
@@ -141,3 +141,13 @@ ends-fewer mcl mpl from (suc n) (e ∷ es) h =
 
 pub ends-take : (mcl mpl from m n : ℕ) (es : List ℕ) → m ≤ n → legalEnds mcl mpl from (take n es) ≡ true → legalEnds mcl mpl from (take m es) ≡ true
 ends-take mcl mpl from m n es l h = rw (take-take m n es l) at (ends-fewer mcl mpl from m (take n es) h)
+
+-- The last of legal ends is neither below where they begin nor above the total.
+pub last-within : (mcl mpl from : ℕ) (es : List ℕ) → legalEnds mcl mpl from es ≡ true → (from ≤ lastEnd from es) × (lastEnd from es ≤ mpl)
+unfolding legalEnds lastEnd
+last-within mcl mpl from [] h = (omega arith, leb-true from mpl h)
+last-within mcl mpl from (e ∷ es) h =
+    let a = and-true (leb from e) (leb (e - from) mcl && legalEnds mcl mpl e es) h in
+    let b = and-true (leb (e - from) mcl) (legalEnds mcl mpl e es) (a .1) in
+    let r = last-within mcl mpl e es (b .1) in
+    (omega (arith, leb-true from e (a .0), r .0), r .1)

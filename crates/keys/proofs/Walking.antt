@@ -11,7 +11,7 @@ use lib.ListN.{length, drop, set, length-append, length-drop, length-set}
 use lib.Seq.{drop-cons, set-append-seam, drop-drop}
 use borrow.Rule.Slice.PartMut.{putMid, midOf}
 use Rattle.laws.specs.Lists.{put}
-use Rattle.laws.proofs.Lists.{length-put, wrote-first, wrote-last}
+use Rattle.laws.proofs.Lists.{put-snoc, length-put, wrote-first, wrote-last}
 use Rattle.keys.specs.Path.{joined, endsFrom}
 use Rattle.keys.specs.Decode.{Taken, refused, took, more, bind, tokenOf, endsPath, readComponent, readComponents, partOf, Filled}
 use Rattle.keys.specs.declared.decode.Token.{Token}
@@ -19,12 +19,6 @@ use Rattle.keys.specs.declared.decode.Token.the-variants as token
 use Rattle.keys.specs.declared.decode.Part.the-variants as part
 use Rattle.keys.proofs.Values.{joined-more, ends-more, ends-length}
 use Rattle.keys.proofs.Reading.{Fit, component-fit, component-fits, TookIt, tokenSize, token-within, more-id, more-more, more-same}
-
--- A store right after what was put at the front.
-pub put-snoc : (xs old : List ℕ) (n v : ℕ) → n ≡ length xs → n < length old → set (put xs old) n v ≡ put (xs ++ v ∷ []) old
-unfolding put
-put-snoc xs old n v e h =
-    rw (e, drop-cons old (length xs) 0 (rw (← e) h), set-append-seam, append-assoc, length-append, add-one)
 
 -- A loop that reads components: those read so far, in front of what reading on from `at` gives.
 pub record Walking (mcl : ℕ) (k old-bytes old-ends bytes ends : List ℕ) (at total n : ℕ) : Type 0 where

@@ -5,8 +5,8 @@ use native.Mathlib.Omega.{arith}
 use lib.ListN.{length, take, drop, getD, length-take}
 use lib.Seq.{length-take-le}
 use Rattle.keys.specs.Path.{field, frontOf}
-use Rattle.keys.proofs.Values.{legal-count, legal-these}
-use Rattle.keys.proofs.Raise.{last-within, canonical-value}
+use Rattle.keys.proofs.Values.{legal-count, legal-these, last-within}
+use Rattle.keys.proofs.Raise.{canonical-value}
 use borrow.Author.Needs.{needs}
 use Rattle.keys.proofs.above.canonical.Statement.{statement}
 use Rattle.keys.proofs.above.canonical.Tie as tie
