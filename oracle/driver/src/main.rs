@@ -1,0 +1,139 @@
+//! oracle calls [hall]       the call language (README.md) from standard input, answered by the Rust
+//! oracle list               document 01's listing program, likewise
+//! oracle model [hall]       the call language, answered by the model of document 01 (model.rs); not the Rust
+//! oracle list model         the listing program over the model; not the Rust
+//! oracle like [hall]        the calls themselves, without those that the Rust answers `unlike` (for vectors/)
+//! oracle gen SEED N KIND    N random calls; KIND: in, shared, hall, wide, calls, keys, raw
+//! oracle bench              the Rust's speed
+//! oracle exhaust            all short sequences of a small set of ingests, the Rust beside the model
+//! oracle paths              successor and greater_but_not_prefixed against a walk over all short paths
+mod bench;
+mod call;
+mod convert;
+mod extras;
+mod gen;
+mod gen_keys;
+mod gen_values;
+mod model;
+mod model_keys;
+mod oracle;
+mod params;
+mod probe;
+mod rng;
+mod show;
+mod walks;
+use call::*;
+use model_keys::{FIELD, HALL};
+use std::cell::RefCell;
+use std::io::{Read, Write};
+
+thread_local! { static PANIC: RefCell<String> = const { RefCell::new(String::new()) }; }
+/// Panics of the Rust are answers here: their message is kept and not printed.
+pub fn quiet() {
+    static ONCE: std::sync::Once = std::sync::Once::new();
+    ONCE.call_once(|| {
+        std::panic::set_hook(Box::new(|i| {
+            let m = i.payload_as_str().unwrap_or("?").replace('\n', " ");
+            PANIC.with(|p| *p.borrow_mut() = m);
+        }))
+    });
+}
+pub fn last_panic() -> String {
+    PANIC.with(|p| p.take())
+}
+
+/// A line ends at a newline; the last may lack one.
+fn lines(input: &[u8]) -> Vec<&[u8]> {
+    let mut l: Vec<&[u8]> = input.split(|b| *b == b'\n').collect();
+    if l.last() == Some(&&[][..]) {
+        l.pop();
+    }
+    l
+}
+
+fn list(input: &[u8], out: &mut impl Write, mut exec: impl FnMut(&Call) -> String) {
+    for line in lines(input) {
+        // Here S and D have two digits, always.
+        let short = |l: &&str| {
+            let f: Vec<&str> = l.split(' ').collect();
+            f.len() == 6 && f[0] == "in" && f[1].len() == 2 && f[5].len() == 2
+        };
+        let answer = match std::str::from_utf8(line).ok().filter(short).and_then(call) {
+            Some(c) => exec(&c),
+            None => "bad".into(),
+        };
+        let word = answer.split(' ').next().unwrap();
+        let shown = if word == "ok" || word == "obsolete" { word } else { &answer };
+        writeln!(out, "{shown}").unwrap();
+    }
+}
+
+fn at_end(all: Vec<Ent>, out: &mut impl Write) {
+    writeln!(out, "list {}", all.len()).unwrap();
+    for e in all {
+        writeln!(out, "{}", e.short()).unwrap();
+    }
+}
+
+/// The answers; or, for `like`, the calls themselves without those answered `unlike`.
+fn calls(input: &[u8], like: bool, out: &mut impl Write, mut exec: impl FnMut(&Call) -> String) {
+    for line in lines(input) {
+        if line.is_empty() || line.starts_with(b"#") {
+            continue;
+        }
+        let answer = std::str::from_utf8(line).ok().and_then(call).map_or("bad".into(), |c| exec(&c));
+        if !like {
+            writeln!(out, "{answer}").unwrap();
+        } else if answer != "unlike" {
+            out.write_all(&[line, b"\n"].concat()).unwrap();
+        }
+    }
+}
+
+fn usage() -> ! {
+    eprintln!("oracle calls [hall] | like [hall] | list [model] | model [hall] | gen SEED N KIND | bench | exhaust | paths");
+    std::process::exit(2)
+}
+
+fn main() {
+    let args: Vec<String> = std::env::args().skip(1).collect();
+    let args: Vec<&str> = args.iter().map(|a| a.as_str()).collect();
+    let mut out = std::io::BufWriter::new(std::io::stdout().lock());
+    let mut input = Vec::new();
+    if matches!(args.first(), Some(&"list" | &"calls" | &"model" | &"like")) {
+        std::io::stdin().read_to_end(&mut input).unwrap();
+    }
+    match args[..] {
+        ["calls" | "like"] => {
+            let mut o = oracle::Oracle::<64, 8, 128>::open(Default::default(), None);
+            calls(&input, args[0] == "like", &mut out, |c| o.exec(c))
+        }
+        ["calls" | "like", "hall"] => {
+            let mut o = oracle::Oracle::<16, 4, 32>::open(Default::default(), None);
+            calls(&input, args[0] == "like", &mut out, |c| o.exec(c))
+        }
+        ["list"] => {
+            let mut o = oracle::Oracle::<64, 8, 128>::open(Default::default(), Some(64));
+            list(&input, &mut out, |c| o.exec(c));
+            at_end(o.list(), &mut out)
+        }
+        ["model"] | ["model", "hall"] => {
+            let bounds = if args.len() == 2 { HALL } else { FIELD };
+            let mut m = model::Model::open(Default::default(), None, bounds);
+            calls(&input, false, &mut out, |c| m.exec(c))
+        }
+        ["list", "model"] => {
+            let mut m = model::Model::open(Default::default(), Some(64), FIELD);
+            list(&input, &mut out, |c| m.exec(c));
+            at_end(m.all(), &mut out)
+        }
+        ["gen", seed, n, kind] => match (seed.parse(), n.parse()) {
+            (Ok(seed), Ok(n)) if gen::KINDS.contains(&kind) => gen::write(seed, n, kind, &mut out),
+            _ => usage(),
+        },
+        ["bench"] => bench::run(),
+        ["paths"] => walks::paths(),
+        ["exhaust"] => walks::exhaust(),
+        _ => usage(),
+    }
+}
