@@ -3,14 +3,14 @@
 use Prim.Native.Nat.{ℕ, zero, suc, _+_, _-_, _≤_}
 use mathlib.Core.Path.{_≡_, refl, sym, ap, ap₂, _∙_}
 use mathlib.Core.List.{List, [], _∷_}
-use mathlib.Core.Bool.{true, _&&_}
+use mathlib.Core.Bool.{Bool, true, false, cond, _&&_}
 use native.Mathlib.Omega.{arith}
 use lib.Dec.{leb}
 use lib.ListN.{take, drop}
 use lib.Seq.{take-take}
 use borrow.Author.Tests.{leb-true}
-use Rattle.laws.proofs.Truth.{and-true}
-use Rattle.keys.specs.Path.{Figures, cut, components, legalEnds, legal, lastEnd}
+use Rattle.laws.proofs.Truth.{split, and-true}
+use Rattle.keys.specs.Path.{Figures, Components, cut, components, legalEnds, legal, lastEnd}
 use Rattle.keys.specs.declared.path.Path.{Path}
 use Rattle.keys.proofs.Values.{legal-these, last-within}
 
@@ -55,3 +55,9 @@ module _ (f : Figures) (p q : Path) (h : Alike p q) where
       ∙ ap (λ (x : List ℕ). cut x 0 es) (h .bytes)
       ∙ cut-take (f .mcl) (f .mpl) (q .bytes) (total p) 0 es k (omega arith)
       ∙ ap (cut (q .bytes) 0) (h .ends)
+
+  -- So whatever is answered of a legal path's components, and of an illegal path, is the same of both.
+  pub behind-answers : {A : Type 0} (given : Components → A) (other : A) → cond (legal f p) (given (components p)) other ≡ cond (legal f q) (given (components q)) other
+  behind-answers given other = split (legal f p)
+      (λ l. rw (l, sym behind-legal ∙ l) (ap given (behind-components l)))
+      (λ l. rw (l, sym behind-legal ∙ l))

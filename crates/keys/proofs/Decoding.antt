@@ -10,7 +10,7 @@ use lib.ListN.{length, drop, getD, replicate}
 use borrow.Author.Tests.{eq-eqb, ne-eqb, eqb-true}
 use Rattle.laws.proofs.Lists.{put-zeros}
 use Rattle.laws.specs.Lists.{put}
-use Rattle.keys.specs.Path.{Figures, field, Component, Components, joined, endsFrom, pathOf}
+use Rattle.keys.specs.Path.{Figures, field, Component, Components, joined, endsFrom, valueOf, pathOf}
 use Rattle.keys.specs.Encode.{Triple}
 use Rattle.keys.specs.Decode.{Taken, refused, took, bind, tokenOf, endsPath, readComponent, readPath, partOf, Filled, nextComponent, componentRead, pathRead, numberFrom, number, whole, decoded}
 use Rattle.keys.specs.declared.path.Path.{Path}
@@ -58,14 +58,13 @@ module _ (at : ℕ) where
   pub path-took : (t : Taken Components) (n u : ℕ) (bytes ends : List ℕ) → part.Took n u ≡ partOf t
       → Filled joined t (replicate (field .mpl) 0) bytes → Filled (endsFrom 0) t (replicate (field .mcc) 0) ends
       → record { refusal = 0; path = record { bytes = bytes; ends = ends; count = n }; next = at + u } ≡ pathRead at t
-  unfolding partOf pathRead pathOf
+  unfolding partOf pathRead pathOf valueOf
   path-took refused n u bytes ends e b m = absurd (let z : _≡_ {A = ℕ} 0 1 = cc in omega arith)
   path-took (took cs v) n u bytes ends e b m =
       let en : n ≡ length cs = cc in
       let eu : u ≡ v = cc in
       let pb : bytes ≡ joined cs ++ replicate (field .mpl - length (joined cs)) 0 = b ∙ put-zeros (joined cs) (field .mpl) in
-      let pm : ends ≡ endsFrom 0 cs ++ replicate (field .mcc - length cs) 0
-      = m ∙ put-zeros (endsFrom 0 cs) (field .mcc) ∙ ap (λ (k : ℕ). endsFrom 0 cs ++ replicate (field .mcc - k) 0) (ends-length 0 cs) in
+      let pm : ends ≡ endsFrom 0 cs ++ replicate (field .mcc - length (endsFrom 0 cs)) 0 = m ∙ put-zeros (endsFrom 0 cs) (field .mcc) in
       rw (en, eu, pb, pm)
 
   pub path-missed : (t : Taken Components) → part.Refused ≡ partOf t → pathRead 0 refused ≡ pathRead at t

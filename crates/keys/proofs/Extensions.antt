@@ -1,10 +1,11 @@
--- The extensions of a path stand in one run behind it, in the order of the subspace-first keys. Assumes nothing.
+-- The extensions of a path stand in one run in the order of the subspace-first keys, those that are no older behind it. Assumes nothing.
 use mathlib.Core.Path.{_≡_, sym, ap, _∙_}
 use mathlib.Core.List.{List}
 use mathlib.Core.Bool.{true}
-use Prim.Native.Nat.{ℕ}
+use Prim.Native.Nat.{ℕ, _<_}
+use mathlib.Core.Logic.{⊎-elim}
 use Rattle.laws.specs.Order.{Order, less, same, greater, _then_, byNumber}
-use Rattle.laws.proofs.Order.{three, less-same, less-greater, then-less, then-same, greater-less}
+use Rattle.laws.proofs.Order.{three, less-same, less-greater, then-less, then-same, then-less-view, number-is-less, greater-less}
 use Rattle.keys.specs.Path.{byBytes, byComponents, isPrefix}
 use Rattle.keys.specs.Subspace.{bySubspace}
 use Rattle.keys.specs.Encode.{Triple, sptKey}
@@ -37,6 +38,18 @@ run-order a x b e f g =
       path = extensions-between (a .path) (x .path) (b .path) (e .path) (λ l. f (then-same _ _ xa ∙ then-less _ _ l)) (λ l. g (then-same _ _ bx ∙ then-less _ _ l));
     }
 
+-- What extends a triple and is no older stands behind it.
+pub extends-after : (a b : Triple) → Extends a b → (b .timestamp < a .timestamp → ⊥) → sptOrder b a ≡ less → ⊥
+unfolding sptOrder
+extends-after a b e n l =
+    let ba : bySubspace (b .subspace) (a .subspace) ≡ same = ap (bySubspace (b .subspace)) (e .subspace) ∙ subspace-linear .self (b .subspace) in
+    let r : byComponents (b .path) (a .path) then byNumber (b .timestamp) (a .timestamp) ≡ less = sym (then-same _ _ ba) ∙ l in
+    ⊎-elim (λ p. extensions-after (a .path) (b .path) (e .path) p) (λ t. n (number-is-less (b .timestamp) (a .timestamp) (t .1)))
+    (then-less-view (byComponents (b .path) (a .path)) (byNumber (b .timestamp) (a .timestamp)) r)
+
 -- The same of the keys' bytes.
+pub extends-keys : (a b : Triple) → Sized a → Sized b → Extends a b → (b .timestamp < a .timestamp → ⊥) → byBytes (sptKey b) (sptKey a) ≡ less → ⊥
+extends-keys a b sa sb e n l = extends-after a b e n (sym (spt-ordered b a sb sa) ∙ l)
+
 pub run-keys : (a x b : Triple) → Sized a → Sized x → Sized b → Extends a b → (byBytes (sptKey x) (sptKey a) ≡ less → ⊥) → (byBytes (sptKey b) (sptKey x) ≡ less → ⊥) → Extends a x
 run-keys a x b sa sx sb e f g = run-order a x b e (λ l. f (spt-ordered x a sx sa ∙ l)) (λ l. g (spt-ordered b x sb sx ∙ l))

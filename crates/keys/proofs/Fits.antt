@@ -13,7 +13,7 @@ use lib.Seq.{take-at, drop-at, getD-drop}
 use Rattle.laws.specs.Lists.{piece}
 use Rattle.laws.specs.Sorted.{all}
 use Rattle.laws.proofs.Truth.{clash, and-true}
-use Rattle.keys.specs.Path.{Figures, field, Component, Components, cut, components, joined, endsFrom, legalEnds, legal, isComponent, isPath, pathOf}
+use Rattle.keys.specs.Path.{Figures, field, Component, Components, cut, components, joined, endsFrom, legalEnds, legal, isComponent, isPath, valueOf, pathOf}
 use Rattle.keys.specs.declared.path.Path.{Path}
 use Rattle.keys.proofs.Values.{ends-top, length-piece, legal-count, legal-these, ends-length}
 
@@ -171,10 +171,10 @@ cut-joined before after (c ∷ cs) =
     ∙ cut-joined (before ++ c) after cs))
 
 pub components-of : (cs : Components) → components (pathOf cs) ≡ cs
-unfolding components pathOf
+unfolding components valueOf pathOf
 components-of cs =
     ap (cut (joined cs ++ replicate (field .mpl - length (joined cs)) 0) 0)
-    (take-at (endsFrom 0 cs) (replicate (field .mcc - length cs) 0) (length cs) (ends-length 0 cs))
+    (take-at (endsFrom 0 cs) (replicate (field .mcc - length (endsFrom 0 cs)) 0) (length cs) (ends-length 0 cs))
     ∙ cut-joined [] (replicate (field .mpl - length (joined cs)) 0) cs
 
 -- Components that fit have legal ends.
@@ -192,7 +192,7 @@ ends-legal mcl mpl from (suc n) (c ∷ cs) l h =
     (simp (a, b) (y .0), omega arith)
 
 pub legal-of : (f : Figures) (cs : Components) → isPath f cs ≡ true → legal f (pathOf cs) ≡ true
-unfolding legal pathOf
+unfolding legal valueOf pathOf
 legal-of f cs h =
     let y = ends-legal (f .mcl) (f .mpl) 0 (f .mcc) cs (omega arith) (rw sub-zero (path-fits f cs h)) in
-    rw (le-leb (length cs) (f .mcc) (y .1), take-at (endsFrom 0 cs) (replicate (field .mcc - length cs) 0) (length cs) (ends-length 0 cs)) (y .0)
+    rw (le-leb (length cs) (f .mcc) (y .1), take-at (endsFrom 0 cs) (replicate (field .mcc - length (endsFrom 0 cs)) 0) (length cs) (ends-length 0 cs)) (y .0)

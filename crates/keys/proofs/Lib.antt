@@ -21,4 +21,5 @@ pub mod AboveLaws
 pub mod EntryLaws
 pub mod NextSubspace
 pub mod AreaLaws
+pub mod OnValues
 pub mod Examples

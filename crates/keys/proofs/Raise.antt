@@ -14,11 +14,11 @@ use lib.Seq.{drop-cons, take-suc, length-take-le, take-take, take-add, getD-take
 use Rattle.laws.specs.Lists.{piece, put}
 use Rattle.laws.proofs.Lists.{put-zeros, put-snoc}
 use Rattle.laws.proofs.Truth.{and-true}
-use Rattle.keys.specs.Path.{Figures, field, Component, Components, cut, components, joined, endsFrom, legalEnds, legal, pathOf, frontOf, lastEnd}
+use Rattle.keys.specs.Path.{Figures, field, Component, Components, cut, components, joined, endsFrom, legalEnds, legal, pathOf, valueOf, lastEnd}
 use Rattle.keys.specs.Above.{orElse, raisedByte, raisedBytes, raised, aboveIn, above, raisedAt, aboveFound}
 use Rattle.keys.specs.declared.path.Path.{Path}
 use Rattle.keys.specs.declared.above.Above.{Above}
-use Rattle.keys.proofs.Values.{last-within, ends-top, ends-fewer, legal-these, legal-count, legal-within, cut-take, joined-more, ends-more, ends-length, length-piece, cut-length}
+use Rattle.keys.proofs.Values.{last-within, ends-top, ends-fewer, legal-these, legal-count, legal-within, cut-take, joined-more, ends-more, length-piece, cut-length}
 
 -- The last of the first ends.
 pub last-none : (from : ℕ) (es : List ℕ) → lastEnd from (take 0 es) ≡ from
@@ -55,16 +55,14 @@ cut-ends bytes mcl from (e ∷ es) h =
     rw n (ap (e ∷_) (cut-ends bytes mcl e es (b .1)))
 
 -- The value of components whose bytes and ends are known.
-pub front-value : (cs : Components) (bytes ends : List ℕ) (n : ℕ) → joined cs ≡ bytes → endsFrom 0 cs ≡ ends → length cs ≡ n → frontOf bytes ends n ≡ pathOf cs
-unfolding frontOf pathOf
-front-value cs bytes ends n b e l =
-    let m : length ends ≡ length cs = sym (ap length e) ∙ ends-length 0 cs in
-    rw (← b, m, ← l, ← e)
+pub front-value : (cs : Components) (bytes ends : List ℕ) (n : ℕ) → joined cs ≡ bytes → endsFrom 0 cs ≡ ends → length cs ≡ n → valueOf bytes ends n ≡ pathOf cs
+unfolding pathOf
+front-value cs bytes ends n b e l = rw (b, e, l)
 
 -- The value that is made by copying into zeros, and with one more of each.
 pub front-made : (bytes ends xs es : List ℕ) (n : ℕ) → bytes ≡ put xs (replicate (field .mpl) 0) → ends ≡ put es (replicate (field .mcc) 0)
-    → _≡_ {A = Path} (record { bytes = bytes; ends = ends; count = n }) (frontOf xs es n)
-unfolding frontOf
+    → _≡_ {A = Path} (record { bytes = bytes; ends = ends; count = n }) (valueOf xs es n)
+unfolding valueOf
 front-made bytes ends xs es n b e = rw (b ∙ put-zeros xs (field .mpl), e ∙ put-zeros es (field .mcc))
 
 zeros-more : (xs : List ℕ) (m n v : ℕ) → n ≡ length xs → n < m → set (xs ++ replicate (m - length xs) 0) n v ≡ (xs ++ v ∷ []) ++ replicate (m - length (xs ++ v ∷ [])) 0
@@ -73,9 +71,9 @@ zeros-more xs m n v e h =
     ∙ put-snoc xs (replicate m 0) n v e (rw length-replicate h)
     ∙ put-zeros (xs ++ v ∷ []) m
 
-pub front-more : (r : Path) (xs es : List ℕ) (n e v w : ℕ) → r ≡ frontOf xs es n → e ≡ length xs → n ≡ length es → e < field .mpl → n < field .mcc
-    → _≡_ {A = Path} (record { bytes = set (r .bytes) e v; ends = set (r .ends) n w; count = n + 1 }) (frontOf (xs ++ v ∷ []) (es ++ w ∷ []) (n + 1))
-unfolding frontOf
+pub front-more : (r : Path) (xs es : List ℕ) (n e v w : ℕ) → r ≡ valueOf xs es n → e ≡ length xs → n ≡ length es → e < field .mpl → n < field .mcc
+    → _≡_ {A = Path} (record { bytes = set (r .bytes) e v; ends = set (r .ends) n w; count = n + 1 }) (valueOf (xs ++ v ∷ []) (es ++ w ∷ []) (n + 1))
+unfolding valueOf
 front-more r xs es n e v w q a b g h =
     let x : set (r .bytes) e v ≡ _ = ap (λ (p : Path). set (p .bytes) e v) q ∙ zeros-more xs (field .mpl) e v a g in
     let y : set (r .ends) n w ≡ _ = ap (λ (p : Path). set (p .ends) n w) q ∙ zeros-more es (field .mcc) n w b h in
@@ -103,7 +101,7 @@ cut-nth bytes from zero (e ∷ es) h = refl
 cut-nth bytes from (suc i) (e ∷ es) h = cut-nth bytes e i es (omega arith)
 
 pub canonical-value : (p : Path) → field .mpl ≤ length (p .bytes) → p .count ≤ length (p .ends) → legal field p ≡ true
-    → frontOf (take (lastEnd 0 (take (p .count) (p .ends))) (p .bytes)) (take (p .count) (p .ends)) (p .count) ≡ pathOf (components p)
+    → valueOf (take (lastEnd 0 (take (p .count) (p .ends))) (p .bytes)) (take (p .count) (p .ends)) (p .count) ≡ pathOf (components p)
 unfolding components
 canonical-value p b n h =
     let es = take (p .count) (p .ends) in
@@ -259,7 +257,7 @@ module _ (p : Path) (b : field .mpl ≤ length (p .bytes)) (n : p .count ≤ len
 
   -- The value with the component replaced by d, whose bytes are the path's up to m and one more.
   raised-value : (d : Component) (m v : ℕ) → take from (p .bytes) ++ d ≡ take m (p .bytes) ++ v ∷ [] → from + length d ≡ m + 1
-      → frontOf (take m (p .bytes) ++ v ∷ []) (take i (p .ends) ++ (m + 1) ∷ []) (i + 1) ≡ pathOf (take i (components p) ++ d ∷ [])
+      → valueOf (take m (p .bytes) ++ v ∷ []) (take i (p .ends) ++ (m + 1) ∷ []) (i + 1) ≡ pathOf (take i (components p) ++ d ∷ [])
   unfolding components
   raised-value d m v e l =
       let cs = components p in
@@ -275,7 +273,7 @@ module _ (p : Path) (b : field .mpl ≤ length (p .bytes)) (n : p .count ≤ len
 
   -- The three ways out.
   pub grown : ltb (to - from) (min (field .mcl) (field .mpl - from)) ≡ true
-      → record { refusal = 0; found = true; path = frontOf (take to (p .bytes) ++ 0 ∷ []) (take i (p .ends) ++ (to + 1) ∷ []) (i + 1) } ≡ aboveFound (raisedAt field (components p) i)
+      → record { refusal = 0; found = true; path = valueOf (take to (p .bytes) ++ 0 ∷ []) (take i (p .ends) ++ (to + 1) ∷ []) (i + 1) } ≡ aboveFound (raisedAt field (components p) i)
   unfolding aboveFound raised
   grown g =
       let c = piece from to (p .bytes) in
@@ -288,7 +286,7 @@ module _ (p : Path) (b : field .mpl ≤ length (p .bytes)) (n : p .count ≤ len
 
   pub lifted : (j : ℕ) → ltb (to - from) (min (field .mcl) (field .mpl - from)) ≡ false → j < length (piece from to (p .bytes))
       → raisedBytes (piece from to (p .bytes)) ≡ some (take j (piece from to (p .bytes)) ++ (getD (p .bytes) (from + j) 0 + 1) ∷ [])
-      → record { refusal = 0; found = true; path = frontOf (take (from + j) (p .bytes) ++ (getD (p .bytes) (from + j) 0 + 1) ∷ []) (take i (p .ends) ++ (from + j + 1) ∷ []) (i + 1) }
+      → record { refusal = 0; found = true; path = valueOf (take (from + j) (p .bytes) ++ (getD (p .bytes) (from + j) 0 + 1) ∷ []) (take i (p .ends) ++ (from + j + 1) ∷ []) (i + 1) }
       ≡ aboveFound (raisedAt field (components p) i)
   unfolding aboveFound raised
   lifted j g l r =

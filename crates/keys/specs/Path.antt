@@ -58,21 +58,17 @@ isComponent f c = leb (length c) (f .mcl) && all (λ b. ltb b 256) c
 unfoldable pub isPath : Figures → Components → Bool
 isPath f cs = leb (length cs) (f .mcc) && (all (isComponent f) cs && leb (length (joined cs)) (f .mpl))
 
--- The path value that is handed out for components: 0 past its total and past its count.
-unfoldable pub pathOf : Components → Path
-pathOf cs = record {
-  bytes = joined cs ++ replicate (field .mpl - length (joined cs)) 0;
-  ends = endsFrom 0 cs ++ replicate (field .mcc - length cs) 0;
-  count = length cs;
-}
-
--- The same from a path's bytes and ends.
-unfoldable pub frontOf : List ℕ → List ℕ → ℕ → Path
-frontOf bytes ends n = record {
+-- A path value of these bytes and ends: 0 past its total and past its count.
+unfoldable pub valueOf : List ℕ → List ℕ → ℕ → Path
+valueOf bytes ends count = record {
   bytes = bytes ++ replicate (field .mpl - length bytes) 0;
   ends = ends ++ replicate (field .mcc - length ends) 0;
-  count = n;
+  count = count;
 }
+
+-- The path value that is handed out for components.
+unfoldable pub pathOf : Components → Path
+pathOf cs = valueOf (joined cs) (endsFrom 0 cs) (length cs)
 
 -- The last of some ends, or where they begin: a path's total.
 unfoldable pub lastEnd : ℕ → List ℕ → ℕ

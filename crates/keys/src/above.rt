@@ -11,7 +11,7 @@ ghost use mathlib.Core.Option.{none};
 ghost use lib.Dec.{ltb};
 ghost use lib.ListN.{length, take};
 ghost use Rattle.laws.specs.Lists.{put};
-ghost use Rattle.keys.specs.Path.{field, legal, components, pathOf, lastEnd, frontOf};
+ghost use Rattle.keys.specs.Path.{field, legal, components, pathOf, lastEnd, valueOf};
 ghost use Rattle.keys.specs.Above.{above, aboveFound, aboveAnswer, raisedAt, RaisesByte};
 
 // Refusal 0 and whether there is such a path, and it; or the refusal and all else 0.
@@ -51,7 +51,7 @@ fn copy_ends(from: &[usize], out: &mut [usize])
 // The first n ends and the first e bytes, with zeros behind.
 fn front(p: Path, n: usize, e: usize) -> Path
     requires { ⌜ (n ≤ field .mcc) × (e ≤ field .mpl) ⌝ }
-    ensures { λ r. ⌜ r ≡ frontOf (take e (p .bytes)) (take n (p .ends)) n ⌝ }
+    ensures { λ r. ⌜ r ≡ valueOf (take e (p .bytes)) (take n (p .ends)) n ⌝ }
 {
     let mut bytes = [0u8; MPL];
     let mut ends = [0usize; MCC];
@@ -69,7 +69,7 @@ fn front(p: Path, n: usize, e: usize) -> Path
 // The same with a byte and an end more.
 fn raise(p: Path, n: usize, e: usize, b: u8) -> Path
     requires { ⌜ (n < field .mcc) × (e < field .mpl) ⌝ }
-    ensures { λ r. ⌜ r ≡ frontOf (take e (p .bytes) ++ b ∷ []) (take n (p .ends) ++ (e + 1) ∷ []) (n + 1) ⌝ }
+    ensures { λ r. ⌜ r ≡ valueOf (take e (p .bytes) ++ b ∷ []) (take n (p .ends) ++ (e + 1) ∷ []) (n + 1) ⌝ }
 {
     let mut r = front(p, n, e);
     r.bytes[e] = b;

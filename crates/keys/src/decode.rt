@@ -181,7 +181,8 @@ fn decode_components(k: &[u8], mcl: usize, bytes: &mut [u8], ends: &mut [usize])
     Part::Refused
 }
 
-// What comes next in a path that is read at a position.
+// What comes next in a path that is read at a position. A component's own length is judged; how many components and bytes a path
+// may have is `decode_path`'s to judge.
 pub fn component_bytes(key: &[u8], at: usize) -> ComponentRead
     ensures { λ r. ⌜ r ≡ componentRead field at (drop at (now (key .entry))) ⌝ }
 {
@@ -315,4 +316,23 @@ pub fn decode_tsp_entry_key(key: &[u8]) -> Decoded
         return refused_key();
     }
     refused_key()
+}
+
+// The same from a position on; past the end: 5.
+pub fn decode_spt_entry_key_at(key: &[u8], at: usize) -> Decoded
+    ensures { λ r. ⌜ r ≡ decoded (readSpt field (drop at (now (key .entry)))) ⌝ }
+{
+    if key.len() < at {
+        return refused_key();
+    }
+    decode_spt_entry_key(&key[at..])
+}
+
+pub fn decode_tsp_entry_key_at(key: &[u8], at: usize) -> Decoded
+    ensures { λ r. ⌜ r ≡ decoded (readTsp field (drop at (now (key .entry)))) ⌝ }
+{
+    if key.len() < at {
+        return refused_key();
+    }
+    decode_tsp_entry_key(&key[at..])
 }

@@ -4,7 +4,7 @@ use mathlib.Core.Path.{_≡_, refl, sym, ap, subst, _∙_}
 use native.Mathlib.Omega.{arith}
 use lib.ListN.{length, take, drop, getD, length-take}
 use lib.Seq.{length-take-le}
-use Rattle.keys.specs.Path.{field, frontOf}
+use Rattle.keys.specs.Path.{field, valueOf}
 use Rattle.keys.proofs.Values.{legal-count, legal-these, last-within}
 use Rattle.keys.proofs.Raise.{canonical-value}
 use borrow.Author.Needs.{needs}
@@ -31,7 +31,7 @@ returns : tie.Need-returns
 returns c =
     let a = (c .before .before .before .before) .args in
     c .front .ensures
-    ∙ ap (λ (n : ℕ). frontOf (take n (a .p .bytes)) (take (a .p .count) (a .p .ends)) (a .p .count)) (c .before .start .ensures)
+    ∙ ap (λ (n : ℕ). valueOf (take n (a .p .bytes)) (take (a .p .count) (a .p .ends)) (a .p .count)) (c .before .start .ensures)
     ∙ canonical-value (a .p) (omega (arith, p-bytes (c .before .before .before .before))) (omega (arith, p-ends (c .before .before .before .before), legal-count field (a .p) ((c .before .before .before .before) .pre))) ((c .before .before .before .before) .pre)
 
 pub canonical-spec : {M : Type 1} → statement M

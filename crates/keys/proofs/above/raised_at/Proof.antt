@@ -12,7 +12,7 @@ use mathlib.Core.Option.{Option, some, none}
 use lib.Dec.{ltb}
 use lib.Seq.{getD-take, getD-drop}
 use Rattle.laws.specs.Lists.{piece}
-use Rattle.keys.specs.Path.{field, Component, frontOf, lastEnd}
+use Rattle.keys.specs.Path.{field, Component, valueOf, lastEnd}
 use Rattle.keys.specs.Above.{raisedBytes, aboveFound, RaisesByte}
 use Rattle.keys.proofs.Values.{legal-count, length-piece}
 use Rattle.keys.proofs.Raise.{grow-room, piece-at, nth-bounds, grown, lifted, stuck}

@@ -1,11 +1,11 @@
 -- `new_empty` meets its contract. Assumes nothing.
 use mathlib.Core.Path.{_≡_, refl, sym, ap, _∙_}
-use Rattle.keys.specs.Path.{pathOf, joined, endsFrom}
+use Rattle.keys.specs.Path.{valueOf, pathOf, joined, endsFrom}
 use Rattle.keys.proofs.path.Path.new_empty.Statement.{statement}
 use Rattle.keys.proofs.path.Path.new_empty.Tie as tie
 
 returns : tie.Need-returns
-unfolding pathOf joined endsFrom
+unfolding valueOf pathOf joined endsFrom
 returns c = refl
 
 pub new-empty-spec : {M : Type 1} → statement M

@@ -1,0 +1,37 @@
+-- The theorems on keys and on the path above, for the values that the calls are handed and hand out. Assumes nothing.
+use Prim.Native.Nat.{ℕ, _≤_, _<_, _^_}
+use mathlib.Core.Path.{_≡_, refl, ap, subst}
+use mathlib.Core.Bool.{true, false}
+use mathlib.Core.Option.{Option, some, none}
+use lib.ListN.{length}
+use Rattle.keys.specs.Path.{Figures, Components, components, legal, isPath, pathOf}
+use Rattle.keys.specs.Above.{above}
+use Rattle.keys.specs.Least.{Beyond, LeastAbove}
+use Rattle.keys.specs.Encode.{triple, sptKey, tspKey}
+use Rattle.keys.specs.Decode.{took, readSpt, readTsp, decoded}
+use Rattle.keys.specs.KeyOrder.{Sized}
+use Rattle.keys.specs.declared.path.Path.{Path}
+use Rattle.keys.specs.declared.parameters.Subspace.{Subspace}
+use Rattle.keys.specs.declared.decode.Decoded.{Decoded}
+use Rattle.keys.proofs.Fits.{Bytes, legal-fits, legal-of}
+use Rattle.keys.proofs.Inverse.{spt-back, tsp-back}
+use Rattle.keys.proofs.AboveLaws.{above-least}
+
+-- A path value as the language has it: at least the figures' bytes, each below 256.
+module _ (f : Figures) (p : Path) (room : f .mpl ≤ length (p .bytes)) (bytes : Bytes (p .bytes)) (h : legal f p ≡ true) where
+  -- The key of a legal path's triple is decoded to it, the path cleaned.
+  module _ (s : Subspace) (t : ℕ) (sized : Sized (triple s (components p) t)) where
+    pub spt-values : decoded (readSpt f (sptKey (triple s (components p) t))) ≡ record { refusal = 0; subspace = s; path = pathOf (components p); timestamp = t }
+    unfolding decoded
+    spt-values = ap decoded (spt-back f (triple s (components p) t) (legal-fits f p room bytes h) sized)
+
+    pub tsp-values : decoded (readTsp f (tspKey (triple s (components p) t))) ≡ record { refusal = 0; subspace = s; path = pathOf (components p); timestamp = t }
+    unfolding decoded
+    tsp-values = ap decoded (tsp-back f (triple s (components p) t) (legal-fits f p room bytes h) sized)
+
+  -- The path that is handed out above a legal one is legal.
+  pub above-legal : (q : Components) → above f (components p) ≡ some q → legal f (pathOf q) ≡ true
+  above-legal q e = legal-of f q (found .holds .legal)
+    where
+      found : LeastAbove f (components p) (some q)
+      found = subst (LeastAbove f (components p)) e (above-least f (components p) (legal-fits f p room bytes h))
