@@ -1,6 +1,6 @@
 // The data model and its keys: paths, entries, ranges and areas, and the two keys of an entry with their decoders.
 // The public entries have no `requires`. `checked`, `above` and `number` are for the layers above and below these entries: their
-// functions ask what a caller has tested already, as that a path is legal.
+// functions may ask what a caller has tested already, as that a path is legal.
 pub mod above;
 pub mod answer;
 pub mod area;

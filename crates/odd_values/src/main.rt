@@ -74,9 +74,28 @@ fn all_between(s: &[u8], from: usize, to: usize, b: u8) -> bool {
     true
 }
 
+fn all_ends_zero(ends: &[usize]) -> bool {
+    let mut i: usize = 0;
+    while i < ends.len() {
+        if ends[i] != 0 {
+            return false;
+        }
+        i += 1;
+    }
+    true
+}
+
+// Whether a path value is the empty path with zeros behind, in its bytes and in its ends.
 fn all_zero(p: Path) -> bool {
     let bytes = p.bytes;
-    all_between(&bytes, 0, 128, 0)
+    let ends = p.ends;
+    if !all_between(&bytes, 0, 128, 0) {
+        return false;
+    }
+    if !all_ends_zero(&ends) {
+        return false;
+    }
+    p.count == 0
 }
 
 // All bytes 7 and all ends 255 where nothing else is said.
