@@ -45,7 +45,7 @@ aboveFound (some cs) = record { refusal = 0; found = true; path = pathOf cs }
 unfoldable pub aboveAnswer : Figures → Path → Above
 aboveAnswer f p = cond (legal f p) (aboveFound (above f (components p))) (record { refusal = illegalPath; found = false; path = pathOf [] })
 
--- The same by the place of what is replaced: the i-th component, or the j-th byte.
+-- For the inner functions: the same by the place of what is replaced, the i-th component or the j-th byte.
 unfoldable pub raisedAt : Figures → Components → ℕ → Option Components
 raisedAt f cs i = Option·map (λ d. take i cs ++ d ∷ []) (raised (min (f .mcl) (f .mpl - length (joined (take i cs)))) (getD cs i []))
 

@@ -124,7 +124,8 @@ componentRead f at k =
     cond (endsPath (tokenOf k)) (record { next = next.PathEnd (at + 2); bytes = replicate (field .mcl) 0 })
     (nextComponent at (readComponent (f .mcl) k))
 
--- How many elements were read, and how many bytes they took; the buffer is filled with them from the front, if any were.
+-- For the inner functions: how many elements were read and how many bytes they took; the buffer is filled with them from the front,
+-- if any were.
 unfoldable pub partOf : {A : Type 0} → Taken (List A) → Part
 partOf refused = part.Refused
 partOf (took c u) = part.Took (length c) u
