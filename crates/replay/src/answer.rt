@@ -1,0 +1,407 @@
+// The answer to a line of the call language, in the calls that need no store. Each function writes at the front of a buffer and answers
+// how many bytes.
+use crate::field::area_at;
+use crate::field::entry_at;
+use crate::field::field;
+use crate::field::is_word;
+use crate::field::worse;
+use crate::say::say;
+use crate::say::say_key;
+use crate::say::say_number;
+use crate::say::say_path;
+use crate::say::say_subspace;
+use keys::answer::Answer;
+use keys::answer::Compared;
+use keys::decode::Decoded;
+use keys::decode::decode_spt_entry_key;
+use keys::decode::decode_tsp_entry_key;
+use keys::encode::KEY_MOST;
+use keys::encode::encode_spt_entry_key;
+use keys::encode::encode_tsp_entry_key;
+use keys::entry::Entry;
+use keys::parameters::Subspace;
+use keys::path::Path;
+use keys::range::PathRange;
+use keys::range::RangeEnd;
+use keys::range::SubspaceEnd;
+use keys::range::SubspaceRange;
+use keys::range::TimesRange;
+use keys::range_3d::Range3d;
+use text::decimal::NumberRead;
+use text::decimal::read_number;
+use text::hex::HexRead;
+use text::hex::read_hex;
+use text::line::count_fields;
+use text::path::Outcome;
+use text::path::read_path;
+use text::value::SubspaceRead;
+use text::value::read_subspace;
+ghost use Prim.Native.Nat.{_≤_};
+ghost use lib.ListN.{length};
+
+fn bad(out: &mut [u8]) -> usize
+    ensures { λ r. ⌜ r ≤ length (now (out .entry)) ⌝ }
+{
+    say(b"bad", out, 0)
+}
+
+fn refused(n: u8, out: &mut [u8]) -> usize
+    ensures { λ r. ⌜ r ≤ length (now (out .entry)) ⌝ }
+{
+    let at = say(b"refused ", out, 0);
+    say_number(n as u64, out, at)
+}
+
+// The answer to a line that has no other.
+fn not_good(outcome: Outcome, out: &mut [u8]) -> usize
+    ensures { λ r. ⌜ r ≤ length (now (out .entry)) ⌝ }
+{
+    match outcome {
+        Outcome::Bad => bad(out),
+        Outcome::Illegal => refused(4, out),
+        Outcome::Good => bad(out),
+    }
+}
+
+fn is_good(outcome: Outcome) -> bool {
+    match outcome {
+        Outcome::Good => true,
+        Outcome::Illegal => false,
+        Outcome::Bad => false,
+    }
+}
+
+fn is_yes(a: Answer) -> bool {
+    match a {
+        Answer::Yes => true,
+        Answer::No => false,
+        Answer::Refused(_) => false,
+    }
+}
+
+// A path, or `*` for none.
+fn say_path_or(found: bool, p: Path, out: &mut [u8], at: usize) -> usize
+    requires { ⌜ at ≤ length (now out) ⌝ }
+    ensures { λ r. ⌜ r ≤ length (now (out .entry)) ⌝ }
+{
+    if found {
+        return say_path(p, out, at);
+    }
+    say(b"*", out, at)
+}
+
+// `above P`
+fn above(line: &[u8], out: &mut [u8]) -> usize
+    ensures { λ r. ⌜ r ≤ length (now (out .entry)) ⌝ }
+{
+    let f = read_path(field(line, 1));
+    let outcome = f.outcome;
+    if !is_good(outcome) {
+        return not_good(outcome, out);
+    }
+    let p = f.path;
+    let a = p.greater_but_not_prefixed();
+    let path = a.path;
+    let at = say(b"path ", out, 0);
+    say_path_or(a.found, path, out, at)
+}
+
+fn order_word(c: Compared) -> u8 {
+    match c {
+        Compared::Less => 0,
+        Compared::Equal => 1,
+        Compared::Greater => 2,
+        Compared::Refused(_) => 3,
+    }
+}
+
+fn say_order(word: u8, out: &mut [u8]) -> usize
+    ensures { λ r. ⌜ r ≤ length (now (out .entry)) ⌝ }
+{
+    match word {
+        0 => say(b"less", out, 0),
+        1 => say(b"equal", out, 0),
+        2 => say(b"greater", out, 0),
+        _ => bad(out),
+    }
+}
+
+// `order P P`
+fn order(line: &[u8], out: &mut [u8]) -> usize
+    ensures { λ r. ⌜ r ≤ length (now (out .entry)) ⌝ }
+{
+    let f = read_path(field(line, 1));
+    let g = read_path(field(line, 2));
+    let a = f.outcome;
+    let b = g.outcome;
+    let outcome = worse(a, b);
+    if !is_good(outcome) {
+        return not_good(outcome, out);
+    }
+    let p = f.path;
+    let q = g.path;
+    let at = say_order(order_word(p.cmp(q)), out);
+    if is_yes(p.is_prefix_of(q)) {
+        return say(b" prefix", out, at);
+    }
+    at
+}
+
+fn say_bit(b: bool, out: &mut [u8], at: usize) -> usize
+    requires { ⌜ at ≤ length (now out) ⌝ }
+    ensures { λ r. ⌜ r ≤ length (now (out .entry)) ⌝ }
+{
+    if b {
+        return say(b"1", out, at);
+    }
+    say(b"0", out, at)
+}
+
+fn say_newer(e: Entry, f: Entry, out: &mut [u8]) -> usize
+    ensures { λ r. ⌜ r ≤ length (now (out .entry)) ⌝ }
+{
+    let newer = is_yes(e.is_newer_than(f));
+    let prunes = is_yes(e.prunes(f));
+    let a = say(b"newer ", out, 0);
+    let b = say_bit(newer, out, a);
+    let c = say(b" prunes ", out, b);
+    say_bit(prunes, out, c)
+}
+
+// `newer S P T L D S P T L D`
+fn newer(line: &[u8], out: &mut [u8]) -> usize
+    ensures { λ r. ⌜ r ≤ length (now (out .entry)) ⌝ }
+{
+    let f = entry_at(line, 1);
+    let g = entry_at(line, 6);
+    let a = f.outcome;
+    let b = g.outcome;
+    let outcome = worse(a, b);
+    if !is_good(outcome) {
+        return not_good(outcome, out);
+    }
+    let e = f.entry;
+    let o = g.entry;
+    say_newer(e, o, out)
+}
+
+fn say_subspace_end(e: SubspaceEnd, out: &mut [u8], at: usize) -> usize
+    requires { ⌜ at ≤ length (now out) ⌝ }
+    ensures { λ r. ⌜ r ≤ length (now (out .entry)) ⌝ }
+{
+    match e {
+        SubspaceEnd::Closed(s) => say_subspace(s, out, at),
+        SubspaceEnd::Open => say(b"*", out, at),
+    }
+}
+
+fn say_times_end(e: RangeEnd, out: &mut [u8], at: usize) -> usize
+    requires { ⌜ at ≤ length (now out) ⌝ }
+    ensures { λ r. ⌜ r ≤ length (now (out .entry)) ⌝ }
+{
+    match e {
+        RangeEnd::Closed(t) => say_number(t, out, at),
+        RangeEnd::Open => say(b"*", out, at),
+    }
+}
+
+fn say_space(out: &mut [u8], at: usize) -> usize
+    requires { ⌜ at ≤ length (now out) ⌝ }
+    ensures { λ r. ⌜ r ≤ length (now (out .entry)) ⌝ }
+{
+    say(b" ", out, at)
+}
+
+fn say_subspaces(r: SubspaceRange, out: &mut [u8], at: usize) -> usize
+    requires { ⌜ at ≤ length (now out) ⌝ }
+    ensures { λ n. ⌜ n ≤ length (now (out .entry)) ⌝ }
+{
+    let start = r.start;
+    let end = r.end;
+    let a = say_subspace(start, out, at);
+    let b = say_space(out, a);
+    say_subspace_end(end, out, b)
+}
+
+fn say_paths(r: PathRange, out: &mut [u8], at: usize) -> usize
+    requires { ⌜ at ≤ length (now out) ⌝ }
+    ensures { λ n. ⌜ n ≤ length (now (out .entry)) ⌝ }
+{
+    let start = r.start;
+    let end = r.end;
+    let open = r.open;
+    let a = say_path(start, out, at);
+    let b = say_space(out, a);
+    say_path_or(!open, end, out, b)
+}
+
+fn say_times(r: TimesRange, out: &mut [u8], at: usize) -> usize
+    requires { ⌜ at ≤ length (now out) ⌝ }
+    ensures { λ n. ⌜ n ≤ length (now (out .entry)) ⌝ }
+{
+    let end = r.end;
+    let a = say_number(r.start, out, at);
+    let b = say_space(out, a);
+    say_times_end(end, out, b)
+}
+
+fn say_range(r: Range3d, out: &mut [u8]) -> usize
+    ensures { λ n. ⌜ n ≤ length (now (out .entry)) ⌝ }
+{
+    let subspaces = r.subspaces;
+    let paths = r.paths;
+    let times = r.times;
+    let a = say(b"range ", out, 0);
+    let b = say_subspaces(subspaces, out, a);
+    let c = say_space(out, b);
+    let d = say_paths(paths, out, c);
+    let e = say_space(out, d);
+    say_times(times, out, e)
+}
+
+// `arange01 AREA`
+fn area_range(line: &[u8], out: &mut [u8]) -> usize
+    ensures { λ r. ⌜ r ≤ length (now (out .entry)) ⌝ }
+{
+    let f = area_at(line, 1);
+    let outcome = f.outcome;
+    if !is_good(outcome) {
+        return not_good(outcome, out);
+    }
+    let area = f.area;
+    let r = Range3d::from(area);
+    let range = r.range;
+    say_range(range, out)
+}
+
+fn say_keys(s: Subspace, p: Path, t: u64, out: &mut [u8]) -> usize
+    ensures { λ r. ⌜ r ≤ length (now (out .entry)) ⌝ }
+{
+    let mut spt = [0u8; KEY_MOST];
+    let mut tsp = [0u8; KEY_MOST];
+    let x = encode_spt_entry_key(s, p, t, &mut spt);
+    let y = encode_tsp_entry_key(s, p, t, &mut tsp);
+    let a = say(b"key ", out, 0);
+    let b = say_key(x, &spt, out, a);
+    let c = say_space(out, b);
+    say_key(y, &tsp, out, c)
+}
+
+// `key S P T`
+fn key(line: &[u8], out: &mut [u8]) -> usize
+    ensures { λ r. ⌜ r ≤ length (now (out .entry)) ⌝ }
+{
+    let s = read_subspace(field(line, 1));
+    let SubspaceRead::Is(subspace) = s else {
+        return bad(out);
+    };
+    let t = read_number(field(line, 3));
+    let NumberRead::Is(timestamp) = t else {
+        return bad(out);
+    };
+    let f = read_path(field(line, 2));
+    let outcome = f.outcome;
+    if !is_good(outcome) {
+        return not_good(outcome, out);
+    }
+    let p = f.path;
+    say_keys(subspace, p, timestamp, out)
+}
+
+fn say_decoded(d: Decoded, out: &mut [u8]) -> usize
+    ensures { λ r. ⌜ r ≤ length (now (out .entry)) ⌝ }
+{
+    let refusal = d.refusal;
+    if refusal != 0 {
+        return refused(refusal, out);
+    }
+    let p = d.path;
+    let s = d.subspace;
+    let a = say(b"triple ", out, 0);
+    let b = say_subspace(s, out, a);
+    let c = say_space(out, b);
+    let e = say_path(p, out, c);
+    let f = say_space(out, e);
+    say_number(d.timestamp, out, f)
+}
+
+// The bytes of a key: `-` for none at all, else digits. Of another form, or longer than a line can say, is the answer 600.
+fn read_key(f: &[u8], key: &mut [u8]) -> usize {
+    if is_word(f, b"-") {
+        return 0;
+    }
+    if f.len() == 0 {
+        return 600;
+    }
+    let r = read_hex(f, key);
+    match r {
+        HexRead::Took(n) => n,
+        HexRead::Bad => 600,
+        HexRead::Short => 600,
+    }
+}
+
+// `spt01 HEX` and `tsp01 HEX`
+fn decode(time_first: bool, line: &[u8], out: &mut [u8]) -> usize
+    ensures { λ r. ⌜ r ≤ length (now (out .entry)) ⌝ }
+{
+    let mut key = [0u8; 512];
+    let n = read_key(field(line, 1), &mut key);
+    if 512 < n {
+        return bad(out);
+    }
+    if time_first {
+        return say_decoded(decode_tsp_entry_key(&key[..n]), out);
+    }
+    say_decoded(decode_spt_entry_key(&key[..n]), out)
+}
+
+// Which call a line is, by its name and the number of its fields; 0 for none.
+fn call_of(line: &[u8]) -> u8 {
+    let n = count_fields(line, b' ');
+    let name = field(line, 0);
+    if is_call(name, b"above", n, 2) {
+        return 1;
+    }
+    if is_call(name, b"order", n, 3) {
+        return 2;
+    }
+    if is_call(name, b"newer", n, 11) {
+        return 3;
+    }
+    if is_call(name, b"arange01", n, 5) {
+        return 4;
+    }
+    if is_call(name, b"key", n, 4) {
+        return 5;
+    }
+    if is_call(name, b"spt01", n, 2) {
+        return 6;
+    }
+    if is_call(name, b"tsp01", n, 2) {
+        return 7;
+    }
+    0
+}
+
+fn is_call(name: &[u8], word: &[u8], n: usize, fields: usize) -> bool {
+    if n == fields {
+        return is_word(name, word);
+    }
+    false
+}
+
+pub fn answer(line: &[u8], out: &mut [u8]) -> usize
+    ensures { λ r. ⌜ r ≤ length (now (out .entry)) ⌝ }
+{
+    match call_of(line) {
+        1 => above(line, out),
+        2 => order(line, out),
+        3 => newer(line, out),
+        4 => area_range(line, out),
+        5 => key(line, out),
+        6 => decode(false, line, out),
+        7 => decode(true, line, out),
+        _ => bad(out),
+    }
+}

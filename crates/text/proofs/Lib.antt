@@ -1,0 +1,10 @@
+pub mod Lists
+pub mod HexLaws
+pub mod FieldLaws
+pub mod DecimalLaws
+pub mod FormLaws
+pub mod Filling
+pub mod PathLaws
+pub mod ValueLaws
+pub mod RoundTrip
+pub mod PathTrip

@@ -1,0 +1,9 @@
+// Text: the fields of a line read and written. Numbers in decimal, bytes in hex, paths, subspaces and digests.
+// The readers have no `requires`: what is not of the form is answered so. A writer writes at the front of the buffer that it
+// is lent, and answers how many bytes.
+pub mod decimal;
+pub mod hex;
+pub mod line;
+pub mod path;
+pub mod path_text;
+pub mod value;

@@ -1,0 +1,151 @@
+// Subspaces and digests. A subspace is its last byte, the rest 0, or all 16 bytes; a digest is the byte that fills it, or all 32.
+use crate::hex::is_hex;
+use crate::hex::write_bytes_of;
+use crate::hex::write_hex;
+use crate::hex::write_hex_byte;
+use keys::number::read_u64;
+use keys::number::write_u64;
+use keys::parameters::Subspace;
+ghost use mathlib.Core.Path.{_≡_};
+ghost use Prim.Native.Nat.{_≤_};
+ghost use lib.ListN.{length, getD};
+ghost use Rattle.laws.specs.Lists.{put};
+ghost use Rattle.laws.specs.Sorted.{all};
+ghost use Rattle.keys.specs.Encode.{subspaceKey};
+ghost use Rattle.keys.specs.Decode.{subspaceAt};
+ghost use Rattle.text.specs.Value.{subspaceField, digestField, noDigest, isShort, subspaceText, isFill, digestText};
+
+pub enum SubspaceRead {
+    Is(Subspace),
+    Bad,
+}
+
+pub struct DigestRead {
+    pub good: bool,
+    pub digest: [u8; 32],
+}
+
+fn wide(b: u8) -> u64
+    ensures { λ r. ⌜ r ≡ b ⌝ }
+{
+    b as u64
+}
+
+// All 16 bytes of a subspace, read and written.
+fn whole(k: &[u8]) -> Subspace
+    requires { ⌜ 16 ≤ length (now k) ⌝ }
+    ensures { λ r. ⌜ r ≡ subspaceAt (now (k .entry)) ⌝ }
+{
+    Subspace {
+        high: read_u64(k),
+        low: read_u64(&k[8..]),
+    }
+}
+
+fn write_whole(s: Subspace, out: &mut [u8]) -> usize
+    requires { ⌜ 16 ≤ length (now out) ⌝ }
+    ensures { λ r. ⌜ (r ≡ 16) × (now (out .exit) ≡ put (subspaceKey s) (now (out .entry))) ⌝ }
+{
+    let n = write_u64(s.high, out);
+    n + write_u64(s.low, &mut out[n..])
+}
+
+pub fn read_subspace(s: &[u8]) -> SubspaceRead
+    ensures { λ r. ⌜ r ≡ subspaceField (now (s .entry)) ⌝ }
+{
+    if !is_hex(s) {
+        return SubspaceRead::Bad;
+    }
+    if s.len() == 2 {
+        let mut one = [0u8; 1];
+        write_bytes_of(s, &mut one);
+        let low = wide(one[0]);
+        return SubspaceRead::Is(Subspace { high: 0, low });
+    }
+    if s.len() == 32 {
+        let mut all = [0u8; 16];
+        write_bytes_of(s, &mut all);
+        return SubspaceRead::Is(whole(&all));
+    }
+    SubspaceRead::Bad
+}
+
+fn no_digest() -> DigestRead
+    ensures { λ r. ⌜ r ≡ noDigest ⌝ }
+{
+    DigestRead {
+        good: false,
+        digest: [0; 32],
+    }
+}
+
+pub fn read_digest(s: &[u8]) -> DigestRead
+    ensures { λ r. ⌜ r ≡ digestField (now (s .entry)) ⌝ }
+{
+    if !is_hex(s) {
+        return no_digest();
+    }
+    if s.len() == 2 {
+        let mut one = [0u8; 1];
+        write_bytes_of(s, &mut one);
+        let b = one[0];
+        return DigestRead {
+            good: true,
+            digest: [b; 32],
+        };
+    }
+    if s.len() == 64 {
+        let mut digest = [0u8; 32];
+        write_bytes_of(s, &mut digest);
+        return DigestRead { good: true, digest };
+    }
+    no_digest()
+}
+
+fn is_short(s: Subspace) -> bool
+    ensures { λ r. ⌜ r ≡ isShort s ⌝ }
+{
+    if s.high == 0 {
+        return s.low < 256;
+    }
+    false
+}
+
+// At most 32 digits.
+pub fn write_subspace(s: Subspace, out: &mut [u8]) -> usize
+    requires { ⌜ 32 ≤ length (now out) ⌝ }
+    ensures { λ r. ⌜ (r ≡ length (subspaceText s)) × (now (out .exit) ≡ put (subspaceText s) (now (out .entry))) ⌝ }
+{
+    if is_short(s) {
+        return write_hex_byte((s.low % 256) as u8, out);
+    }
+    let mut all = [0u8; 16];
+    write_whole(s, &mut all);
+    write_hex(&all, out)
+}
+
+// Whether every byte is that one.
+fn is_fill(d: &[u8], b: u8) -> bool
+    ensures { λ r. ⌜ r ≡ all (isFill b) (now (d .entry)) ⌝ }
+{
+    let mut i: usize = 0;
+    while i < d.len() {
+        if d[i] != b {
+            return false;
+        }
+        i += 1;
+    }
+    true
+}
+
+// At most 64 digits.
+pub fn write_digest(d: &[u8; 32], out: &mut [u8]) -> usize
+    requires { ⌜ 64 ≤ length (now out) ⌝ }
+    ensures { λ r. ⌜ (r ≡ length (digestText (now (d .entry)))) × (now (out .exit) ≡ put (digestText (now (d .entry))) (now (out .entry))) ⌝ }
+{
+    let b = d[0];
+    if is_fill(d, b) {
+        return write_hex_byte(b, out);
+    }
+    write_hex(d, out)
+}
