@@ -341,7 +341,7 @@ fn read_key(f: &[u8], key: &mut [u8]) -> usize {
     }
 }
 
-// `spt01 HEX` and `tsp01 HEX`
+// `spt01 HEX` and `tsp01 HEX`; the port has one answer for `spt HEX` and `tsp HEX` too, where the Rust has its own.
 fn decode(time_first: bool, line: &[u8], out: &mut [u8]) -> usize
     ensures { λ r. ⌜ r ≤ length (now (out .entry)) ⌝ }
 {
@@ -379,6 +379,12 @@ fn call_of(line: &[u8]) -> u8 {
         return 6;
     }
     if is_call(name, b"tsp01", n, 2) {
+        return 7;
+    }
+    if is_call(name, b"spt", n, 2) {
+        return 6;
+    }
+    if is_call(name, b"tsp", n, 2) {
         return 7;
     }
     0
