@@ -1,7 +1,5 @@
 pub mod Answers
 pub mod Values
-pub mod Behind
-pub mod Fits
 pub mod Orders
 pub mod Compare
 pub mod Raise
@@ -10,16 +8,3 @@ pub mod Encoding
 pub mod Reading
 pub mod Walking
 pub mod Decoding
-pub mod BigEndian
-pub mod Inverse
-pub mod Ordered
-pub mod KeyLength
-pub mod Extensions
-pub mod Least
-pub mod Raised
-pub mod AboveLaws
-pub mod EntryLaws
-pub mod NextSubspace
-pub mod AreaLaws
-pub mod OnValues
-pub mod Examples

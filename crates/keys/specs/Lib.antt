@@ -1,7 +1,6 @@
 pub mod Refusal
 pub mod Path
 pub mod Above
-pub mod Least
 pub mod Subspace
 pub mod Entry
 pub mod Range
@@ -9,5 +8,3 @@ pub mod Range3d
 pub mod Area
 pub mod Encode
 pub mod Decode
-pub mod KeyOrder
-pub mod Examples

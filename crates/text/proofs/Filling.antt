@@ -12,7 +12,7 @@ use Rattle.laws.specs.Lists.{put}
 use Rattle.laws.proofs.Lists.{length-put, wrote-first, wrote-last, put-snoc, put-zeros}
 use Rattle.keys.specs.Path.{field, Components, joined, endsFrom, valueOf, pathOf}
 use Rattle.keys.specs.declared.path.Path.{Path}
-use Rattle.keys.proofs.Fits.{fitting}
+use Rattle.key_laws.proofs.Fits.{fitting}
 use Rattle.keys.proofs.Values.{joined-more, ends-more, ends-length}
 use Rattle.text.specs.PathField.{counted, PutIf}
 use Rattle.text.specs.declared.path.Count.the-variants.{Is, Over}

@@ -10,7 +10,7 @@ use lib.ListN.{length, getD}
 use Rattle.laws.specs.Sorted.{all}
 use Rattle.laws.proofs.Truth.{clash, and-true, alike, split}
 use Rattle.keys.specs.Path.{field, isPath, joined, pathOf}
-use Rattle.keys.proofs.Fits.{isByte, path-fits, fits-path}
+use Rattle.key_laws.proofs.Fits.{isByte, path-fits, fits-path}
 use Rattle.text.specs.Hex.{digitValue, isDigit, isHex, hexOf}
 use Rattle.text.specs.Fields.{fields}
 use Rattle.text.specs.PathField.{dash, dot, slash, isOnly, isComponentField, isPathField, componentsOf, emptyPath, placed, pathField, fieldsFit}

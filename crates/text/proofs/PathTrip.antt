@@ -10,7 +10,7 @@ use lib.ListN.{length, getD}
 use Rattle.laws.specs.Sorted.{all}
 use Rattle.laws.proofs.Truth.{split, clash, refute, and-true, not-true}
 use Rattle.keys.specs.Path.{field, Component, Components, isComponent, isPath, joined, pathOf}
-use Rattle.keys.proofs.Fits.{isByte, fitting, path-fits}
+use Rattle.key_laws.proofs.Fits.{isByte, fitting, path-fits}
 use Rattle.text.specs.Hex.{hexOf, hexDigit, hexText}
 use Rattle.text.specs.Fields.{fields, onFirst}
 use Rattle.text.specs.PathField.{dash, dot, slash, isOnly, isComponentField, emptyPath, fieldsFit, pathField}

@@ -9,7 +9,7 @@ use borrow.Author.Tests.{lt-ltb, le-ltb, ltb-true, ltb-false}
 use lib.ListN.{length, getD, length-append, List·getD-append}
 use Rattle.laws.specs.Sorted.{all}
 use Rattle.laws.proofs.Truth.{split, and-true}
-use Rattle.keys.proofs.Fits.{isByte}
+use Rattle.key_laws.proofs.Fits.{isByte}
 use Rattle.text.specs.Hex.{digitValue, isDigit, isHex, hexOf, hexDigit, hexByte, hexText, byteRead}
 use Rattle.text.specs.Decimal.{isPlain, numberFrom, numberRead, digits, decimalText}
 use Rattle.text.specs.declared.hex.ByteRead.the-variants as byte

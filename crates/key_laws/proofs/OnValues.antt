@@ -4,18 +4,18 @@ use mathlib.Core.Path.{_≡_, refl, ap, subst}
 use mathlib.Core.Bool.{true, false}
 use mathlib.Core.Option.{Option, some, none}
 use lib.ListN.{length}
 use Rattle.keys.specs.Path.{Figures, Components, components, legal, isPath, pathOf}
 use Rattle.keys.specs.Above.{above}
-use Rattle.keys.specs.Least.{Beyond, LeastAbove}
+use Rattle.key_laws.specs.Least.{Beyond, LeastAbove}
 use Rattle.keys.specs.Encode.{triple, sptKey, tspKey}
 use Rattle.keys.specs.Decode.{took, readSpt, readTsp, decoded}
-use Rattle.keys.specs.KeyOrder.{Sized}
+use Rattle.key_laws.specs.KeyOrder.{Sized}
 use Rattle.keys.specs.declared.path.Path.{Path}
 use Rattle.keys.specs.declared.parameters.Subspace.{Subspace}
 use Rattle.keys.specs.declared.decode.Decoded.{Decoded}
-use Rattle.keys.proofs.Fits.{Bytes, legal-fits, legal-of}
-use Rattle.keys.proofs.Inverse.{spt-back, tsp-back}
-use Rattle.keys.proofs.AboveLaws.{above-least}
+use Rattle.key_laws.proofs.Fits.{Bytes, legal-fits, legal-of}
+use Rattle.key_laws.proofs.Inverse.{spt-back, tsp-back}
+use Rattle.key_laws.proofs.AboveLaws.{above-least}
 
 -- A path value as the language has it: at least the figures' bytes, each below 256.
 module _ (f : Figures) (p : Path) (room : f .mpl ≤ length (p .bytes)) (bytes : Bytes (p .bytes)) (h : legal f p ≡ true) where

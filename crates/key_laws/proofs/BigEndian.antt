@@ -8,11 +8,11 @@ use native.Mathlib.Nat.{one-le-pow, zero-add, zero-mul, mod-eq-of-lt, pow-succ',
 use lib.Arith.{mod-mul, digits-div, digits-mod, digits-lt}
 use lib.ListN.{length, take, drop, length-drop}
 use lib.Seq.{take-at, drop-at, take-add, length-take-le}
 use Rattle.keys.specs.Encode.{be, subspaceKey}
 use Rattle.keys.specs.Decode.{numberFrom, number, subspaceAt}
 use Rattle.keys.specs.declared.parameters.Subspace.{Subspace}
 use Rattle.keys.proofs.Encoding.{be-length}
-use Rattle.keys.proofs.Fits.{Bytes, bytes-take, bytes-drop}
+use Rattle.key_laws.proofs.Fits.{Bytes, bytes-take, bytes-drop}
 
 -- What is written is read back.
 number-be : (a n x : ℕ) → numberFrom a (be n x) ≡ a * 256 ^ n + x % 256 ^ n

@@ -9,21 +9,21 @@ use lib.ListN.{length}
 use Rattle.laws.specs.Order.{isLess}
 use Rattle.laws.proofs.Truth.{refute}
 use Rattle.laws.proofs.Order.{is-less}
 use Rattle.keys.specs.Path.{Figures, Components, components, legal, isPath, byComponents}
 use Rattle.keys.specs.Above.{above}
-use Rattle.keys.specs.Least.{endOf}
+use Rattle.key_laws.specs.Least.{endOf}
 use Rattle.keys.specs.Subspace.{firstSubspace, bySubspace}
 use Rattle.keys.specs.Range.{includes, beforeEnd, subspacesEnd, pathsEnd, subspacesInclude, pathsInclude, timesInclude}
 use Rattle.keys.specs.Range3d.{rangeIncludes}
 use Rattle.keys.specs.Area.{areaSubspace, areaIncludes, subspacesOf, pathsUpTo, areaRange}
 use Rattle.keys.specs.declared.path.Path.{Path}
 use Rattle.keys.specs.declared.parameters.Subspace.{Subspace}
 use Rattle.keys.specs.declared.area.AreaSubspace.{AreaSubspace}
 use Rattle.keys.specs.declared.area.AreaSubspace.the-variants.{Any, Id}
 use Rattle.keys.specs.declared.area.Area.{Area}
-use Rattle.keys.proofs.Fits.{Bytes, components-of, legal-fits}
-use Rattle.keys.proofs.AboveLaws.{above-splits}
-use Rattle.keys.proofs.NextSubspace.{Words, less-cases, next-splits}
+use Rattle.key_laws.proofs.Fits.{Bytes, components-of, legal-fits}
+use Rattle.key_laws.proofs.AboveLaws.{above-splits}
+use Rattle.key_laws.proofs.NextSubspace.{Words, less-cases, next-splits}
 
 -- The halves of an area's subspace, if it has one, are 64-bit numbers.
 abbrev pub AreaWords : AreaSubspace → Type 0

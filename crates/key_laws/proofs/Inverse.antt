@@ -12,15 +12,15 @@ use lib.ListN.{length, take, drop, length-append, length-drop, take-append-drop}
 use lib.Seq.{take-all, drop-at, take-add, drop-append-seam, drop-drop}
 use Rattle.laws.specs.Sorted.{all}
 use Rattle.laws.proofs.Truth.{clash, and-true}
 use Rattle.keys.specs.Path.{Figures, Component, Components, isPath}
 use Rattle.keys.specs.Encode.{escaped, componentKey, pathKey, pathEnd, be, subspaceKey, Triple, sptKey, tspKey}
 use Rattle.keys.specs.Decode.{Taken, refused, took, more, bind, tokenOf, mark, endsPath, readComponent, readComponents, readPath, number, subspaceAt, readSpt, readTsp}
-use Rattle.keys.specs.KeyOrder.{Sized}
+use Rattle.key_laws.specs.KeyOrder.{Sized}
 use Rattle.keys.proofs.Encoding.{be-length, subspace-length}
-use Rattle.keys.proofs.Fits.{Bytes, isByte, bytes-all, bytes-take, bytes-drop, fitting, path-fits, fits-path}
-use Rattle.keys.proofs.BigEndian.{number-back, subspace-back, number-forth, number-sized, subspace-forth}
+use Rattle.key_laws.proofs.Fits.{Bytes, isByte, bytes-all, bytes-take, bytes-drop, fitting, path-fits, fits-path}
+use Rattle.key_laws.proofs.BigEndian.{number-back, subspace-back, number-forth, number-sized, subspace-forth}
 use Rattle.keys.proofs.Walking.{path-ends, path-goes}
 use Rattle.keys.proofs.Decoding.{whole-took, whole-is}
 
 -- A component and a path that are written are read back.
 component-back : (lim : ℕ) (c r : List ℕ) → length c ≤ lim → readComponent lim (componentKey c ++ r) ≡ took c (length (componentKey c))

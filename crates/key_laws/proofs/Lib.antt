@@ -1,0 +1,15 @@
+pub mod Behind
+pub mod Fits
+pub mod BigEndian
+pub mod Inverse
+pub mod Ordered
+pub mod KeyLength
+pub mod Extensions
+pub mod Least
+pub mod Raised
+pub mod AboveLaws
+pub mod EntryLaws
+pub mod NextSubspace
+pub mod AreaLaws
+pub mod OnValues
+pub mod Examples
