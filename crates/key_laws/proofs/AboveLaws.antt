@@ -13,11 +13,11 @@ use Rattle.laws.specs.Sorted.{all}
 use Rattle.laws.proofs.Truth.{clash, and-true}
 use Rattle.laws.proofs.Order.{less-same, less-greater, three, less-is-greater}
 use Rattle.laws.proofs.Prefix.{prefix-refl}
-use Rattle.keys.specs.Path.{Figures, Component, Components, joined, isComponent, isPath, sameComponent, byBytes, byComponents, isPrefix}
-use Rattle.keys.specs.Above.{raised, aboveIn, above}
-use Rattle.keys.specs.Range.{includes}
+use Rattle.data_model.specs.Path.{Figures, Component, Components, joined, isComponent, isPath, sameComponent, byBytes, byComponents, isPrefix}
+use Rattle.data_model.specs.Above.{raised, aboveIn, above}
+use Rattle.data_model.specs.Range.{includes}
 use Rattle.key_laws.specs.Least.{Least, Beyond, LeastAbove, endOf}
-use Rattle.keys.proofs.Orders.{bytes-linear, path-linear, component-equality, extensions-after, extensions-between}
+use Rattle.data_model.proofs.Orders.{bytes-linear, path-linear, component-equality, extensions-after, extensions-between}
 use Rattle.key_laws.proofs.Least.{least-same, least-includes, Past, past-none, past-step}
 use Rattle.key_laws.proofs.Raised.{Short, raised-least}
 

@@ -9,19 +9,20 @@ use lib.ListN.{length}
 use Rattle.laws.specs.Order.{isLess}
 use Rattle.laws.proofs.Truth.{refute}
 use Rattle.laws.proofs.Order.{is-less}
-use Rattle.keys.specs.Path.{Figures, Components, components, legal, isPath, byComponents}
-use Rattle.keys.specs.Above.{above}
+use Rattle.data_model.specs.Path.{Figures, Components, components, legal, isPath, byComponents}
+use Rattle.data_model.specs.Above.{above}
 use Rattle.key_laws.specs.Least.{endOf}
-use Rattle.keys.specs.Subspace.{firstSubspace, bySubspace}
-use Rattle.keys.specs.Range.{includes, beforeEnd, subspacesEnd, pathsEnd, subspacesInclude, pathsInclude, timesInclude}
-use Rattle.keys.specs.Range3d.{rangeIncludes}
-use Rattle.keys.specs.Area.{areaSubspace, areaIncludes, subspacesOf, pathsUpTo, areaRange}
-use Rattle.keys.specs.declared.path.Path.{Path}
-use Rattle.keys.specs.declared.parameters.Subspace.{Subspace}
-use Rattle.keys.specs.declared.area.AreaSubspace.{AreaSubspace}
-use Rattle.keys.specs.declared.area.AreaSubspace.the-variants.{Any, Id}
-use Rattle.keys.specs.declared.area.Area.{Area}
-use Rattle.key_laws.proofs.Fits.{Bytes, components-of, legal-fits}
+use Rattle.data_model.specs.Subspace.{firstSubspace, bySubspace}
+use Rattle.data_model.specs.Range.{includes, beforeEnd, subspacesEnd, pathsEnd, subspacesInclude, pathsInclude, timesInclude}
+use Rattle.data_model.specs.Range3d.{rangeIncludes}
+use Rattle.data_model.specs.Area.{areaSubspace, areaIncludes, subspacesOf, pathsUpTo, areaRange}
+use Rattle.data_model.specs.declared.path.Path.{Path}
+use Rattle.data_model.specs.declared.parameters.Subspace.{Subspace}
+use Rattle.data_model.specs.declared.area.AreaSubspace.{AreaSubspace}
+use Rattle.data_model.specs.declared.area.AreaSubspace.the-variants.{Any, Id}
+use Rattle.data_model.specs.declared.area.Area.{Area}
+use Rattle.key_laws.specs.Bytes.{Bytes}
+use Rattle.key_laws.proofs.Fits.{components-of, legal-fits}
 use Rattle.key_laws.proofs.AboveLaws.{above-splits}
 use Rattle.key_laws.proofs.NextSubspace.{Words, less-cases, next-splits}
 

@@ -10,9 +10,9 @@ use lib.ListN.{take, drop}
 use lib.Seq.{take-take}
 use borrow.Author.Tests.{leb-true}
 use Rattle.laws.proofs.Truth.{split, and-true}
-use Rattle.keys.specs.Path.{Figures, Components, cut, components, legalEnds, legal, lastEnd}
-use Rattle.keys.specs.declared.path.Path.{Path}
-use Rattle.keys.proofs.Values.{legal-these, last-within}
+use Rattle.data_model.specs.Path.{Figures, Components, cut, components, legalEnds, legal, lastEnd}
+use Rattle.data_model.specs.declared.path.Path.{Path}
+use Rattle.data_model.proofs.Values.{legal-these, last-within}
 
 -- The last end that counts, and 0 if none does.
 abbrev pub total : Path → ℕ

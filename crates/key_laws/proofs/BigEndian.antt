@@ -10,9 +10,10 @@ use lib.ListN.{length, take, drop, length-drop}
 use lib.Seq.{take-at, drop-at, take-add, length-take-le}
 use Rattle.keys.specs.Encode.{be, subspaceKey}
 use Rattle.keys.specs.Decode.{numberFrom, number, subspaceAt}
-use Rattle.keys.specs.declared.parameters.Subspace.{Subspace}
+use Rattle.data_model.specs.declared.parameters.Subspace.{Subspace}
 use Rattle.keys.proofs.Encoding.{be-length}
-use Rattle.key_laws.proofs.Fits.{Bytes, bytes-take, bytes-drop}
+use Rattle.key_laws.specs.Bytes.{Bytes}
+use Rattle.key_laws.proofs.Fits.{bytes-take, bytes-drop}
 
 -- What is written is read back.
 number-be : (a n x : ℕ) → numberFrom a (be n x) ≡ a * 256 ^ n + x % 256 ^ n

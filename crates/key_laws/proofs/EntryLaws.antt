@@ -8,10 +8,10 @@ use Rattle.laws.specs.Prefix.{sameNumber, sameList}
 use Rattle.laws.proofs.Truth.{split, clash, refute, and-true}
 use Rattle.laws.proofs.Order.{below-strict, below-total}
 use Rattle.laws.proofs.Prefix.{prefix-refl, prefix-trans}
-use Rattle.keys.specs.Path.{sameComponent, isPrefix}
-use Rattle.keys.specs.Subspace.{sameSubspace}
-use Rattle.keys.specs.Entry.{Entry, byRank, newer, covers, prunes}
-use Rattle.keys.proofs.Orders.{component-equality, subspace-equality, rank-linear}
+use Rattle.data_model.specs.Path.{sameComponent, isPrefix}
+use Rattle.data_model.specs.Subspace.{sameSubspace}
+use Rattle.data_model.specs.Entry.{Entry, byRank, newer, covers, prunes}
+use Rattle.data_model.proofs.Orders.{component-equality, subspace-equality, rank-linear}
 
 -- Newer: greater in rank, which is timestamp, digest and length.
 newer-below : (a b : Entry) → newer a b ≡ below byRank (b .rank) (a .rank)

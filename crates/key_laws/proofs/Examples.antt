@@ -3,11 +3,11 @@
 use mathlib.Core.Path.{refl}
 use Rattle.laws.specs.Order.{isLess, byNumber, byElements}
 use Rattle.laws.specs.Prefix.{sameNumber, sameList, prefixOf}
-use Rattle.keys.specs.Path.{cut, components, legalEnds, legal, joined, endsFrom, valueOf, pathOf}
-use Rattle.keys.specs.Above.{orElse, raisedByte, raisedBytes, raised, aboveIn, above}
+use Rattle.data_model.specs.Path.{cut, components, legalEnds, legal, joined, endsFrom, valueOf, pathOf}
+use Rattle.data_model.specs.Above.{orElse, raisedByte, raisedBytes, raised, aboveIn, above}
 use Rattle.keys.specs.Encode.{escaped, componentKey, pathKey}
-use Rattle.keys.specs.Range.{includes, beforeEnd, timesEnd, timesInclude}
-use Rattle.keys.specs.Area.{pathsUpTo, areaRange}
+use Rattle.data_model.specs.Range.{includes, beforeEnd, timesEnd, timesInclude}
+use Rattle.data_model.specs.Area.{pathsUpTo, areaRange}
 use Rattle.key_laws.specs.Examples.{Examples}
 use Rattle.key_laws.proofs.EntryLaws.{newer-neither}
 

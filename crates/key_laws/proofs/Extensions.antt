@@ -6,11 +6,11 @@ use Prim.Native.Nat.{ℕ, _<_}
 use mathlib.Core.Logic.{⊎-elim}
 use Rattle.laws.specs.Order.{Order, less, same, greater, _then_, byNumber}
 use Rattle.laws.proofs.Order.{three, less-same, less-greater, then-less, then-same, then-less-view, number-is-less, greater-less}
-use Rattle.keys.specs.Path.{byBytes, byComponents, isPrefix}
-use Rattle.keys.specs.Subspace.{bySubspace}
+use Rattle.data_model.specs.Path.{byBytes, byComponents, isPrefix}
+use Rattle.data_model.specs.Subspace.{bySubspace}
 use Rattle.keys.specs.Encode.{Triple, sptKey}
 use Rattle.key_laws.specs.KeyOrder.{sptOrder, Sized}
-use Rattle.keys.proofs.Orders.{subspace-linear, extensions-after, extensions-between}
+use Rattle.data_model.proofs.Orders.{subspace-linear, extensions-after, extensions-between}
 use Rattle.key_laws.proofs.Ordered.{spt-ordered}
 
 -- A triple of the subspace whose path is the first one's or prefixed by it.

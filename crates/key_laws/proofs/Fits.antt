@@ -1,6 +1,6 @@
 -- Components that make a path: the components of a legal path value do, and the value of components that do is legal and has them.
 -- Assumes nothing.
-use Prim.Native.Nat.{ℕ, zero, suc, _+_, _-_, _≤_, _<_, min}
+use Prim.Native.Nat.{ℕ, zero, suc, _+_, _-_, _≤_, min}
 use mathlib.Core.Path.{_≡_, refl, sym, ap, _∙_}
 use mathlib.Core.List.{List, [], _∷_, _++_, append-assoc}
 use mathlib.Core.Bool.{Bool, true, false, _&&_}
@@ -8,18 +8,15 @@ use native.Mathlib.Omega.{arith}
 use native.Mathlib.Nat.{sub-zero}
 use lib.Dec.{leb, ltb}
 use borrow.Author.Tests.{le-leb, leb-true, lt-ltb}
-use lib.ListN.{length, take, drop, getD, replicate, length-append, length-take}
+use lib.ListN.{length, take, drop, replicate, length-append, length-take}
 use lib.Seq.{take-at, drop-at, getD-drop}
 use Rattle.laws.specs.Lists.{piece}
 use Rattle.laws.specs.Sorted.{all}
 use Rattle.laws.proofs.Truth.{clash, and-true}
-use Rattle.keys.specs.Path.{Figures, field, Component, Components, cut, components, joined, endsFrom, legalEnds, legal, isComponent, isPath, valueOf, pathOf}
-use Rattle.keys.specs.declared.path.Path.{Path}
-use Rattle.keys.proofs.Values.{ends-top, length-piece, legal-count, legal-these, ends-length}
-
--- Bytes, as the elements of a slice are known to be.
-abbrev pub Bytes : List ℕ → Type 0
-Bytes k = (i : ℕ) → getD k i 0 < 256
+use Rattle.data_model.specs.Path.{Figures, field, Component, Components, cut, components, joined, endsFrom, legalEnds, legal, isComponent, isPath, valueOf, pathOf}
+use Rattle.data_model.specs.declared.path.Path.{Path}
+use Rattle.data_model.proofs.Values.{ends-top, length-piece, legal-count, legal-these, ends-length}
+use Rattle.key_laws.specs.Bytes.{Bytes}
 
 abbrev pub isByte : ℕ → Bool
 isByte b = ltb b 256

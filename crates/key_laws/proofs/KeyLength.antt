@@ -10,8 +10,8 @@ use borrow.Author.Tests.{leb-true}
 use lib.ListN.{length, replicate, length-append}
 use Rattle.laws.specs.Sorted.{all}
 use Rattle.laws.proofs.Truth.{and-true}
-use Rattle.keys.specs.Path.{Figures, field, Components, joined, isComponent, isPath}
-use Rattle.keys.specs.Subspace.{firstSubspace}
+use Rattle.data_model.specs.Path.{Figures, field, Components, joined, isComponent, isPath}
+use Rattle.data_model.specs.Subspace.{firstSubspace}
 use Rattle.keys.specs.Encode.{escaped, componentKey, pathKey, be, subspaceKey, Triple, triple, sptKey, tspKey, pathKeyMost, keyMost}
 use Rattle.keys.proofs.Encoding.{component-most, be-length, subspace-length}
 

@@ -10,8 +10,8 @@ use Rattle.laws.specs.Prefix.{Equality, prefixOf}
 use Rattle.laws.proofs.Truth.{split, clash, refute, and-true, not-true, alike}
 use Rattle.laws.proofs.Order.{less-same, less-greater, three, is-less, greater-less, then-less, then-same, then-greater, then-less-view, less-is-greater}
 use Rattle.laws.proofs.Prefix.{prefix-tail, prefix-cons}
-use Rattle.keys.specs.Above.{orElse}
-use Rattle.keys.specs.Range.{beforeEnd, includes}
+use Rattle.data_model.specs.Above.{orElse}
+use Rattle.data_model.specs.Range.{beforeEnd, includes}
 use Rattle.key_laws.specs.Least.{Least, endOf}
 
 -- The least of those that are the same.

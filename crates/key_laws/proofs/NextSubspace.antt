@@ -11,11 +11,11 @@ use borrow.Author.Tests.{ltb-true, ltb-false}
 use Rattle.laws.specs.Order.{less, same, byNumber}
 use Rattle.laws.proofs.Truth.{split}
 use Rattle.laws.proofs.Order.{less-same, then-less-view, then-less, then-same, number-is-less, number-is-same, number-less, number-same}
-use Rattle.keys.specs.Subspace.{sameSubspace, bySubspace, nextSubspace}
-use Rattle.keys.specs.Range.{includes, subspacesEnd}
+use Rattle.data_model.specs.Subspace.{sameSubspace, bySubspace, nextSubspace}
+use Rattle.data_model.specs.Range.{includes, subspacesEnd}
 use Rattle.key_laws.specs.Least.{First, Least, endOf}
-use Rattle.keys.specs.declared.parameters.Subspace.{Subspace}
-use Rattle.keys.proofs.Orders.{subspace-linear, subspace-equality}
+use Rattle.data_model.specs.declared.parameters.Subspace.{Subspace}
+use Rattle.data_model.proofs.Orders.{subspace-linear, subspace-equality}
 use Rattle.key_laws.proofs.Least.{least-includes}
 
 -- Both halves are 64-bit numbers.

@@ -4,16 +4,17 @@ use mathlib.Core.Path.{_≡_, refl, ap, subst}
 use mathlib.Core.Bool.{true, false}
 use mathlib.Core.Option.{Option, some, none}
 use lib.ListN.{length}
-use Rattle.keys.specs.Path.{Figures, Components, components, legal, isPath, pathOf}
-use Rattle.keys.specs.Above.{above}
+use Rattle.data_model.specs.Path.{Figures, Components, components, legal, isPath, pathOf}
+use Rattle.data_model.specs.Above.{above}
 use Rattle.key_laws.specs.Least.{Beyond, LeastAbove}
 use Rattle.keys.specs.Encode.{triple, sptKey, tspKey}
 use Rattle.keys.specs.Decode.{took, readSpt, readTsp, decoded}
 use Rattle.key_laws.specs.KeyOrder.{Sized}
-use Rattle.keys.specs.declared.path.Path.{Path}
-use Rattle.keys.specs.declared.parameters.Subspace.{Subspace}
+use Rattle.data_model.specs.declared.path.Path.{Path}
+use Rattle.data_model.specs.declared.parameters.Subspace.{Subspace}
 use Rattle.keys.specs.declared.decode.Decoded.{Decoded}
-use Rattle.key_laws.proofs.Fits.{Bytes, legal-fits, legal-of}
+use Rattle.key_laws.specs.Bytes.{Bytes}
+use Rattle.key_laws.proofs.Fits.{legal-fits, legal-of}
 use Rattle.key_laws.proofs.Inverse.{spt-back, tsp-back}
 use Rattle.key_laws.proofs.AboveLaws.{above-least}
 

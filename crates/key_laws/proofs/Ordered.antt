@@ -8,8 +8,8 @@ use native.Mathlib.Nat.{mul-le-mul-right, mod-eq-of-lt, mod-lt, one-le-pow, pow-
 use lib.Arith.{mod-mul}
 use Rattle.laws.specs.Order.{Order, less, same, greater, _then_, byNumber, byElements}
 use Rattle.laws.proofs.Order.{then-assoc, then-end, then-less, then-same, then-greater, then-same-view, number-less, number-same, number-greater, Tri, under, equal, over, tri, number-linear, list-linear}
-use Rattle.keys.specs.Path.{Component, Components, byBytes, byComponents}
-use Rattle.keys.specs.Subspace.{bySubspace}
+use Rattle.data_model.specs.Path.{Component, Components, byBytes, byComponents}
+use Rattle.data_model.specs.Subspace.{bySubspace}
 use Rattle.keys.specs.Encode.{escaped, componentKey, pathKey, be, subspaceKey, Triple, sptKey, tspKey}
 use Rattle.key_laws.specs.KeyOrder.{Sized, sptOrder, tspOrder}
 

@@ -17,10 +17,10 @@ use Rattle.laws.specs.Sorted.{all}
 use Rattle.laws.proofs.Truth.{split, refute, and-true}
 use Rattle.laws.proofs.Order.{less-same, less-greater, three, then-less-view, then-same, then-greater, less-is-greater, number-is-less, number-is-same, number-less, number-same, number-linear}
 use Rattle.laws.proofs.Prefix.{number-equality, list-equality, prefix-take}
-use Rattle.keys.specs.Path.{Component, byBytes}
-use Rattle.keys.specs.Above.{raisedByte, raisedBytes, raised}
+use Rattle.data_model.specs.Path.{Component, byBytes}
+use Rattle.data_model.specs.Above.{raisedByte, raisedBytes, raised}
 use Rattle.key_laws.specs.Least.{Least}
-use Rattle.keys.proofs.Orders.{bytes-linear}
+use Rattle.data_model.proofs.Orders.{bytes-linear}
 use Rattle.key_laws.proofs.Least.{least-same, nil-first, Past, past-none, past-step}
 
 -- A byte: the next one, or none above ff.

@@ -5,16 +5,16 @@ use mathlib.Core.List.{List, [], _∷_, _++_}
 use mathlib.Core.Bool.{true, false}
 use lib.ListN.{length, replicate}
 use Rattle.laws.specs.Order.{less}
-use Rattle.keys.specs.Path.{field, Components, legal, pathOf, byComponents, isPrefix}
+use Rattle.data_model.specs.Path.{field, Components, legal, pathOf, byComponents, isPrefix}
 use Rattle.keys.specs.Encode.{pathKey}
-use Rattle.keys.specs.Entry.{Entry, newer}
-use Rattle.keys.specs.Range.{timesInclude}
-use Rattle.keys.specs.Area.{areaRange}
-use Rattle.keys.specs.declared.path.Path.{Path}
-use Rattle.keys.specs.declared.range.RangeEnd.the-variants as times
-use Rattle.keys.specs.declared.range.TimesRange.{TimesRange}
-use Rattle.keys.specs.declared.range.PathRange.{PathRange}
-use Rattle.keys.specs.declared.area.AreaSubspace.{AreaSubspace}
+use Rattle.data_model.specs.Entry.{Entry, newer}
+use Rattle.data_model.specs.Range.{timesInclude}
+use Rattle.data_model.specs.Area.{areaRange}
+use Rattle.data_model.specs.declared.path.Path.{Path}
+use Rattle.data_model.specs.declared.range.RangeEnd.the-variants as times
+use Rattle.data_model.specs.declared.range.TimesRange.{TimesRange}
+use Rattle.data_model.specs.declared.range.PathRange.{PathRange}
+use Rattle.data_model.specs.declared.area.AreaSubspace.{AreaSubspace}
 
 -- A path value with so many components that end there: 128 bytes, 8 ends.
 abbrev pub value : ℕ → List ℕ → Path

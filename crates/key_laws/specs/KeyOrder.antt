@@ -1,8 +1,8 @@
 -- The order of triples that the bytes of each key have. That they do is the theorems `spt-ordered` and `tsp-ordered`.
 use Prim.Native.Nat.{_<_, _^_}
 use Rattle.laws.specs.Order.{Order, _then_, byNumber}
-use Rattle.keys.specs.Path.{byComponents}
-use Rattle.keys.specs.Subspace.{bySubspace}
+use Rattle.data_model.specs.Path.{byComponents}
+use Rattle.data_model.specs.Subspace.{bySubspace}
 use Rattle.keys.specs.Encode.{Triple}
 
 -- A triple whose numbers are 64-bit numbers.

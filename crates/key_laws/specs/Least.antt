@@ -3,8 +3,8 @@ use mathlib.Core.Path.{_≡_}
 use mathlib.Core.Option.{Option, some, none}
 use mathlib.Core.Bool.{true, false}
 use Rattle.laws.specs.Order.{Order, less}
-use Rattle.keys.specs.Path.{Figures, Components, byComponents, isPrefix, isPath}
-use Rattle.keys.specs.Range.{End, closed, open-end}
+use Rattle.data_model.specs.Path.{Figures, Components, byComponents, isPrefix, isPath}
+use Rattle.data_model.specs.Range.{End, closed, open-end}
 
 module _ {A : Type 0} (o : A → A → Order) (Holds : A → Type 0) where
   -- Of all that something holds of, none is below it.

@@ -1,3 +1,4 @@
 pub mod Least
 pub mod KeyOrder
 pub mod Examples
+pub mod Bytes

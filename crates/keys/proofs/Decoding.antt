@@ -10,16 +10,16 @@ use lib.ListN.{length, drop, getD, replicate}
 use borrow.Author.Tests.{eq-eqb, ne-eqb, eqb-true}
 use Rattle.laws.proofs.Lists.{put-zeros}
 use Rattle.laws.specs.Lists.{put}
-use Rattle.keys.specs.Path.{Figures, field, Component, Components, joined, endsFrom, valueOf, pathOf}
+use Rattle.data_model.specs.Path.{Figures, field, Component, Components, joined, endsFrom, valueOf, pathOf}
 use Rattle.keys.specs.Encode.{Triple}
 use Rattle.keys.specs.Decode.{Taken, refused, took, bind, tokenOf, endsPath, readComponent, readPath, partOf, Filled, nextComponent, componentRead, pathRead, numberFrom, number, whole, decoded}
-use Rattle.keys.specs.declared.path.Path.{Path}
-use Rattle.keys.specs.declared.parameters.Subspace.{Subspace}
+use Rattle.data_model.specs.declared.path.Path.{Path}
+use Rattle.data_model.specs.declared.parameters.Subspace.{Subspace}
 use Rattle.keys.specs.declared.decode.Part.the-variants as part
 use Rattle.keys.specs.declared.decode.Next.the-variants as next
 use Rattle.keys.specs.declared.decode.PathRead.{PathRead}
 use Rattle.keys.specs.declared.decode.Decoded.{Decoded}
-use Rattle.keys.proofs.Values.{ends-length}
+use Rattle.data_model.proofs.Values.{ends-length}
 use Rattle.keys.proofs.Walking.{PathFit, path-fit, path-empty}
 
 -- The next component: the path's end, a component, or neither.

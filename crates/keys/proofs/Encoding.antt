@@ -13,13 +13,13 @@ use lib.ListN.{length, take, drop, getD, drop-of-length-le, length-append, lengt
 use lib.Seq.{drop-cons}
 use Rattle.laws.specs.Lists.{piece, put}
 use Rattle.laws.proofs.Truth.{and-true}
-use Rattle.keys.specs.Path.{Figures, cut, components, legal, legalEnds}
+use Rattle.data_model.specs.Path.{Figures, cut, components, legal, legalEnds}
 use Rattle.keys.specs.Encode.{escaped, componentKey, pathKey, componentEnd, pathEnd, be, subspaceKey, pathKeyMost, keyMost, roomy, encoded, encodedIn}
-use Rattle.keys.specs.Refusal.{shortBuffer, illegalPath}
-use Rattle.keys.specs.declared.path.Path.{Path}
-use Rattle.keys.specs.declared.parameters.Subspace.{Subspace}
+use Rattle.data_model.specs.Refusal.{shortBuffer, illegalPath}
+use Rattle.data_model.specs.declared.path.Path.{Path}
+use Rattle.data_model.specs.declared.parameters.Subspace.{Subspace}
 use Rattle.keys.specs.declared.encode.Encoded.the-variants.{Written, Refused}
-use Rattle.keys.proofs.Values.{cut-at, cut-done, legal-count, legal-these}
+use Rattle.data_model.proofs.Values.{cut-at, cut-done, legal-count, legal-these}
 
 -- An array of two.
 pub pair-is : (l : List ℕ) → length l ≡ 2 → l ≡ getD l 0 0 ∷ getD l 1 0 ∷ []

@@ -1,9 +1,3 @@
-pub mod Answers
-pub mod Values
-pub mod Orders
-pub mod Compare
-pub mod Raise
-pub mod RangeLaws
 pub mod Encoding
 pub mod Reading
 pub mod Walking

@@ -15,10 +15,10 @@ use Rattle.laws.specs.Lists.{put}
 use Rattle.laws.specs.Prefix.{sameNumber, sameList}
 use Rattle.laws.proofs.Truth.{clash}
 use Rattle.laws.proofs.Prefix.{number-equality, list-equality}
-use Rattle.keys.specs.Path.{sameComponent}
+use Rattle.data_model.specs.Path.{sameComponent}
 use Rattle.keys.specs.Encode.{escaped}
 use Rattle.keys.specs.Decode.{Taken, refused, took, more, mark, tokenOf, readComponent, partOf, Filled}
-use Rattle.keys.specs.Refusal.{noKey}
+use Rattle.data_model.specs.Refusal.{noKey}
 use Rattle.keys.specs.declared.decode.Token.{Token}
 use Rattle.keys.specs.declared.decode.Token.the-variants as token
 use Rattle.keys.specs.declared.decode.Part.the-variants as part

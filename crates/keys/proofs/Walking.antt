@@ -12,12 +12,12 @@ use lib.Seq.{drop-cons, set-append-seam, drop-drop}
 use borrow.Rule.Slice.PartMut.{putMid, midOf}
 use Rattle.laws.specs.Lists.{put}
 use Rattle.laws.proofs.Lists.{put-snoc, length-put, wrote-first, wrote-last}
-use Rattle.keys.specs.Path.{joined, endsFrom}
+use Rattle.data_model.specs.Path.{joined, endsFrom}
 use Rattle.keys.specs.Decode.{Taken, refused, took, more, bind, tokenOf, endsPath, readComponent, readComponents, partOf, Filled}
 use Rattle.keys.specs.declared.decode.Token.{Token}
 use Rattle.keys.specs.declared.decode.Token.the-variants as token
 use Rattle.keys.specs.declared.decode.Part.the-variants as part
-use Rattle.keys.proofs.Values.{joined-more, ends-more, ends-length}
+use Rattle.data_model.proofs.Values.{joined-more, ends-more, ends-length}
 use Rattle.keys.proofs.Reading.{Fit, component-fit, component-fits, TookIt, tokenSize, token-within, more-id, more-more, more-same}
 
 -- A loop that reads components: those read so far, in front of what reading on from `at` gives.

@@ -6,11 +6,11 @@ use mathlib.Core.Bool.{Bool, true, false, cond}
 use lib.ListN.{length, take, drop, replicate}
 use lib.Dec.{eqb}
 use Rattle.laws.specs.Lists.{put}
-use Rattle.keys.specs.Path.{Figures, field, Component, Components, pathOf}
-use Rattle.keys.specs.Subspace.{firstSubspace}
+use Rattle.data_model.specs.Path.{Figures, field, Component, Components, pathOf}
+use Rattle.data_model.specs.Subspace.{firstSubspace}
 use Rattle.keys.specs.Encode.{Triple}
-use Rattle.keys.specs.Refusal.{noKey}
-use Rattle.keys.specs.declared.parameters.Subspace.{Subspace}
+use Rattle.data_model.specs.Refusal.{noKey}
+use Rattle.data_model.specs.declared.parameters.Subspace.{Subspace}
 use Rattle.keys.specs.declared.decode.Token.{Token}
 use Rattle.keys.specs.declared.decode.Token.the-variants as token
 use Rattle.keys.specs.declared.decode.Part.{Part}

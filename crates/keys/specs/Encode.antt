@@ -5,9 +5,9 @@ use mathlib.Core.Bool.{Bool, true, false}
 use lib.ListN.{length}
 use lib.Dec.{leb}
 use Rattle.laws.specs.Lists.{put}
-use Rattle.keys.specs.Path.{Figures, Component, Components}
-use Rattle.keys.specs.Refusal.{shortBuffer, illegalPath}
-use Rattle.keys.specs.declared.parameters.Subspace.{Subspace}
+use Rattle.data_model.specs.Path.{Figures, Component, Components}
+use Rattle.data_model.specs.Refusal.{shortBuffer, illegalPath}
+use Rattle.data_model.specs.declared.parameters.Subspace.{Subspace}
 use Rattle.keys.specs.declared.encode.Encoded.{Encoded}
 use Rattle.keys.specs.declared.encode.Encoded.the-variants.{Written, Refused}
 

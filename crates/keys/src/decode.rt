@@ -1,18 +1,18 @@
 // Both keys of an entry, read: from a slice and a position.
-use crate::answer::NO_KEY;
 use crate::encode::COMPONENT_END;
 use crate::encode::ESCAPED_ZERO;
 use crate::encode::PATH_END;
 use crate::number::read_u64;
-use crate::parameters::Subspace;
-use crate::path::MCC;
-use crate::path::MCL;
-use crate::path::MPL;
-use crate::path::Path;
+use data_model::answer::NO_KEY;
+use data_model::parameters::Subspace;
+use data_model::path::MCC;
+use data_model::path::MCL;
+use data_model::path::MPL;
+use data_model::path::Path;
 ghost use mathlib.Core.Path.{_≡_};
 ghost use Prim.Native.Nat.{_≤_, min};
 ghost use lib.ListN.{length, drop};
-ghost use Rattle.keys.specs.Path.{field, sameComponent, joined, endsFrom};
+ghost use Rattle.data_model.specs.Path.{field, sameComponent, joined, endsFrom};
 ghost use Rattle.keys.specs.Encode.{escaped};
 ghost use Rattle.keys.specs.Decode.{tokenOf, endsPath, readComponent, readComponents, readPath, partOf, Filled, refused, componentRead, pathRead, subspaceAt, readSpt, readTsp, decoded};
 

@@ -1,17 +1,17 @@
 // Both keys of an entry, written (`encode_spt_entry_key` and `encode_tsp_entry_key` of the Rust).
-use crate::answer::ILLEGAL_PATH;
-use crate::answer::SHORT_BUFFER;
 use crate::number::write_u64;
-use crate::parameters::Subspace;
-use crate::path::MCC;
-use crate::path::MPL;
-use crate::path::Path;
+use data_model::answer::ILLEGAL_PATH;
+use data_model::answer::SHORT_BUFFER;
+use data_model::parameters::Subspace;
+use data_model::path::MCC;
+use data_model::path::MPL;
+use data_model::path::Path;
 ghost use mathlib.Core.Path.{_≡_};
 ghost use mathlib.Core.Bool.{true};
 ghost use Prim.Native.Nat.{_+_, _*_, _≤_};
 ghost use lib.ListN.{length};
 ghost use Rattle.laws.specs.Lists.{put};
-ghost use Rattle.keys.specs.Path.{field, cut, components, legal, legalEnds};
+ghost use Rattle.data_model.specs.Path.{field, cut, components, legal, legalEnds};
 ghost use Rattle.keys.specs.Encode.{escaped, componentKey, pathKey, subspaceKey, triple, sptKey, tspKey, pathKeyMost, keyMost, roomy, encoded, encodedIn};
 
 // A component ends 00 01, a path 00 00, and a component's byte 00 is written 00 02.

@@ -3,7 +3,7 @@ use mathlib.Core.Path.{_≡_, refl, sym, ap₂, subst}
 use mathlib.Core.Logic.{_⊎_, inl, inr, ⊎-elim, _↔_}
 use mathlib.Core.Bool.{Bool, true, false, cond, _&&_, _||_}
 use mathlib.Core.List.{List, [], _∷_, List·Memᴰ·head as here, List·Memᴰ·tail as there, List·Memᴰ·not-nil as none-in, List·Memᴰ·cases-cons as uncons}
-use Rattle.laws.specs.Sorted.{_∈_, any, all, keep, insert, Ascends}
+use Rattle.laws.specs.Sorted.{_∈_, any, all, keep, insert, ascending, Ascends}
 use Rattle.laws.proofs.Truth.{split, clash, refute, and-true}
 
 module _ {A : Type 0} where
@@ -113,3 +113,25 @@ module _ {A : Type 0} (p : A → Bool) (x : A) (l : List A) where
   keep-holds m = keep-view p l m .1
 
 pub ruleset members = (keep-in, keep-holds, keep-make, insert-new, insert-old, here, there)
+
+-- The test of neighbours and strict ascent say the same, if the test is transitive.
+module _ {A : Type 0} (test : A → A → Bool) where
+  pub ascending-ascends : ((a b c : A) → test a b ≡ true → test b c ≡ true → test a c ≡ true) → (l : List A) → ascending test l ≡ true → Ascends test l
+  unfolding ascending Ascends
+  ascending-ascends trans [] e = tt
+  ascending-ascends trans (a ∷ []) e = (λ x m. absurd (none-in m), tt)
+  ascending-ascends trans (a ∷ b ∷ l) e =
+      let k = and-true (test a b) (ascending test (b ∷ l)) e in
+      let s = ascending-ascends trans (b ∷ l) (k .1) in
+      (λ x m. ⊎-elim (λ q. cc) (λ n. trans a b x (k .0) (s .0 x n)) (uncons m), s)
+
+  pub ascends-ascending : (l : List A) → Ascends test l → ascending test l ≡ true
+  unfolding ascending Ascends
+  ascends-ascending [] s = refl
+  ascends-ascending (a ∷ []) s = refl
+  ascends-ascending (a ∷ b ∷ l) s = ap₂ _&&_ (s .0 b (here refl)) (ascends-ascending (b ∷ l) (s .1))
+
+pub all-make : {A : Type 0} (p : A → Bool) (l : List A) → ((x : A) → x ∈ l → p x ≡ true) → all p l ≡ true
+unfolding all
+all-make p [] h = refl
+all-make p (a ∷ l) h = ap₂ _&&_ (h a (here refl)) (all-make p l λ x m. h x (there m))

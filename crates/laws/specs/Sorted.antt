@@ -25,6 +25,12 @@ module _ {A : Type 0} where
   insert test e [] = e ∷ []
   insert test e (a ∷ l) = cond (test e a) (e ∷ a ∷ l) (a ∷ insert test e l)
 
+  -- Each element is below the next one: a test that looks at neighbours.
+  unfoldable pub ascending : (A → A → Bool) → List A → Bool
+  ascending test [] = true
+  ascending test (a ∷ []) = true
+  ascending test (a ∷ b ∷ l) = test a b && ascending test (b ∷ l)
+
   -- Each element is below every later one.
   unfoldable pub Ascends : (A → A → Bool) → List A → Type 0
   Ascends test [] = Unit {0}

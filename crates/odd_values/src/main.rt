@@ -1,17 +1,17 @@
 // Values that no line of text can say: garbage behind a path's count and total, ends that make no path, open ends with a
 // path that is none, key buffers one byte short. One answer a line, in the order of the file `stdout`.
-use keys::answer::Answer;
-use keys::area::Area;
-use keys::area::AreaSubspace;
+use data_model::answer::Answer;
+use data_model::area::Area;
+use data_model::area::AreaSubspace;
+use data_model::parameters::Subspace;
+use data_model::path::Path;
+use data_model::range::PathRange;
+use data_model::range::RangeEnd;
+use data_model::range::TimesRange;
+use data_model::range_3d::Range3d;
 use keys::encode::Encoded;
 use keys::encode::encode_spt_entry_key;
 use keys::encode::encode_tsp_entry_key;
-use keys::parameters::Subspace;
-use keys::path::Path;
-use keys::range::PathRange;
-use keys::range::RangeEnd;
-use keys::range::TimesRange;
-use keys::range_3d::Range3d;
 use libc::STDOUT_FILENO;
 
 fn say(name: &[u8], answer: &[u8]) {

@@ -1,12 +1,12 @@
 // Fields of a line that are more than a word: entries and areas. Each is bad, illegal or good as its fields are; the form of all
 // comes first.
-use keys::area::Area;
-use keys::area::AreaSubspace;
-use keys::entry::Entry;
-use keys::parameters::Subspace;
-use keys::path::Path;
-use keys::range::RangeEnd;
-use keys::range::TimesRange;
+use data_model::area::Area;
+use data_model::area::AreaSubspace;
+use data_model::entry::Entry;
+use data_model::parameters::Subspace;
+use data_model::path::Path;
+use data_model::range::RangeEnd;
+use data_model::range::TimesRange;
 use text::decimal::NumberRead;
 use text::decimal::read_number;
 use text::line::nth_field;
@@ -39,7 +39,7 @@ pub enum EndField {
 }
 
 pub fn is_word(f: &[u8], word: &[u8]) -> bool {
-    keys::checked::same_bytes(f, word)
+    data_model::checked::same_bytes(f, word)
 }
 
 // The k-th field of a line.

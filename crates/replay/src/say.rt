@@ -1,6 +1,6 @@
 // Pieces of an answer, written into a buffer from a place on. A piece that finds no room is left out; the place behind it is answered.
-use keys::parameters::Subspace;
-use keys::path::Path;
+use data_model::parameters::Subspace;
+use data_model::path::Path;
 ghost use Prim.Native.Nat.{_≤_};
 ghost use lib.ListN.{length};
 

@@ -10,10 +10,10 @@ use lib.ListN.{length, set, replicate, length-append, length-set}
 use borrow.Rule.Slice.PartMut.{putMid, midOf}
 use Rattle.laws.specs.Lists.{put}
 use Rattle.laws.proofs.Lists.{length-put, wrote-first, wrote-last, put-snoc, put-zeros}
-use Rattle.keys.specs.Path.{field, Components, joined, endsFrom, valueOf, pathOf}
-use Rattle.keys.specs.declared.path.Path.{Path}
+use Rattle.data_model.specs.Path.{field, Components, joined, endsFrom, valueOf, pathOf}
+use Rattle.data_model.specs.declared.path.Path.{Path}
 use Rattle.key_laws.proofs.Fits.{fitting}
-use Rattle.keys.proofs.Values.{joined-more, ends-more, ends-length}
+use Rattle.data_model.proofs.Values.{joined-more, ends-more, ends-length}
 use Rattle.text.specs.PathField.{counted, PutIf}
 use Rattle.text.specs.declared.path.Count.the-variants.{Is, Over}
 

@@ -9,7 +9,7 @@ use borrow.Author.Tests.{lt-ltb, le-ltb, ltb-true}
 use lib.ListN.{length, getD}
 use Rattle.laws.specs.Sorted.{all}
 use Rattle.laws.proofs.Truth.{clash, and-true, alike, split}
-use Rattle.keys.specs.Path.{field, isPath, joined, pathOf}
+use Rattle.data_model.specs.Path.{field, isPath, joined, pathOf}
 use Rattle.key_laws.proofs.Fits.{isByte, path-fits, fits-path}
 use Rattle.text.specs.Hex.{digitValue, isDigit, isHex, hexOf}
 use Rattle.text.specs.Fields.{fields}

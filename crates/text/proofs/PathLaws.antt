@@ -7,9 +7,9 @@ use native.Mathlib.Omega.{arith}
 use native.Mathlib.Nat.{sub-zero}
 use lib.ListN.{length, take, drop, getD, length-take}
 use Rattle.laws.specs.Lists.{piece}
-use Rattle.keys.specs.Path.{field, cut, components, legal, legalEnds}
-use Rattle.keys.specs.declared.path.Path.{Path}
-use Rattle.keys.proofs.Values.{cut-at, cut-done, legal-count, legal-these, ends-wider, NextEnd, next-end}
+use Rattle.data_model.specs.Path.{field, cut, components, legal, legalEnds}
+use Rattle.data_model.specs.declared.path.Path.{Path}
+use Rattle.data_model.proofs.Values.{cut-at, cut-done, legal-count, legal-these, ends-wider, NextEnd, next-end}
 use Rattle.text.specs.Hex.{hexText}
 use Rattle.text.specs.PathField.{dash, dot, slash}
 use Rattle.text.specs.PathText.{componentText, behindText, pathText}

@@ -9,7 +9,7 @@ use borrow.Author.Tests.{eq-eqb, ne-eqb, eqb-true}
 use lib.ListN.{length, getD}
 use Rattle.laws.specs.Sorted.{all}
 use Rattle.laws.proofs.Truth.{split, clash, refute, and-true, not-true}
-use Rattle.keys.specs.Path.{field, Component, Components, isComponent, isPath, joined, pathOf}
+use Rattle.data_model.specs.Path.{field, Component, Components, isComponent, isPath, joined, pathOf}
 use Rattle.key_laws.proofs.Fits.{isByte, fitting, path-fits}
 use Rattle.text.specs.Hex.{hexOf, hexDigit, hexText}
 use Rattle.text.specs.Fields.{fields, onFirst}

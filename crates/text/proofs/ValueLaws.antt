@@ -12,7 +12,7 @@ use Rattle.laws.specs.Sorted.{all}
 use Rattle.laws.proofs.Truth.{and-true}
 use Rattle.keys.specs.Encode.{subspaceKey}
 use Rattle.keys.specs.Decode.{subspaceAt}
-use Rattle.keys.specs.declared.parameters.Subspace.{Subspace}
+use Rattle.data_model.specs.declared.parameters.Subspace.{Subspace}
 use Rattle.text.specs.Hex.{isHex, hexOf, hexByte, hexText}
 use Rattle.text.specs.Value.{subspaceOf, subspaceField, noDigest, digestOf, digestField, isShort, subspaceText, isFill, digestText}
 use Rattle.text.specs.declared.value.SubspaceRead.the-variants.{Is, Bad}

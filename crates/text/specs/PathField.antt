@@ -7,7 +7,7 @@ use lib.ListN.{length}
 use lib.Dec.{eqb, ltb}
 use Rattle.laws.specs.Lists.{put}
 use Rattle.laws.specs.Sorted.{all}
-use Rattle.keys.specs.Path.{field, Components, isPath, pathOf}
+use Rattle.data_model.specs.Path.{field, Components, isPath, pathOf}
 use Rattle.key_laws.proofs.Fits.{fitting}
 use Rattle.text.specs.Hex.{isHex, hexOf}
 use Rattle.text.specs.Fields.{fields}

@@ -1,7 +1,7 @@
 -- Paths written, as they are read.
 use Prim.Native.Nat.{ℕ, _+_, _*_}
 use mathlib.Core.List.{List, [], _∷_, _++_}
-use Rattle.keys.specs.Path.{field, Component, Components}
+use Rattle.data_model.specs.Path.{field, Component, Components}
 use Rattle.text.specs.Hex.{hexText}
 use Rattle.text.specs.PathField.{dash, dot, slash}
 

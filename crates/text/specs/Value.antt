@@ -7,7 +7,7 @@ use lib.Dec.{eqb, ltb}
 use Rattle.laws.specs.Sorted.{all}
 use Rattle.keys.specs.Encode.{subspaceKey}
 use Rattle.keys.specs.Decode.{subspaceAt}
-use Rattle.keys.specs.declared.parameters.Subspace.{Subspace}
+use Rattle.data_model.specs.declared.parameters.Subspace.{Subspace}
 use Rattle.text.specs.Hex.{isHex, hexOf, hexByte, hexText}
 use Rattle.text.specs.declared.value.SubspaceRead.{SubspaceRead}
 use Rattle.text.specs.declared.value.SubspaceRead.the-variants.{Is, Bad}

@@ -1,12 +1,12 @@
 // Paths written, as they are read.
 use crate::hex::write_hex;
-use keys::path::Path;
+use data_model::path::Path;
 ghost use mathlib.Core.Path.{_≡_};
 ghost use mathlib.Core.Bool.{true};
 ghost use Prim.Native.Nat.{_+_, _*_, _≤_};
 ghost use lib.ListN.{length};
 ghost use Rattle.laws.specs.Lists.{put};
-ghost use Rattle.keys.specs.Path.{field, cut, components, legal, legalEnds};
+ghost use Rattle.data_model.specs.Path.{field, cut, components, legal, legalEnds};
 ghost use Rattle.text.specs.PathText.{componentText, behindText, pathText, pathTextMost};
 
 fn write_component(c: &[u8], out: &mut [u8]) -> usize

@@ -4,7 +4,7 @@ use mathlib.Core.Path.{_≡_, sym, ap, _∙_}
 use mathlib.Core.List.{List}
 use native.Mathlib.Omega.{arith}
 use lib.ListN.{length, drop, length-drop}
-use Rattle.keys.specs.Path.{field}
+use Rattle.data_model.specs.Path.{field}
 use Rattle.keys.specs.Decode.{pathRead, readPath, number, readSpt, decoded}
 use Rattle.keys.proofs.Reading.{rest}
 use Rattle.keys.proofs.Decoding.{path-taken, path-refused, next-fits, whole-refused, whole-other, whole-took, whole-short, decoded-took}

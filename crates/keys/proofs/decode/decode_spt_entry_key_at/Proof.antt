@@ -4,7 +4,7 @@ use mathlib.Core.List.{List}
 use Prim.Native.Nat.{ℕ}
 use native.Mathlib.Omega.{arith}
 use lib.ListN.{length, drop, length-drop}
-use Rattle.keys.specs.Path.{field}
+use Rattle.data_model.specs.Path.{field}
 use Rattle.keys.specs.Decode.{readSpt, decoded}
 use Rattle.keys.proofs.Reading.{rest}
 use Rattle.keys.proofs.Decoding.{whole-short}

@@ -7,10 +7,10 @@ use native.Mathlib.Omega.{arith}
 use native.Mathlib.Nat.{le-refl}
 use borrow.Author.Needs.{needs}
 use lib.ListN.{length, drop, getD}
-use Rattle.keys.specs.Path.{legalEnds, cut}
+use Rattle.data_model.specs.Path.{legalEnds, cut}
 use Rattle.keys.specs.Encode.{componentKey, pathKey, pathEnd}
 use Rattle.laws.proofs.Lists.{Wrote, wrote-none, wrote-lent, wrote-all, wrote-length}
-use Rattle.keys.proofs.Values.{next-end, NextEnd, length-piece, ends-top}
+use Rattle.data_model.proofs.Values.{next-end, NextEnd, length-piece, ends-top}
 use Rattle.laws.specs.Lists.{piece}
 use Rattle.keys.proofs.Encoding.{path-at, path-done, component-most}
 use Rattle.keys.proofs.encode.encode_components.Statement.{statement}

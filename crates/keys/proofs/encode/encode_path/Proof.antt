@@ -3,8 +3,8 @@ use mathlib.Core.Path.{_≡_, sym}
 use native.Mathlib.Omega.{arith}
 use lib.ListN.{length, take}
 use lib.Seq.{length-take-le}
-use Rattle.keys.specs.Path.{components, field}
-use Rattle.keys.proofs.Values.{legal-count, legal-these, ends-wider}
+use Rattle.data_model.specs.Path.{components, field}
+use Rattle.data_model.proofs.Values.{legal-count, legal-these, ends-wider}
 use borrow.Author.Needs.{needs}
 use Rattle.keys.proofs.encode.encode_path.Statement.{statement}
 use Rattle.keys.proofs.encode.encode_path.Tie as tie

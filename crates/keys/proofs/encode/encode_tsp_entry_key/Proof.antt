@@ -1,7 +1,7 @@
 -- `encode_tsp_entry_key` meets its contract: a way out for each answer. Assumes nothing.
 use mathlib.Core.Path.{sym, _∙_}
 use native.Mathlib.Omega.{arith}
-use Rattle.keys.specs.Path.{field}
+use Rattle.data_model.specs.Path.{field}
 use Rattle.keys.proofs.Encoding.{encode-short, encode-illegal, encode-done}
 use borrow.Author.Needs.{needs}
 use Rattle.keys.proofs.encode.encode_tsp_entry_key.Statement.{statement}

@@ -6,11 +6,11 @@ use native.Mathlib.Omega.{arith}
 use native.Mathlib.Nat.{le-refl}
 use lib.ListN.{length}
 use borrow.Rule.Slice.PartMut.{putMid}
-use Rattle.keys.specs.Path.{components, field}
+use Rattle.data_model.specs.Path.{components, field}
 use Rattle.keys.specs.Encode.{be, subspaceKey, pathKey, triple, sptKey}
 use Rattle.laws.proofs.Lists.{Wrote, wrote-first, wrote-lent, wrote-last}
 use Rattle.keys.proofs.Encoding.{be-length, subspace-length, legal-most}
-use Rattle.keys.proofs.Values.{length-piece}
+use Rattle.data_model.proofs.Values.{length-piece}
 use borrow.Author.Needs.{needs}
 use Rattle.keys.proofs.encode.write_spt_key.Statement.{statement}
 use Rattle.keys.proofs.encode.write_spt_key.Tie as tie

@@ -4,7 +4,7 @@ use mathlib.Core.Path.{_≡_, sym}
 use mathlib.Core.List.{_++_}
 use native.Mathlib.Omega.{arith}
 use lib.ListN.{length}
-use Rattle.keys.specs.Path.{components, field}
+use Rattle.data_model.specs.Path.{components, field}
 use Rattle.keys.specs.Encode.{be, subspaceKey, pathKey, tspKey}
 use Rattle.laws.proofs.Lists.{wrote-first, wrote-lent, wrote-last}
 use Rattle.keys.proofs.Encoding.{be-length, subspace-length, legal-most}

@@ -4,7 +4,7 @@ use Rattle.text.proofs.Lists.{lent-fits}
 use mathlib.Core.Path.{sym, _∙_}
 use native.Mathlib.Nat.{le-refl}
 use lib.ListN.{length}
-use Rattle.keys.proofs.Values.{length-piece}
+use Rattle.data_model.proofs.Values.{length-piece}
 use borrow.Author.Needs.{needs}
 use Rattle.replay.proofs.say.say_path.Statement.{statement}
 use Rattle.replay.proofs.say.say_path.Tie as tie

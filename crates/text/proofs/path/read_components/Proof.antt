@@ -8,7 +8,7 @@ use lib.ListN.{length, drop, set, length-set, length-map}
 use borrow.Rule.Slice.PartMut.{putMid}
 use Rattle.laws.specs.Lists.{piece}
 use Rattle.laws.specs.Sorted.{all}
-use Rattle.keys.proofs.Values.{length-piece}
+use Rattle.data_model.proofs.Values.{length-piece}
 use Rattle.text.specs.Hex.{hexOf}
 use Rattle.text.specs.Fields.{fields}
 use Rattle.text.specs.PathField.{slash, isComponentField}

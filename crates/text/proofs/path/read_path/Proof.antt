@@ -4,7 +4,7 @@ use mathlib.Core.Bool.{false, true}
 use lib.ListN.{length-map}
 use Rattle.laws.specs.Sorted.{all}
 use Rattle.laws.proofs.Truth.{not-true, not-false}
-use Rattle.keys.specs.declared.path.Path.{Path}
+use Rattle.data_model.specs.declared.path.Path.{Path}
 use Rattle.text.specs.Hex.{hexOf}
 use Rattle.text.specs.Fields.{fields}
 use Rattle.text.specs.PathField.{dash, slash, isOnly, isComponentField}

@@ -8,8 +8,8 @@ use native.Mathlib.Nat.{le-refl}
 use lib.ListN.{length, drop, getD, set, length-set}
 use Rattle.laws.specs.Lists.{piece}
 use Rattle.laws.proofs.Lists.{Wrote, wrote-none, wrote-lent, wrote-length, wrote-all}
-use Rattle.keys.specs.Path.{cut, legalEnds}
-use Rattle.keys.proofs.Values.{next-end, NextEnd, length-piece}
+use Rattle.data_model.specs.Path.{cut, legalEnds}
+use Rattle.data_model.proofs.Values.{next-end, NextEnd, length-piece}
 use Rattle.text.specs.PathField.{slash}
 use Rattle.text.specs.PathText.{componentText, behindText}
 use Rattle.text.proofs.Lists.{wrote-store}

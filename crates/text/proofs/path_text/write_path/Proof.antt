@@ -8,8 +8,8 @@ use lib.ListN.{length, take, getD}
 use lib.Seq.{length-take-le}
 use Rattle.laws.specs.Lists.{put, piece}
 use Rattle.laws.proofs.Lists.{put-sets, wrote-first, wrote-last}
-use Rattle.keys.specs.Path.{field, components, cut}
-use Rattle.keys.proofs.Values.{legal-count, length-piece}
+use Rattle.data_model.specs.Path.{field, components, cut}
+use Rattle.data_model.proofs.Values.{legal-count, length-piece}
 use Rattle.text.specs.PathText.{componentText, behindText, pathText}
 use borrow.Rule.Slice.PartMut.{putMid, midOf}
 use Rattle.text.proofs.Lists.{put-fits}

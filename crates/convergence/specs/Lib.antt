@@ -1,0 +1,6 @@
+pub mod History
+pub mod Conditions
+pub mod Demand
+pub mod Examination
+pub mod Examples
+pub mod WrongStores

@@ -1,0 +1,140 @@
+-- Demand 3 of any store that answers these calls, and the wrong stores of 01's marking rule c: `meets` proves it of ours, `shut-out` refutes
+-- it of each of these.
+use Prim.Native.Nat.{ℕ}
+use mathlib.Core.Path.{_≡_}
+use mathlib.Core.List.{List, [], _∷_, _++_}
+use mathlib.Core.Bool.{cond}
+use lib.Dec.{leb, eqb}
+use Rattle.laws.specs.Sorted.{_∈_, insert}
+use Rattle.data_model.specs.Path.{Figures, field}
+use Rattle.data_model.specs.Entry.{entryOf}
+use Rattle.tree.specs.Stored.{Stored}
+use Rattle.tree.specs.declared.stored.KeyOrder.{KeyOrder}
+use Rattle.tree.specs.declared.stored.KeyOrder.the-variants.{Spt, Tsp}
+use Rattle.store.specs.Store.{Store, held, holding}
+use Rattle.store.specs.Ingest.{tspLess, filing, filedIn, Decision, refuse, obsolete, take-it, judged, plainAnswer}
+use Rattle.store.specs.declared.ingest.IngestVerdict.{IngestVerdict}
+use Rattle.store.specs.declared.ingest.IngestVerdict.the-variants.{Success, Obsolete, Refused}
+use Rattle.convergence.specs.History.{Call, ingest, forget-entry, forget-area, Answer, of-ingest, of-entry, of-area, answer, after, Event, received, Ingestions, AreValues}
+use Rattle.convergence.specs.Demand.{Opening, opens, NotRefused, Plain, Contents, Within, SameBytes, RefusedRight, Sound}
+use Rattle.convergence.specs.Examples.{verdictIn}
+
+-- A store, by what it answers to a call and what the call leaves.
+pub record Steps : Type 0 where
+  pub answers : Store → Call → Answer
+  pub leaves : Store → Call → Store
+
+abbrev pub ours : Figures → Steps
+ours f = record { answers = answer f; leaves = after f }
+
+unfoldable pub historyOf : Steps → Store → List Call → List Event
+historyOf m s [] = []
+historyOf m s (c ∷ cs) = record { before = s; call = c; answered = m .answers s c } ∷ historyOf m (m .leaves s c) cs
+
+unfoldable pub leftBy : Steps → Store → List Call → Store
+leftBy m s [] = s
+leftBy m s (c ∷ cs) = leftBy m (m .leaves s c) cs
+
+-- The clauses of `Demand3` on contents, agreement, refusals and soundness, of such a store.
+pub record Clauses (f : Figures) (m : Steps) : Type 0 where
+  pub contents : (o : Opening) → NotRefused f o → (cs : List Call) → AreValues f cs → Ingestions cs → Plain (received (historyOf m (opens f o .store) cs))
+      → (k : KeyOrder) → Contents f k (leftBy m (opens f o .store) cs) (received (historyOf m (opens f o .store) cs))
+  pub agree : (o p : Opening) → NotRefused f o → NotRefused f p → o .namespace ≡ p .namespace → o .limit ≡ p .limit
+      → (cs ds : List Call) → AreValues f cs → AreValues f ds → Ingestions cs → Ingestions ds
+      → Plain (received (historyOf m (opens f o .store) cs) ++ received (historyOf m (opens f p .store) ds))
+      → Within (received (historyOf m (opens f o .store) cs)) (received (historyOf m (opens f p .store) ds))
+      → Within (received (historyOf m (opens f p .store) ds)) (received (historyOf m (opens f o .store) cs))
+      → SameBytes f (leftBy m (opens f o .store) cs) (leftBy m (opens f p .store) ds)
+  pub refused-right : (o : Opening) → NotRefused f o → (cs : List Call) → AreValues f cs → (e : Event) → e ∈ historyOf m (opens f o .store) cs → RefusedRight f o e
+  pub sound : (o : Opening) → NotRefused f o → (cs : List Call) → AreValues f cs → Sound f (leftBy m (opens f o .store) cs)
+
+-- And a refusal has one of 01's numbers: there is no refusal 0.
+pub record Meets (f : Figures) (m : Steps) : Type 0 where
+  pub clauses : Clauses f m
+  pub no-refusal-0 : (o : Opening) → NotRefused f o → (cs : List Call) → AreValues f cs → (e : Event) → e ∈ historyOf m (opens f o .store) cs
+      → verdictIn (e .answered) ≡ Refused 0 ∷ [] → ⊥
+
+-- Demand 2 of the answers: the definitions that the contracts cite.
+abbrev pub AnswersRight : Figures → Steps → Type 0
+AnswersRight f m = (s : Store) (c : Call) → m .answers s c ≡ answer f s c
+
+-- It answers as ours, and files nothing.
+abbrev pub files-nothing : Steps
+files-nothing = record { answers = answer field; leaves = λ s c. s }
+
+-- An answer with this verdict, to ingestions; forgetting as ours.
+unfoldable pub saying : IngestVerdict → Store → Call → Answer
+saying v s (ingest prune e token prevent) = of-ingest (plainAnswer v (s .state))
+saying v s (forget-entry subspace path expects digest) = answer field s (forget-entry subspace path expects digest)
+saying v s (forget-area area protects protected) = answer field s (forget-area area protects protected)
+
+-- It files its first entry and calls the rest obsolete.
+abbrev pub first-only : Steps
+first-only = record {
+  answers = λ s c. cond (eqb (s .state .count) 0) (answer field s c) (saying Obsolete s c);
+  leaves = λ s c. cond (eqb (s .state .count) 0) (after field s c) s;
+}
+
+-- It is full with one entry, whatever the limit.
+abbrev pub full-at-1 : Steps
+full-at-1 = record {
+  answers = λ s c. cond (leb 1 (s .state .count)) (saying (Refused 8) s c) (answer field s c);
+  leaves = λ s c. cond (leb 1 (s .state .count)) s (after field s c);
+}
+
+-- It gives one verdict to all, whatever it does: refusing everybody is one of these.
+abbrev pub one-verdict : IngestVerdict → (Store → Call → Store) → Steps
+one-verdict v does = record { answers = saying v; leaves = does }
+
+abbrev pub refuses-all : ℕ → Steps
+refuses-all n = one-verdict (Refused n) (λ s c. s)
+
+-- It refuses, without a number, whomever ours would not refuse, and files nothing.
+unfoldable pub unnumbered : IngestVerdict → IngestVerdict
+unnumbered (Success n) = Refused 0
+unnumbered Obsolete = Refused 0
+unnumbered (Refused n) = Refused n
+
+unfoldable pub hushed : Answer → Answer
+hushed (of-ingest r) = of-ingest (plainAnswer (unnumbered (r .verdict)) (r .state))
+hushed (of-entry r) = of-entry r
+hushed (of-area r) = of-area r
+
+abbrev pub silent : Steps
+silent = record { answers = λ s c. hushed (answer field s c); leaves = λ s c. s }
+
+-- It prunes the subspace-first tree only: the other one keeps ghosts.
+unfoldable pub halfFiled : Figures → Store → Stored → Decision → Store
+halfFiled f s x (refuse n) = s
+halfFiled f s x (obsolete y) = s
+halfFiled f s x take-it = holding f (record { spt = filedIn Spt x (held f Spt s); tsp = insert tspLess x (held f Tsp s) }) s
+
+unfoldable pub halfPruned : Figures → Store → Call → Store
+halfPruned f s (ingest prune e token prevent) = halfFiled f s (filing (entryOf e) token) (judged f s prune e prevent)
+halfPruned f s (forget-entry subspace path expects digest) = after f s (forget-entry subspace path expects digest)
+halfPruned f s (forget-area area protects protected) = after f s (forget-area area protects protected)
+
+abbrev pub one-tree-pruned : Steps
+one-tree-pruned = record { answers = answer field; leaves = halfPruned field }
+
+-- It says that it has forgotten so many, whatever it forgot.
+unfoldable pub countMade : ℕ → Answer → Answer
+countMade n (of-ingest r) = of-ingest r
+countMade n (of-entry r) = of-entry r
+countMade n (of-area r) = of-area (record { refusal = r .refusal; state = r .state; forgotten = n })
+
+abbrev pub made-up-count : ℕ → Steps
+made-up-count n = record { answers = λ s c. countMade n (answer field s c); leaves = after field }
+
+-- None of them is let through.
+pub record ShutOut : Type 0 where
+  pub filing-nothing : Meets field files-nothing → ⊥
+  pub filing-the-first : Meets field first-only → ⊥
+  pub full-below-the-limit : Meets field full-at-1 → ⊥
+  pub refusing-everybody : (n : ℕ) → Meets field (refuses-all n) → ⊥
+  pub refusing-every-opening : (n : ℕ) → (n ≡ 0 → ⊥) → ((o : Opening) → opens field o .answer .refusal ≡ n) → ⊥
+  pub refusing-without-a-number : Meets field silent → ⊥
+  pub pruning-one-tree : Meets field one-tree-pruned → ⊥
+  pub a-made-up-count : (n : ℕ) → AnswersRight field (made-up-count n) → ⊥
+  pub one-verdict-for-all : (v : IngestVerdict) (does : Store → Call → Store) → Meets field (one-verdict v does) → ⊥
+  pub one-answer-for-all : (v : IngestVerdict) (does : Store → Call → Store) → AnswersRight field (one-verdict v does) → ⊥

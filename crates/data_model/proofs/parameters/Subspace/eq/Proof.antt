@@ -1,0 +1,20 @@
+-- `eq` meets its contract. Assumes nothing.
+use mathlib.Core.Path.{_≡_, ap, _∙_}
+use Rattle.laws.specs.Order.{isSame}
+use Rattle.data_model.proofs.Answers.{order-is}
+use Rattle.data_model.proofs.Orders.{same-subspace}
+use borrow.Author.Needs.{needs}
+use Rattle.data_model.proofs.parameters.Subspace.eq.Statement.{statement}
+use Rattle.data_model.proofs.parameters.Subspace.eq.Tie as tie
+
+cmp-requires : tie.Need-cmp-requires
+cmp-requires c κs = search needs
+
+is-equal-requires : tie.Need-is-equal-requires
+is-equal-requires c κs = search needs
+
+returns : tie.Need-returns
+returns c = c .is-equal .ensures ∙ ap isSame (order-is _ _ (c .before .cmp .ensures)) ∙ same-subspace _ _
+
+pub eq-spec : {M : Type 1} → statement M
+eq-spec = tie.close (tie.spec cmp-requires is-equal-requires returns)

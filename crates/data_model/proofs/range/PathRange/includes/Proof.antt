@@ -1,0 +1,34 @@
+-- `includes` meets its contract. Assumes nothing.
+use mathlib.Core.Path.{_≡_, sym, ap, _∙_}
+use Rattle.laws.proofs.Truth.{and-true, not-true, not-false}
+use Rattle.data_model.specs.Path.{field, legal}
+use Rattle.data_model.proofs.Answers.{answer-refused, answer-given}
+use Rattle.data_model.specs.Range.{legalRange}
+use borrow.Author.Needs.{needs}
+use Rattle.data_model.proofs.range.PathRange.includes.Statement.{statement}
+use Rattle.data_model.proofs.range.PathRange.includes.Tie as tie
+
+is-legal-with-requires : tie.Need-is-legal-with-requires
+is-legal-with-requires c κs = search needs
+
+returns : tie.Need-returns
+returns c = answer-refused _ _ (sym (c .before .is-legal-with .ensures) ∙ not-true _ (c .if1 .taken))
+
+range-includes-path-requires : tie.Need-range-includes-path-requires
+range-includes-path-requires c κs = and-true (legalRange field ((c .before .before) .args .self)) (legal field ((c .before .before) .args .value)) (sym (c .before .is-legal-with .ensures) ∙ not-false _ (c .if1 .left))
+
+yes-or-no-requires : tie.Need-yes-or-no-requires
+yes-or-no-requires c κs = search needs
+
+returns-2 : tie.Need-returns-2
+returns-2 c = answer-given _ _ _ _ (sym (c .before .before .before .is-legal-with .ensures) ∙ not-false _ (c .before .before .if1 .left)) (c .before .range-includes-path .ensures) (c .yes-or-no .ensures)
+
+pub includes-spec : {M : Type 1} → statement M
+includes-spec =
+    tie.close
+    (tie.spec
+    is-legal-with-requires
+    returns
+    range-includes-path-requires
+    yes-or-no-requires
+    returns-2)

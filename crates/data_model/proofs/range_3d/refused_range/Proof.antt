@@ -1,0 +1,17 @@
+-- `refused_range` meets its contract. Assumes nothing.
+use mathlib.Core.Path.{_≡_, refl, sym, ap, _∙_}
+use borrow.Author.Needs.{needs}
+use Rattle.data_model.proofs.range_3d.refused_range.Statement.{statement}
+use Rattle.data_model.proofs.range_3d.refused_range.Tie as tie
+
+new-empty-requires : tie.Need-new-empty-requires
+new-empty-requires c κs = search needs
+
+new-empty-requires-2 : tie.Need-new-empty-requires-2
+new-empty-requires-2 c κs = search needs
+
+returns : tie.Need-returns
+returns c = rw (c .new-empty2 .ensures, c .before .new-empty .ensures)
+
+pub refused-range-spec : {M : Type 1} → statement M
+refused-range-spec = tie.close (tie.spec new-empty-requires new-empty-requires-2 returns)

@@ -1,0 +1,95 @@
+// Entries: which is newer, which prunes which.
+use crate::answer::Answer;
+use crate::answer::ILLEGAL_PATH;
+use crate::answer::Ordering;
+use crate::answer::compare_numbers;
+use crate::answer::yes_or_no;
+use crate::checked;
+use crate::parameters::Subspace;
+use crate::path::Path;
+use crate::path::both_legal;
+ghost use mathlib.Core.Path.{_≡_};
+ghost use mathlib.Core.Bool.{_&&_};
+ghost use Rattle.data_model.specs.Path.{field, legal};
+ghost use Rattle.data_model.specs.Entry.{entryOf, rankOf, byRank, newer, prunes};
+ghost use Rattle.data_model.specs.Refusal.{answered, ordered};
+
+// What decides which of two entries is newer.
+pub struct Rank {
+    pub timestamp: u64,
+    pub payload_digest: [u8; 32],
+    pub payload_length: u64,
+}
+
+pub struct Entry {
+    pub namespace_id: [u8; 16],
+    pub subspace_id: Subspace,
+    pub path: Path,
+    pub timestamp: u64,
+    pub payload_length: u64,
+    pub payload_digest: [u8; 32],
+}
+
+impl Rank {
+    // By timestamp, then digest as bytes, then payload length.
+    pub fn cmp(self, other: Rank) -> Ordering
+        ensures { λ r. ⌜ r ≡ ordered (byRank self other) ⌝ }
+    {
+        let times = compare_numbers(self.timestamp, other.timestamp);
+        match times {
+            Ordering::Less => Ordering::Less,
+            Ordering::Equal => {
+                let a = self.payload_digest;
+                let b = other.payload_digest;
+                let digests = checked::compare_bytes(&a, &b);
+                match digests {
+                    Ordering::Less => Ordering::Less,
+                    Ordering::Equal => compare_numbers(self.payload_length, other.payload_length),
+                    Ordering::Greater => Ordering::Greater,
+                }
+            }
+            Ordering::Greater => Ordering::Greater,
+        }
+    }
+}
+
+impl Entry {
+    pub fn rank(self) -> Rank
+        ensures { λ r. ⌜ r ≡ rankOf self ⌝ }
+    {
+        let payload_digest = self.payload_digest;
+        Rank {
+            timestamp: self.timestamp,
+            payload_digest,
+            payload_length: self.payload_length,
+        }
+    }
+
+    pub fn is_newer_than(self, other: Entry) -> Answer
+        ensures { λ r. ⌜ r ≡ answered (legal field (self .path) && legal field (other .path)) (newer (entryOf self) (entryOf other)) ⌝ }
+    {
+        let p = self.path;
+        let q = other.path;
+        if !both_legal(p, q) {
+            return Answer::Refused(ILLEGAL_PATH);
+        }
+        yes_or_no(checked::is_newer_than(self.rank(), other.rank()))
+    }
+
+    pub fn prunes(self, other: Entry) -> Answer
+        ensures { λ r. ⌜ r ≡ answered (legal field (self .path) && legal field (other .path)) (prunes (entryOf self) (entryOf other)) ⌝ }
+    {
+        let p = self.path;
+        let q = other.path;
+        if !both_legal(p, q) {
+            return Answer::Refused(ILLEGAL_PATH);
+        }
+        yes_or_no(checked::prunes(self, other))
+    }
+
+    pub fn is_pruned_by(self, other: Entry) -> Answer
+        ensures { λ r. ⌜ r ≡ answered (legal field (other .path) && legal field (self .path)) (prunes (entryOf other) (entryOf self)) ⌝ }
+    {
+        other.prunes(self)
+    }
+}

@@ -1,0 +1,51 @@
+// The parameters that the Rust leaves open, fixed: a subspace is 16 bytes, as two numbers with the high half first.
+use crate::answer::Ordering;
+use crate::answer::compare_numbers;
+use crate::answer::is_equal;
+use crate::range::SubspaceEnd;
+ghost use mathlib.Core.Path.{_≡_};
+ghost use Rattle.data_model.specs.Refusal.{ordered};
+ghost use Rattle.data_model.specs.Subspace.{sameSubspace, bySubspace, nextSubspace};
+
+pub struct Subspace {
+    pub high: u64,
+    pub low: u64,
+}
+
+impl Subspace {
+    pub fn cmp(self, other: Subspace) -> Ordering
+        ensures { λ r. ⌜ r ≡ ordered (bySubspace self other) ⌝ }
+    {
+        let high = compare_numbers(self.high, other.high);
+        match high {
+            Ordering::Less => Ordering::Less,
+            Ordering::Equal => compare_numbers(self.low, other.low),
+            Ordering::Greater => Ordering::Greater,
+        }
+    }
+
+    pub fn eq(self, other: Subspace) -> bool
+        ensures { λ r. ⌜ r ≡ sameSubspace self other ⌝ }
+    {
+        is_equal(self.cmp(other))
+    }
+
+    // The end of the range that holds this subspace alone.
+    pub fn successor(self) -> SubspaceEnd
+        ensures { λ r. ⌜ r ≡ nextSubspace self ⌝ }
+    {
+        if self.low < 0xffff_ffff_ffff_ffff {
+            return SubspaceEnd::Closed(Subspace {
+                high: self.high,
+                low: self.low + 1,
+            });
+        }
+        if self.high < 0xffff_ffff_ffff_ffff {
+            return SubspaceEnd::Closed(Subspace {
+                high: self.high + 1,
+                low: 0,
+            });
+        }
+        SubspaceEnd::Open
+    }
+}

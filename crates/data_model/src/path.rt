@@ -1,0 +1,134 @@
+// Paths by value: legality, equality, order and prefixes.
+use crate::above::Above;
+use crate::above::least_above;
+use crate::answer::Answer;
+use crate::answer::Compared;
+use crate::answer::ILLEGAL_PATH;
+use crate::answer::Ordering;
+use crate::answer::yes_or_no;
+use crate::checked;
+ghost use mathlib.Core.Path.{_≡_};
+ghost use mathlib.Core.List.{[]};
+ghost use mathlib.Core.Bool.{_&&_};
+ghost use Rattle.data_model.specs.Path.{field, legal, legalEnds, components, pathOf, byComponents, samePath, isPrefix};
+ghost use Rattle.data_model.specs.Above.{aboveAnswer};
+ghost use Rattle.data_model.specs.Refusal.{answered, compared};
+
+// The most bytes of a component, components of a path, and bytes of a path.
+pub const MCL: usize = 64;
+
+pub const MCC: usize = 8;
+
+pub const MPL: usize = 128;
+
+// The component ends, of which the first `count` count, cut the bytes; what lies behind is never looked at.
+pub struct Path {
+    pub bytes: [u8; MPL],
+    pub ends: [usize; MCC],
+    pub count: usize,
+}
+
+// Whether ends don't descend, components have at most mcl bytes, and the total is at most mpl.
+fn legal_ends(ends: &[usize], mcl: usize, mpl: usize) -> bool
+    ensures { λ r. ⌜ r ≡ legalEnds mcl mpl 0 (now (ends .entry)) ⌝ }
+{
+    let mut from: usize = 0;
+    let mut i: usize = 0;
+    while i < ends.len() {
+        let e = ends[i];
+        if e < from {
+            return false;
+        }
+        if mcl < e - from {
+            return false;
+        }
+        from = e;
+        i += 1;
+    }
+    from <= mpl
+}
+
+pub fn both_legal(p: Path, q: Path) -> bool
+    ensures { λ r. ⌜ r ≡ (legal field p && legal field q) ⌝ }
+{
+    if p.is_legal() {
+        return q.is_legal();
+    }
+    false
+}
+
+impl Path {
+    pub fn new_empty() -> Path
+        ensures { λ r. ⌜ r ≡ pathOf [] ⌝ }
+    {
+        Path {
+            bytes: [0; MPL],
+            ends: [0; MCC],
+            count: 0,
+        }
+    }
+
+    pub fn is_legal(self) -> bool
+        ensures { λ r. ⌜ r ≡ legal field self ⌝ }
+    {
+        let n = self.count;
+        if MCC < n {
+            return false;
+        }
+        let ends = self.ends;
+        legal_ends(&ends[..n], MCL, MPL)
+    }
+
+    pub fn cmp(self, other: Path) -> Compared
+        ensures { λ r. ⌜ r ≡ compared (legal field self && legal field other) (byComponents (components self) (components other)) ⌝ }
+    {
+        if !both_legal(self, other) {
+            return Compared::Refused(ILLEGAL_PATH);
+        }
+        let o = checked::cmp(self, other);
+        match o {
+            Ordering::Less => Compared::Less,
+            Ordering::Equal => Compared::Equal,
+            Ordering::Greater => Compared::Greater,
+        }
+    }
+
+    pub fn eq(self, other: Path) -> Answer
+        ensures { λ r. ⌜ r ≡ answered (legal field self && legal field other) (samePath (components self) (components other)) ⌝ }
+    {
+        if !both_legal(self, other) {
+            return Answer::Refused(ILLEGAL_PATH);
+        }
+        yes_or_no(checked::eq(self, other))
+    }
+
+    pub fn is_prefix_of(self, other: Path) -> Answer
+        ensures { λ r. ⌜ r ≡ answered (legal field self && legal field other) (isPrefix (components self) (components other)) ⌝ }
+    {
+        if !both_legal(self, other) {
+            return Answer::Refused(ILLEGAL_PATH);
+        }
+        yes_or_no(checked::is_prefix_of(self, other))
+    }
+
+    pub fn is_prefixed_by(self, other: Path) -> Answer
+        ensures { λ r. ⌜ r ≡ answered (legal field other && legal field self) (isPrefix (components other) (components self)) ⌝ }
+    {
+        other.is_prefix_of(self)
+    }
+
+    // The least legal path above this one that this one does not prefix.
+    pub fn greater_but_not_prefixed(self) -> Above
+        ensures { λ r. ⌜ r ≡ aboveAnswer field self ⌝ }
+    {
+        if self.is_legal() {
+            return least_above(self);
+        }
+        let path = Path::new_empty();
+        Above {
+            refusal: ILLEGAL_PATH,
+            found: false,
+            path,
+        }
+    }
+}

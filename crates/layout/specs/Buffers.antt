@@ -1,0 +1,26 @@
+-- Buffers after a move, a clearing and a writing inside them; zeros.
+use mathlib.Core.List.{List, [], _∷_, _++_}
+use mathlib.Core.Bool.{Bool, true, false, _&&_}
+use Prim.Native.Nat.{ℕ, _+_, _-_}
+use lib.ListN.{length, take, drop, replicate}
+use lib.Dec.{eqb}
+
+-- With the n elements from `from` on written once more from `to` on.
+unfoldable pub moved : ℕ → ℕ → ℕ → List ℕ → List ℕ
+moved from to n l = take to l ++ take n (drop from l) ++ drop (to + n) l
+
+-- With zeros from `from` up to `to`.
+unfoldable pub cleared : ℕ → ℕ → List ℕ → List ℕ
+cleared from to l = take from l ++ replicate (to - from) 0 ++ drop to l
+
+-- With s from `at` on.
+unfoldable pub written : ℕ → List ℕ → List ℕ → List ℕ
+written at s l = take at l ++ s ++ drop (at + length s) l
+
+-- These, and zeros up to n in all.
+unfoldable pub filled : ℕ → List ℕ → List ℕ
+filled n xs = xs ++ replicate (n - length xs) 0
+
+unfoldable pub allZero : List ℕ → Bool
+allZero [] = true
+allZero (x ∷ xs) = eqb x 0 && allZero xs

@@ -1,0 +1,229 @@
+-- What an entry that may be filed brings with it for each tree, what the store is when it is filed in both, and what the public call
+-- leaves. Assumes nothing.
+use mathlib.Core.Path.{_≡_, refl, sym, ap, _∙_}
+use mathlib.Core.List.{List, _++_, map}
+use mathlib.Core.Bool.{Bool, true, false, _&&_}
+use Prim.Native.Nat.{ℕ, _+_, _*_, _≤_, _<_}
+use native.Mathlib.Omega.{arith}
+use lib.ListN.{length, take, drop}
+use lib.Seq.{length-take-le}
+use lib.Dec.{leb, eqb}
+use borrow.Author.Tests.{leb-false, eqb-true}
+use Rattle.laws.specs.Lists.{put}
+use Rattle.laws.specs.Sorted.{any, keep}
+use Rattle.laws.proofs.Truth.{split, clash, refute}
+use Rattle.laws.proofs.Sorted.{any-view, any-make}
+use Rattle.layout.specs.Layout.{treeBytes, dirNumbers}
+use Rattle.layout.specs.Marks.{marksOf, markedPairs}
+use Rattle.data_model.specs.Path.{field, legal}
+use Rattle.data_model.specs.Entry.{Entry, entryOf}
+use Rattle.data_model.specs.declared.entry.Entry.{Entry as EntryValue}
+use Rattle.key_laws.specs.Bytes.{Bytes}
+use Rattle.key_laws.proofs.Fits.{bytes-take}
+use Rattle.tree.specs.Stored.{Stored, recordOf, storedOf}
+use Rattle.tree.specs.Matching.{outdates, removes}
+use Rattle.tree.specs.Tree.{Formed}
+use Rattle.tree.specs.declared.stored.KeyOrder.{KeyOrder}
+use Rattle.tree.specs.declared.stored.KeyOrder.the-variants.{Spt, Tsp}
+use Rattle.tree.specs.declared.stored.LengthyAuthorisedEntry.{LengthyAuthorisedEntry}
+use Rattle.store.specs.Store.{Store, storeOf, limitMost, treeOf, dirOf, held, heldBy, treeHolding, dirHolding, holding}
+use Rattle.store.specs.Ingest.{stays, filing, filedIn, filed, Decision, refuse, obsolete, take-it, decidedOf, decided, ingestRefusal, judged, MayFile, storeFiled, ingestOutcome, prunedPairs, carried, ingested}
+use Rattle.store.specs.Forget.{without}
+use Rattle.store.specs.Change.{inTree, Changed, FilesIn}
+use Rattle.store.specs.declared.ingest.Ingested.{Ingested}
+use Rattle.store.specs.declared.ingest.IngestVerdict.the-variants as verdict
+use Rattle.store.proofs.Meaning.{SoundHeld, sound-without, sound-length}
+use Rattle.store.proofs.WellStore.{held-fit}
+use Rattle.store.proofs.IngestLaws.{Ready, ready, ready-formed, first-absent, first-there, sptIn, sptDirIn, inSpt}
+
+-- The time-first tree and its directory in their room.
+abbrev pub tspIn : Store → List ℕ
+tspIn s = take (410 * s .state .limit) (s .tsp)
+
+abbrev pub tspDirIn : Store → List ℕ
+tspDirIn s = take (2 * s .state .limit) (s .tspDir)
+
+-- What is filed, as a value.
+abbrev pub filedValue : EntryValue → (token : List ℕ) → LengthyAuthorisedEntry
+filedValue e token = record { entry = e; token = token; available = 0 }
+
+-- An entry that may be filed.
+module _ (s : Store) (prune : List ℕ) (e : EntryValue) (m : MayFile field s prune e) where
+  pub may-ready : Ready s prune e
+  may-ready = ready s prune e (m .tested)
+
+  tree-room : (o : KeyOrder) → length (treeOf field o s) ≡ 410 * s .state .limit
+  unfolding treeOf
+  tree-room Spt = length-take-le (410 * s .state .limit) (s .spt) (may-ready .passes .room .spt)
+  tree-room Tsp = length-take-le (410 * s .state .limit) (s .tsp) (may-ready .passes .room .tsp)
+
+  dir-room : (o : KeyOrder) → length (dirOf o s) ≡ 2 * s .state .limit
+  unfolding dirOf
+  dir-room Spt = length-take-le (2 * s .state .limit) (s .sptDir) (may-ready .passes .room .sptDir)
+  dir-room Tsp = length-take-le (2 * s .state .limit) (s .tspDir) (may-ready .passes .room .tspDir)
+
+  -- What `write_pruned` asks.
+  pub may-prune : (Formed Spt (s .state .count) (sptDirIn s) (sptIn s)) × (s .state .count ≤ limitMost) × (legal field (e .path) ≡ true) × (2 * s .state .count ≤ length prune)
+  may-prune =
+      let v = may-ready in
+      let f = v .passes .few in
+      let l = v .passes .most in
+      let p = v .pairs in
+      (ready-formed s prune e v, omega arith, v .legal-path, omega arith)
+
+  -- In bytes both trees hold the same: nothing outdates it in either, and as many stay.
+  module _ (spt-bytes : Bytes (s .spt)) (tsp-bytes : Bytes (s .tsp)) where
+    room-bytes : (o : KeyOrder) → Bytes (treeOf field o s)
+    unfolding treeOf
+    room-bytes Spt = bytes-take (410 * s .state .limit) (s .spt) spt-bytes
+    room-bytes Tsp = bytes-take (410 * s .state .limit) (s .tsp) tsp-bytes
+
+    sound : SoundHeld (s .state .«namespace_id») (heldBy field s)
+    sound = held-fit field s (may-ready .passes .well) room-bytes .sound
+
+    current-in : (o : KeyOrder) → any (outdates (entryOf e)) (held field o s) ≡ false
+    unfolding heldBy
+    current-in Spt = m .current
+    current-in Tsp = refute (any (outdates (entryOf e)) (held field Tsp s)) λ q.
+        let k = any-view (outdates (entryOf e)) (held field Tsp s) q in
+        clash (any-make (outdates (entryOf e)) (held field Spt s) (sound .both (k .0) .1 (k .1)) (k .2)) (m .current)
+
+    left-in : (o : KeyOrder) → length (keep (stays (entryOf e)) (held field o s)) < s .state .limit
+    unfolding heldBy without
+    left-in Spt = m .room
+    left-in Tsp =
+        let r = m .room in
+        let q : length (keep (stays (entryOf e)) (held field Spt s)) ≡ length (keep (stays (entryOf e)) (held field Tsp s))
+        = sound-length (without (removes (entryOf e)) (heldBy field s)) (sound-without (removes (entryOf e)) (heldBy field s) sound) in
+        omega arith
+
+    files-in : (o : KeyOrder) (token : List ℕ) → FilesIn o (s .state .«namespace_id») (s .state .count) (dirOf o s) (treeOf field o s) (filedValue e token)
+    unfolding held
+    files-in o token =
+        let v = may-ready in
+        let f = v .passes .few in
+        let l = v .passes .most in
+        let n = left-in o in
+        let t = tree-room o in
+        let d = dir-room o in
+        record {
+          formed = v .passes .formed o;
+          few = omega arith;
+          path = v .legal-path;
+          named = v .namespace;
+          current = current-in o;
+          bytes = omega arith;
+          numbers = omega arith;
+        }
+
+    -- What `file_in` asks of each tree.
+    pub files-spt : (token : List ℕ) → FilesIn Spt (s .state .«namespace_id») (s .state .count) (sptDirIn s) (sptIn s) (filedValue e token)
+    unfolding dirOf treeOf
+    files-spt token = files-in Spt token
+
+    pub files-tsp : (token : List ℕ) → FilesIn Tsp (s .state .«namespace_id») (s .state .count) (tspDirIn s) (tspIn s) (filedValue e token)
+    unfolding dirOf treeOf
+    files-tsp token = files-in Tsp token
+
+  -- What is left: the front parts rewritten, the rest kept.
+  module _ (token : List ℕ) where
+    after-tree : (o : KeyOrder) (l : List Stored) (old last : List ℕ) → 410 * s .state .limit ≤ length old
+        → last ≡ treeBytes (length (take (410 * s .state .limit) old)) (map (recordOf o) l) → last ++ drop (410 * s .state .limit) old ≡ treeHolding field o (s .state .limit) l old
+    unfolding treeHolding
+    after-tree o l old last h q =
+        ap (_++ drop (410 * s .state .limit) old) (q ∙ ap (λ (n : ℕ). treeBytes n (map (recordOf o) l)) (length-take-le (410 * s .state .limit) old h))
+
+    after-dir : (o : KeyOrder) (l : List Stored) (old last : List ℕ) → 2 * s .state .limit ≤ length old
+        → last ≡ dirNumbers (length (take (2 * s .state .limit) old)) (map (recordOf o) l) → last ++ drop (2 * s .state .limit) old ≡ dirHolding o (s .state .limit) l old
+    unfolding dirHolding
+    after-dir o l old last h q =
+        ap (_++ drop (2 * s .state .limit) old) (q ∙ ap (λ (n : ℕ). dirNumbers n (map (recordOf o) l)) (length-take-le (2 * s .state .limit) old h))
+
+    pub filed-both : (spt sptDir tsp tspDir : List ℕ) (i j : ℕ)
+        → Changed Spt (filedIn Spt (storedOf (filedValue e token)) (inTree Spt (s .state .«namespace_id») (s .state .count) (sptDirIn s) (sptIn s))) (sptDirIn s) (sptIn s) sptDir spt i
+        → Changed Tsp (filedIn Tsp (storedOf (filedValue e token)) (inTree Tsp (s .state .«namespace_id») (s .state .count) (tspDirIn s) (tspIn s))) (tspDirIn s) (tspIn s) tspDir tsp j
+        → storeOf (storeFiled field s (entryOf e) token .state) (spt ++ drop (410 * s .state .limit) (s .spt)) (sptDir ++ drop (2 * s .state .limit) (s .sptDir))
+        (tsp ++ drop (410 * s .state .limit) (s .tsp)) (tspDir ++ drop (2 * s .state .limit) (s .tspDir)) ≡ storeFiled field s (entryOf e) token
+    unfolding holding filed heldBy held treeOf dirOf storedOf
+    filed-both spt sptDir tsp tspDir i j p q =
+        let r = may-ready .passes .room in
+        let a = after-tree Spt (filedIn Spt (filing (entryOf e) token) (held field Spt s)) (s .spt) spt (r .spt) (p .bytes) in
+        let b = after-dir Spt (filedIn Spt (filing (entryOf e) token) (held field Spt s)) (s .sptDir) sptDir (r .sptDir) (p .numbers) in
+        let c = after-tree Tsp (filedIn Tsp (filing (entryOf e) token) (held field Tsp s)) (s .tsp) tsp (r .tsp) (q .bytes) in
+        let d = after-dir Tsp (filedIn Tsp (filing (entryOf e) token) (held field Tsp s)) (s .tspDir) tspDir (r .tspDir) (q .numbers) in
+        λ k. storeOf (storeFiled field s (entryOf e) token .state) (a k) (b k) (c k) (d k)
+
+    pub pruned-done : (out : List ℕ) → out ≡ put (markedPairs (marksOf (removes (entryOf e)) (inSpt s)) (sptDirIn s)) prune → out ≡ put (prunedPairs field s (entryOf e)) prune
+    unfolding prunedPairs held treeOf dirOf
+    pruned-done out q = q
+
+-- Decisions differ.
+module _ {G : Type 0} where
+  pub refuse-taken : {n : ℕ} → refuse n ≡ take-it → G
+  refuse-taken e = absurd (let z : _≡_ {A = ℕ} 0 1 = cc in omega arith)
+
+  pub obsolete-taken : {x : Stored} → obsolete x ≡ take-it → G
+  obsolete-taken e = absurd (let z : _≡_ {A = ℕ} 0 1 = cc in omega arith)
+
+-- What is known of an entry that is taken.
+module _ (limit : ℕ) (l : List Stored) (e : Entry) (prevent : Bool) (d : decided limit l e prevent ≡ take-it) where
+  pub taken-current : any (outdates e) l ≡ false
+  unfolding decided decidedOf
+  taken-current = refute (any (outdates e) l) λ q. obsolete-taken (rw (first-there (outdates e) l q .1) at d)
+
+  pub taken-room : leb limit (length (keep (stays e) l)) ≡ false
+  unfolding decided decidedOf
+  taken-room =
+      let n = first-absent (outdates e) l taken-current in
+      refute (leb limit (length (keep (stays e) l))) λ q. split (prevent && any (removes e) l)
+      (λ r. refuse-taken (rw (n, r) at d))
+      (λ r. refuse-taken (rw (n, r, q) at d))
+
+-- The public call, by its answer: filed if it is a success, and nothing changed if not.
+module _ (s : Store) (prune : List ℕ) (e : EntryValue) (token : List ℕ) (prevent : Bool) (r : Ingested) (er : r ≡ ingested field s prune e token prevent .answer) where
+  judged-may : judged field s prune e prevent ≡ take-it → MayFile field s prune e
+  unfolding judged
+  judged-may j = split (eqb (ingestRefusal field s prune e) 0)
+      (λ q.
+      let d : decided (s .state .limit) (held field Spt s) (entryOf e) prevent ≡ take-it = rw q at j in
+      record {
+        tested = eqb-true (ingestRefusal field s prune e) 0 q;
+        current = taken-current (s .state .limit) (held field Spt s) (entryOf e) prevent d;
+        room = leb-false (s .state .limit) (length (keep (stays (entryOf e)) (held field Spt s))) (taken-room (s .state .limit) (held field Spt s) (entryOf e) prevent d);
+      })
+      (λ q. refuse-taken (rw q at j))
+
+  success-taken : (n : ℕ) → r .verdict ≡ verdict.Success n → judged field s prune e prevent ≡ take-it
+  unfolding ingested
+  success-taken n q = go (judged field s prune e prevent) (ap (λ (a : Ingested). a .verdict) (sym er) ∙ q)
+    where
+      go : (d : Decision) → carried field s prune (entryOf e) token d .answer .verdict ≡ verdict.Success n → d ≡ take-it
+      go (refuse k) h = unfold carried in absurd (let z : _≡_ {A = ℕ} 0 1 = cc in omega arith)
+      go (obsolete x) h = unfold carried in absurd (let z : _≡_ {A = ℕ} 0 1 = cc in omega arith)
+      go take-it h = refl
+
+  pub success-may : (n : ℕ) → r .verdict ≡ verdict.Success n → MayFile field s prune e
+  success-may n q = judged-may (success-taken n q)
+
+  pub outcome-filed : (n : ℕ) → r .verdict ≡ verdict.Success n → (spt sptDir tsp tspDir out : List ℕ)
+      → storeOf (storeFiled field s (entryOf e) token .state) spt sptDir tsp tspDir ≡ storeFiled field s (entryOf e) token → out ≡ put (prunedPairs field s (entryOf e)) prune
+      → ingestOutcome r spt sptDir tsp tspDir out ≡ ingested field s prune e token prevent
+  unfolding ingested carried
+  outcome-filed n q spt sptDir tsp tspDir out es eo =
+      let j = success-taken n q in
+      let a : r ≡ carried field s prune (entryOf e) token take-it .answer = er ∙ ap (λ (d : Decision). carried field s prune (entryOf e) token d .answer) j in
+      ap (λ (x : Ingested). ingestOutcome x spt sptDir tsp tspDir out) a
+      ∙ (λ i. record { answer = carried field s prune (entryOf e) token take-it .answer; store = es i; prune = eo i })
+      ∙ sym (ap (carried field s prune (entryOf e) token) j)
+
+  pub outcome-same : ((n : ℕ) → r .verdict ≡ verdict.Success n → ⊥) → ingestOutcome r (s .spt) (s .sptDir) (s .tsp) (s .tspDir) prune ≡ ingested field s prune e token prevent
+  unfolding ingested
+  outcome-same h =
+      ap (λ (x : Ingested). ingestOutcome x (s .spt) (s .sptDir) (s .tsp) (s .tspDir) prune) er
+      ∙ go (judged field s prune e prevent) λ n q. h n (ap (λ (a : Ingested). a .verdict) er ∙ q)
+    where
+      go : (d : Decision) → ((n : ℕ) → carried field s prune (entryOf e) token d .answer .verdict ≡ verdict.Success n → ⊥)
+          → ingestOutcome (carried field s prune (entryOf e) token d .answer) (s .spt) (s .sptDir) (s .tsp) (s .tspDir) prune ≡ carried field s prune (entryOf e) token d
+      go (refuse k) g = unfold carried in refl
+      go (obsolete x) g = unfold carried in refl
+      go take-it g = unfold carried in absurd (g (length (keep (removes (entryOf e)) (held field Spt s))) refl)

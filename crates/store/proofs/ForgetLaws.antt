@@ -1,0 +1,253 @@
+-- Forgetting: in a store with no place twice the entry at a place is the only one there; what is left and what went; and which refusal
+-- comes of which test. Assumes nothing.
+use Prim.Native.Nat.{ℕ, suc, _+_, _-_, _≤_, _<_}
+use mathlib.Core.Path.{_≡_, refl, sym, ap, ap₂, _∙_}
+use mathlib.Core.Logic.{⊎-elim}
+use mathlib.Core.List.{List, [], _∷_, _++_, List·Memᴰ·not-nil as none-in, List·Memᴰ·cases-cons as uncons}
+use mathlib.Core.Bool.{Bool, true, false, not, cond, _&&_}
+use native.Mathlib.Omega.{arith}
+use lib.ListN.{length, take, drop, getD}
+use lib.Seq.{drop-cons}
+use borrow.Author.Tests.{ne-eqb}
+use Rattle.laws.specs.Lists.{put}
+use Rattle.laws.specs.Prefix.{sameNumber, sameList}
+use Rattle.laws.specs.Sorted.{_∈_, any, all, keep}
+use Rattle.laws.proofs.Truth.{split, clash, refute, and-true, alike}
+use Rattle.laws.proofs.Sorted.{any-view, any-make, any-none, all-view}
+use Rattle.layout.specs.Layout.{records, recordAt}
+use Rattle.layout.specs.Marks.{marksOf, firstMark}
+use Rattle.layout.proofs.LaidLaws.{record-in}
+use Rattle.layout.proofs.MarkLaws.{first-holds, first-none}
+use Rattle.data_model.specs.Path.{Components, field, legal, components, samePath}
+use Rattle.data_model.specs.Subspace.{sameSubspace}
+use Rattle.data_model.specs.Entry.{entryOf, rankOf}
+use Rattle.data_model.specs.declared.path.Path.{Path}
+use Rattle.data_model.specs.declared.parameters.Subspace.{Subspace}
+use Rattle.data_model.specs.declared.area.Area.{Area}
+use Rattle.data_model.proofs.Orders.{path-equality, subspace-equality}
+use Rattle.tree.specs.Stored.{Stored, stored, storedOf}
+use Rattle.tree.specs.Tree.{Formed}
+use Rattle.tree.specs.Apart.{samePlace, noPlaceTwice}
+use Rattle.tree.specs.Matching.{standsAt, isForgotten}
+use Rattle.tree.specs.declared.stored.KeyOrder.the-variants.{Spt, Tsp}
+use Rattle.tree.specs.declared.stored.LengthyAuthorisedEntry.{LengthyAuthorisedEntry}
+use Rattle.key_laws.specs.Bytes.{Bytes}
+use Rattle.tree.proofs.RecordLaws.{record-forth, contents-in}
+use Rattle.tree.proofs.WithinLaws.{at-bytes}
+use Rattle.tree.proofs.FormedLaws.{formed-record}
+use Rattle.tree.proofs.FormedContents.{formed-many, formed-next}
+use Rattle.store.specs.Store.{Store, storeOf, treeRoom, dirRoom, treeOf, dirOf, held, heldBy, holding}
+use Rattle.store.specs.Refusal.{unless, _orElse_, storeRefusal}
+use Rattle.store.specs.Forget.{without, unexpected, forgetEntryRefusal, forgetEntryOutcome, entryForgotten, forgetAreaRefusal, forgetAreaOutcome, areaForgotten}
+use Rattle.store.specs.Change.{inTree, Changed}
+use Rattle.store.proofs.CheckLaws.{or-none, unless-none, Passed, passed}
+use Rattle.store.proofs.DecideLaws.{marks-first}
+use Rattle.store.proofs.HoldingLaws.{store-holds}
+
+-- One place.
+module _ (s : Subspace) (p : Components) where
+  place-view : (x : Stored) → standsAt s p x ≡ true → (x .entry .subspace ≡ s) × (x .entry .path ≡ p)
+  unfolding standsAt
+  place-view x e =
+      let k = and-true (sameSubspace (x .entry .subspace) s) (samePath (x .entry .path) p) e in
+      (subspace-equality .equal (x .entry .subspace) s (k .0), path-equality .equal (x .entry .path) p (k .1))
+
+  both-there : (x y : Stored) → standsAt s p x ≡ true → standsAt s p y ≡ true → samePlace (x .entry) (y .entry) ≡ true
+  unfolding samePlace
+  both-there x y e f =
+      let a = place-view x e in
+      let b = place-view y f in
+      rw (a .0, a .1, b .0, b .1) (ap₂ _&&_ (subspace-equality .self s) (path-equality .self p))
+
+  only-one : (l : List Stored) → noPlaceTwice l ≡ true → (x y : Stored) → x ∈ l → y ∈ l → standsAt s p x ≡ true → standsAt s p y ≡ true → x ≡ y
+  unfolding noPlaceTwice
+  only-one [] h x y m n e f = absurd (none-in m)
+  only-one (a ∷ l) h x y m n e f =
+      let k = and-true (all (λ (b : Stored). not (samePlace (a .entry) (b .entry))) l) (noPlaceTwice l) h in
+      let apart : (z : Stored) → z ∈ l → standsAt s p a ≡ true → standsAt s p z ≡ true → ⊥
+      = λ z w g i. clash {b = not (samePlace (a .entry) (z .entry))} (all-view (λ (b : Stored). not (samePlace (a .entry) (b .entry))) l (k .0) w) (ap not (both-there a z g i)) in
+      ⊎-elim
+      (λ q. ⊎-elim (λ r. q ∙ sym r) (λ r. absurd (apart y r (ap (standsAt s p) (sym q) ∙ e) f)) (uncons n))
+      (λ q. ⊎-elim (λ r. absurd (apart x q (ap (standsAt s p) (sym r) ∙ f) e)) (λ r. only-one l (k .1) x y q r e f) (uncons n))
+      (uncons m)
+
+  module _ (digest : List ℕ) (l : List Stored) where
+    pub none-unexpected : any (standsAt s p) l ≡ false → false ≡ any (unexpected s p true digest) l
+    unfolding unexpected
+    none-unexpected h = sym (refute (any (unexpected s p true digest) l) λ e.
+        let k = any-view (unexpected s p true digest) l e in
+        let a = and-true (standsAt s p (k .0)) (not (sameList sameNumber (k .0 .entry .rank .«payload_digest») digest)) (k .2) in
+        clash (a .0) (any-none (standsAt s p) l h (k .1)))
+
+    pub one-unexpected : noPlaceTwice l ≡ true → (x : Stored) → x ∈ l → standsAt s p x ≡ true
+        → not (sameList sameNumber (x .entry .rank .«payload_digest») digest) ≡ any (unexpected s p true digest) l
+    unfolding unexpected
+    one-unexpected h x m e = alike (not (sameList sameNumber (x .entry .rank .«payload_digest») digest)) (any (unexpected s p true digest) l)
+        (λ g. any-make (unexpected s p true digest) l m (ap₂ _&&_ e g))
+        (λ g.
+        let k = any-view (unexpected s p true digest) l g in
+        let a = and-true (standsAt s p (k .0)) (not (sameList sameNumber (k .0 .entry .rank .«payload_digest») digest)) (k .2) in
+        ap (λ (y : Stored). not (sameList sameNumber (y .entry .rank .«payload_digest») digest)) (only-one l h x (k .0) m (k .1) e (a .0)) ∙ a .1)
+
+-- The first mark of a place: none stands there, or the one at the mark.
+module _ {count : ℕ} {dir tree : List ℕ} (v : Formed Spt count dir tree) (ns : List ℕ) (s : Subspace) (p : Components) (digest : List ℕ) (marks old : List ℕ)
+    (em : marks ≡ put (marksOf (standsAt s p) (inTree Spt ns count dir tree)) old) (k : ℕ) (ek : k ≡ 0 + firstMark (drop 0 (take count marks))) where
+  at-first : k ≡ firstMark (marksOf (standsAt s p) (inTree Spt ns count dir tree))
+  at-first = marks-first (standsAt s p) (inTree Spt ns count dir tree) count (formed-many v ns) marks old em k ek
+
+  pub digest-absent : count ≤ k → false ≡ any (unexpected s p true digest) (inTree Spt ns count dir tree)
+  digest-absent h = none-unexpected s p digest (inTree Spt ns count dir tree) (first-none (standsAt s p) (inTree Spt ns count dir tree) (omega (arith, at-first, formed-many v ns)))
+
+  stands-first : k < count → standsAt s p (stored Spt field ns (recordAt k dir tree)) ≡ true
+  stands-first h =
+      let l = inTree Spt ns count dir tree in
+      let x = stored Spt field ns (recordAt k dir tree) in
+      let e : getD l k x ∷ drop (suc k) l ≡ x ∷ drop (k + 1) l = sym (drop-cons l k x (omega (arith, formed-many v ns))) ∙ formed-next v ns k h in
+      let g : getD l k x ≡ x = cc in
+      let f : standsAt s p (getD l (firstMark (marksOf (standsAt s p) l)) x) ≡ true = first-holds (standsAt s p) l x (omega (arith, at-first, formed-many v ns)) in
+      ap (standsAt s p) (sym g) ∙ ap (λ (j : ℕ). standsAt s p (getD l j x)) at-first ∙ f
+
+  pub digest-there : noPlaceTwice (inTree Spt ns count dir tree) ≡ true → k < count → (a : LengthyAuthorisedEntry) → storedOf a ≡ stored Spt field ns (recordAt k dir tree)
+      → (t : Bool) → t ≡ sameList sameNumber (a .entry .«payload_digest») digest → not t ≡ any (unexpected s p true digest) (inTree Spt ns count dir tree)
+  unfolding storedOf entryOf rankOf
+  digest-there once h a q t e =
+      let x = stored Spt field ns (recordAt k dir tree) in
+      ap not e
+      ∙ ap (λ (y : Stored). not (sameList sameNumber (y .entry .rank .«payload_digest») digest)) q
+      ∙ one-unexpected s p digest (inTree Spt ns count dir tree) once x (contents-in Spt field ns (records count dir tree) (record-in count k dir tree (v .few) h)) (stands-first h)
+
+-- The refusals of an entry's forgetting.
+module _ (s : Store) (subspace : Subspace) (path : Path) (expects : Bool) (digest : List ℕ) (n : ℕ) (e : n ≡ storeRefusal field s true) where
+  abbrev other : Bool
+  other = any (unexpected subspace (components path) expects digest) (held field Spt s)
+
+  pub entry-early : (n ≡ 0 → ⊥) → n ≡ forgetEntryRefusal field s subspace path expects digest
+  unfolding forgetEntryRefusal _orElse_
+  entry-early h = rw (← e, ne-eqb n 0 h)
+
+  pub entry-path : n ≡ 0 → legal field path ≡ false → 4 ≡ forgetEntryRefusal field s subspace path expects digest
+  unfolding forgetEntryRefusal _orElse_ unless
+  entry-path z l = rw (← e, z, l)
+
+  pub entry-other : n ≡ 0 → legal field path ≡ true → other ≡ true → 9 ≡ forgetEntryRefusal field s subspace path expects digest
+  unfolding forgetEntryRefusal _orElse_ unless
+  entry-other z l o = rw (← e, z, l, o)
+
+  pub entry-passes : n ≡ 0 → legal field path ≡ true → other ≡ false → 0 ≡ forgetEntryRefusal field s subspace path expects digest
+  unfolding forgetEntryRefusal _orElse_ unless
+  entry-passes z l o = rw (← e, z, l, o)
+
+-- Where no digest is expected none is another.
+pub unasked : (s : Subspace) (p : Components) (digest : List ℕ) (l : List Stored) → any (unexpected s p false digest) l ≡ false
+unfolding unexpected
+unasked s p digest l = refute (any (unexpected s p false digest) l) λ e.
+    let k = any-view (unexpected s p false digest) l e in
+    clash (and-true (standsAt s p (k .0)) false (k .2) .1) refl
+
+module _ (s : Store) (subspace : Subspace) (path : Path) (expects : Bool) (digest : List ℕ) (n : ℕ) (e : n ≡ forgetEntryRefusal field s subspace path expects digest) where
+  pub entry-refused : (n ≡ 0 → ⊥) → forgetEntryOutcome (record { refusal = n; state = s .state }) (s .spt) (s .sptDir) (s .tsp) (s .tspDir) ≡ entryForgotten field s subspace path expects digest
+  unfolding entryForgotten
+  entry-refused h = rw (← e, ne-eqb n 0 h)
+
+  pub entry-tested : n ≡ 0 → Passed s × (legal field path ≡ true)
+  unfolding forgetEntryRefusal
+  entry-tested z =
+      let k = or-none (storeRefusal field s true) (unless (legal field path) 4 orElse unless (not (any (unexpected subspace (components path) expects digest) (held field Spt s))) 9) (sym e ∙ z) in
+      let j = or-none (unless (legal field path) 4) (unless (not (any (unexpected subspace (components path) expects digest) (held field Spt s))) 9) (k .1) in
+      (passed s true (k .0) .0, unless-none (legal field path) 4 (omega arith) (j .0))
+
+  pub entry-done : n ≡ 0 → (m k : ℕ) (spt sptDir tsp tspDir : List ℕ)
+      → Changed Spt (keep (λ (x : Stored). not (standsAt subspace (components path) x)) (inTree Spt (s .state .«namespace_id») (s .state .count) (take (dirRoom (s .state .limit)) (s .sptDir)) (take (treeRoom field (s .state .limit)) (s .spt)))) (take (dirRoom (s .state .limit)) (s .sptDir)) (take (treeRoom field (s .state .limit)) (s .spt)) sptDir spt m
+      → Changed Tsp (keep (λ (x : Stored). not (standsAt subspace (components path) x)) (inTree Tsp (s .state .«namespace_id») (s .state .count) (take (dirRoom (s .state .limit)) (s .tspDir)) (take (treeRoom field (s .state .limit)) (s .tsp)))) (take (dirRoom (s .state .limit)) (s .tspDir)) (take (treeRoom field (s .state .limit)) (s .tsp)) tspDir tsp k
+      → forgetEntryOutcome (record { refusal = 0; state = record { «namespace_id» = s .state .«namespace_id»; count = m; limit = s .state .limit } })
+      (spt ++ drop (treeRoom field (s .state .limit)) (s .spt)) (sptDir ++ drop (dirRoom (s .state .limit)) (s .sptDir))
+      (tsp ++ drop (treeRoom field (s .state .limit)) (s .tsp)) (tspDir ++ drop (dirRoom (s .state .limit)) (s .tspDir))
+      ≡ entryForgotten field s subspace path expects digest
+  unfolding entryForgotten without heldBy held treeOf dirOf
+  entry-done z m k spt sptDir tsp tspDir cs ct =
+      let g = store-holds s (without (standsAt subspace (components path)) (heldBy field s)) (entry-tested z .0 .room) m k spt sptDir tsp tspDir cs ct in
+      let w : forgetEntryRefusal field s subspace path expects digest ≡ 0 = sym e ∙ z in
+      rw w (λ i. record { answer = record { refusal = 0; state = g i .state }; store = g i })
+
+-- The refusals of an area's forgetting, and the same again.
+module _ (s : Store) (area : Area) (protects : Bool) (protected : Area) (n : ℕ) (e : n ≡ storeRefusal field s true) where
+  abbrev legalAreas : Bool
+  legalAreas = legal field (area .path) && cond protects (legal field (protected .path)) true
+
+  pub area-early : (n ≡ 0 → ⊥) → n ≡ forgetAreaRefusal field s area protects protected
+  unfolding forgetAreaRefusal _orElse_
+  area-early h = rw (← e, ne-eqb n 0 h)
+
+  pub area-path : n ≡ 0 → legalAreas ≡ false → 4 ≡ forgetAreaRefusal field s area protects protected
+  unfolding forgetAreaRefusal _orElse_ unless
+  area-path z l = rw (← e, z, l)
+
+  pub area-passes : n ≡ 0 → legalAreas ≡ true → 0 ≡ forgetAreaRefusal field s area protects protected
+  unfolding forgetAreaRefusal _orElse_ unless
+  area-passes z l = rw (← e, z, l)
+
+-- What a test holds of and the others are all.
+keep-both : {A : Type 0} (p : A → Bool) (l : List A) → length (keep p l) + length (keep (λ (x : A). not (p x)) l) ≡ length l
+unfolding keep
+keep-both p [] = refl
+keep-both p (a ∷ l) = let h = keep-both p l in split (p a) (λ q. rw q (omega arith)) (λ q. rw q (omega arith))
+
+module _ (s : Store) (area : Area) (protects : Bool) (protected : Area) (n : ℕ) (e : n ≡ forgetAreaRefusal field s area protects protected) where
+  pub area-refused : (n ≡ 0 → ⊥) → forgetAreaOutcome (record { refusal = n; state = s .state; forgotten = 0 }) (s .spt) (s .sptDir) (s .tsp) (s .tspDir) ≡ areaForgotten field s area protects protected
+  unfolding areaForgotten
+  area-refused h = rw (← e, ne-eqb n 0 h)
+
+  pub area-tested : n ≡ 0 → Passed s × (legal field (area .path) ≡ true) × (cond protects (legal field (protected .path)) true ≡ true)
+  unfolding forgetAreaRefusal
+  area-tested z =
+      let k = or-none (storeRefusal field s true) (unless (legal field (area .path) && cond protects (legal field (protected .path)) true) 4) (sym e ∙ z) in
+      let l = and-true (legal field (area .path)) (cond protects (legal field (protected .path)) true) (unless-none (legal field (area .path) && cond protects (legal field (protected .path)) true) 4 (omega arith) (k .1)) in
+      (passed s true (k .0) .0, l .0, l .1)
+
+  module _ (z : n ≡ 0) (m k : ℕ) (spt sptDir tsp tspDir : List ℕ)
+      (cs : Changed Spt (keep (λ (x : Stored). not (isForgotten area protects protected x)) (inTree Spt (s .state .«namespace_id») (s .state .count) (take (dirRoom (s .state .limit)) (s .sptDir)) (take (treeRoom field (s .state .limit)) (s .spt)))) (take (dirRoom (s .state .limit)) (s .sptDir)) (take (treeRoom field (s .state .limit)) (s .spt)) sptDir spt m)
+      (ct : Changed Tsp (keep (λ (x : Stored). not (isForgotten area protects protected x)) (inTree Tsp (s .state .«namespace_id») (s .state .count) (take (dirRoom (s .state .limit)) (s .tspDir)) (take (treeRoom field (s .state .limit)) (s .tsp)))) (take (dirRoom (s .state .limit)) (s .tspDir)) (take (treeRoom field (s .state .limit)) (s .tsp)) tspDir tsp k) where
+    area-count : length (keep (isForgotten area protects protected) (held field Spt s)) + m ≡ s .state .count
+    unfolding held treeOf dirOf
+    area-count =
+        let c = cs .count in
+        let f = formed-many (area-tested z .0 .formed Spt) (s .state .«namespace_id») in
+        omega (arith, keep-both (isForgotten area protects protected) (held field Spt s))
+
+    pub area-left : m ≤ s .state .count
+    area-left = omega (arith, area-count)
+
+    pub area-done : forgetAreaOutcome (record { refusal = 0; state = record { «namespace_id» = s .state .«namespace_id»; count = m; limit = s .state .limit }; forgotten = s .state .count - m })
+        (spt ++ drop (treeRoom field (s .state .limit)) (s .spt)) (sptDir ++ drop (dirRoom (s .state .limit)) (s .sptDir))
+        (tsp ++ drop (treeRoom field (s .state .limit)) (s .tsp)) (tspDir ++ drop (dirRoom (s .state .limit)) (s .tspDir))
+        ≡ areaForgotten field s area protects protected
+    unfolding areaForgotten without heldBy
+    area-done =
+        let g = store-left in
+        let w : forgetAreaRefusal field s area protects protected ≡ 0 = sym e ∙ z in
+        let d : s .state .count - m ≡ length (keep (isForgotten area protects protected) (held field Spt s)) = omega (arith, area-count) in
+        rw w (λ i. record { answer = record { refusal = 0; state = g i .state; forgotten = d i }; store = g i })
+      where
+        store-left : storeOf (record { «namespace_id» = s .state .«namespace_id»; count = m; limit = s .state .limit })
+            (spt ++ drop (treeRoom field (s .state .limit)) (s .spt)) (sptDir ++ drop (dirRoom (s .state .limit)) (s .sptDir))
+            (tsp ++ drop (treeRoom field (s .state .limit)) (s .tsp)) (tspDir ++ drop (dirRoom (s .state .limit)) (s .tspDir))
+            ≡ holding field (without (isForgotten area protects protected) (heldBy field s)) s
+        store-left = unfold without heldBy held treeOf dirOf in store-holds s (without (isForgotten area protects protected) (heldBy field s)) (area-tested z .0 .room) m k spt sptDir tsp tspDir cs ct
+
+-- The digest of what a record says is 32 bytes long.
+pub digest-long : {count : ℕ} {dir tree : List ℕ} → Formed Spt count dir tree → Bytes tree → (ns : List ℕ) (k : ℕ) → k < count → (a : LengthyAuthorisedEntry)
+    → storedOf a ≡ stored Spt field ns (recordAt k dir tree) → length (a .entry .«payload_digest») ≡ 32
+unfolding storedOf entryOf rankOf
+digest-long {count} {dir} {tree} v b ns k h a q =
+    ap (λ (y : Stored). length (y .entry .rank .«payload_digest»)) q
+    ∙ record-forth Spt field ns (recordAt k dir tree) (at-bytes k dir tree b) (formed-record v k h) .lawful .digest
+
+-- Where a digest is expected it was looked for in the subspace-first tree.
+pub asked : (s : Store) (subspace : Subspace) (p : Components) (expects : Bool) (digest : List ℕ) → expects ≡ true → (t b : Bool)
+    → t ≡ any (unexpected subspace p true digest) (inTree Spt (s .state .«namespace_id») (s .state .count) (take (dirRoom (s .state .limit)) (s .sptDir)) (take (treeRoom field (s .state .limit)) (s .spt)))
+    → t ≡ b → any (unexpected subspace p expects digest) (held field Spt s) ≡ b
+unfolding held treeOf dirOf
+asked s subspace p expects digest x t b e q = ap (λ (y : Bool). any (unexpected subspace p y digest) (held field Spt s)) x ∙ sym e ∙ q
+
+pub unasked-in : (s : Store) (subspace : Subspace) (p : Components) (expects : Bool) (digest : List ℕ) → expects ≡ false → any (unexpected subspace p expects digest) (held field Spt s) ≡ false
+unasked-in s subspace p expects digest x = ap (λ (y : Bool). any (unexpected subspace p y digest) (held field Spt s)) x ∙ unasked subspace p digest (held field Spt s)

@@ -1,0 +1,240 @@
+-- What an ingestion refuses, decides and answers: the decision by place and number means the definition's, and each way's answer is the
+-- definition's. Assumes nothing.
+use mathlib.Core.Path.{_≡_, refl, sym, ap, _∙_}
+use mathlib.Core.Option.{some, none}
+use mathlib.Core.List.{List, [], _∷_}
+use mathlib.Core.Bool.{Bool, true, false, not, _&&_}
+use Prim.Native.Nat.{ℕ, suc, _+_, _-_, _*_, _≤_, _<_}
+use native.Mathlib.Omega.{arith}
+use lib.ListN.{length, take, drop, getD}
+use lib.Seq.{drop-cons}
+use lib.Dec.{ltb, leb}
+use borrow.Author.Tests.{ltb-true, ltb-false, leb-true, leb-false, lt-ltb, eq-eqb, ne-eqb}
+use Rattle.laws.specs.Prefix.{sameNumber, sameList}
+use Rattle.laws.specs.Sorted.{any, keep}
+use Rattle.laws.proofs.Truth.{split, clash}
+use Rattle.layout.specs.Layout.{records, recordAt}
+use Rattle.layout.specs.Marks.{marksOf, firstMark}
+use Rattle.layout.proofs.MarkLaws.{length-marks, kept-marks, count-marks, length-kept, first-none}
+use Rattle.data_model.specs.Path.{field, legal}
+use Rattle.data_model.specs.Entry.{Entry, entryOf}
+use Rattle.data_model.specs.declared.entry.Entry.{Entry as EntryValue}
+use Rattle.data_model.proofs.Orders.{component-equality}
+use Rattle.tree.specs.Stored.{Stored, stored, contents}
+use Rattle.tree.specs.Tree.{Formed, InBounds}
+use Rattle.tree.specs.Matching.{outdates, removes}
+use Rattle.tree.specs.declared.stored.KeyOrder.the-variants.{Spt}
+use Rattle.tree.proofs.FormedLaws.{formed-bounds}
+use Rattle.tree.proofs.FormedContents.{formed-many, formed-next}
+use Rattle.store.specs.Store.{Store, dirRoom, treeOf, dirOf, held, heldBy, holding}
+use Rattle.store.specs.Refusal.{unless, _orElse_, storeRefusal}
+use Rattle.store.specs.Ingest.{Decision, refuse, obsolete, take-it, firstThat, decidedOf, decided, stays, outdatedAt, removedFrom, placeDecided, ingestRefusal, judged, plainAnswer, obsoleteAnswer, stateWith, filed, filedIn, filing, carried, ingested}
+use Rattle.store.specs.declared.ingest.Ingested.{Ingested}
+use Rattle.store.specs.declared.ingest.IngestVerdict.the-variants as verdict
+use Rattle.store.specs.declared.ingest.PlaceDecision.{PlaceDecision}
+use Rattle.store.specs.declared.ingest.PlaceDecision.the-variants as place
+use Rattle.store.proofs.CheckLaws.{or-none, unless-none, Passed, passed}
+use Rattle.store.proofs.Counted.{insert-length}
+
+-- Which refusal comes of which test.
+module _ (s : Store) (prune : List ℕ) (e : EntryValue) (n : ℕ) (rooms : Bool) (er : rooms ≡ leb (dirRoom (s .state .limit)) (length prune)) (en : n ≡ storeRefusal field s rooms) where
+  first : storeRefusal field s (leb (dirRoom (s .state .limit)) (length prune)) ≡ n
+  first = ap (storeRefusal field s) (sym er) ∙ sym en
+
+  pub refuses-early : (n ≡ 0 → ⊥) → n ≡ ingestRefusal field s prune e
+  unfolding ingestRefusal _orElse_
+  refuses-early h = rw (first, ne-eqb n 0 h)
+
+  pub refuses-path : n ≡ 0 → legal field (e .path) ≡ false → 4 ≡ ingestRefusal field s prune e
+  unfolding ingestRefusal _orElse_ unless
+  refuses-path z l = rw (first, z, l)
+
+  pub refuses-namespace : n ≡ 0 → legal field (e .path) ≡ true → sameList sameNumber (e .«namespace_id») (s .state .«namespace_id») ≡ false → 6 ≡ ingestRefusal field s prune e
+  unfolding ingestRefusal _orElse_ unless
+  refuses-namespace z l m = rw (first, z, l, m)
+
+  pub refuses-nothing : n ≡ 0 → legal field (e .path) ≡ true → sameList sameNumber (e .«namespace_id») (s .state .«namespace_id») ≡ true → 0 ≡ ingestRefusal field s prune e
+  unfolding ingestRefusal _orElse_ unless
+  refuses-nothing z l m = rw (first, z, l, m)
+
+-- What is known where nothing of 1 to 6 is refused.
+pub record Ready (s : Store) (prune : List ℕ) (e : EntryValue) : Type 0 where
+  pub passes : Passed s
+  pub pairs : dirRoom (s .state .limit) ≤ length prune
+  pub legal-path : legal field (e .path) ≡ true
+  pub namespace : e .«namespace_id» ≡ s .state .«namespace_id»
+
+pub ready : (s : Store) (prune : List ℕ) (e : EntryValue) → ingestRefusal field s prune e ≡ 0 → Ready s prune e
+unfolding ingestRefusal
+ready s prune e z =
+    let room = leb (dirRoom (s .state .limit)) (length prune) in
+    let same = sameList sameNumber (e .«namespace_id») (s .state .«namespace_id») in
+    let k = or-none (storeRefusal field s room) (unless (legal field (e .path)) 4 orElse unless same 6) z in
+    let m = or-none (unless (legal field (e .path)) 4) (unless same 6) (k .1) in
+    let p = passed s room (k .0) in
+    record {
+      passes = p .0;
+      pairs = leb-true (dirRoom (s .state .limit)) (length prune) (p .1);
+      legal-path = unless-none (legal field (e .path)) 4 (omega arith) (m .0);
+      namespace = component-equality .equal (e .«namespace_id») (s .state .«namespace_id») (unless-none same 6 (omega arith) (m .1));
+    }
+
+-- The first that a test holds of, by its mark; and how many it holds of.
+module _ {A : Type 0} (p : A → Bool) where
+  pub first-absent : (l : List A) → any p l ≡ false → firstThat p l ≡ none
+  unfolding firstThat any
+  first-absent [] e = refl
+  first-absent (a ∷ l) e = split (p a) (λ q. clash {b = true} refl (rw q at e)) (λ q. rw q (first-absent l (rw q at e)))
+
+  pub first-there : (l : List A) → any p l ≡ true → (x : A) × (firstThat p l ≡ some x)
+  unfolding firstThat any
+  first-there [] e = clash e refl
+  first-there (a ∷ l) e = split (p a) (λ q. (a, rw q)) (λ q. let k = first-there l (rw q at e) in (k .0, rw q (k .1)))
+
+  first-at : (l : List A) (d : A) → firstMark (marksOf p l) < length l → firstThat p l ≡ some (getD l (firstMark (marksOf p l)) d)
+  unfolding firstThat
+  first-at [] d h = absurd (omega arith)
+  first-at (a ∷ l) d h =
+      let i = first-at l d in
+      split (p a)
+      (λ q. rw q)
+      (λ q. let w : suc (firstMark (marksOf p l)) < suc (length l) = rw q at h in rw q (i (omega arith)))
+
+  any-number : (l : List A) → any p l ≡ ltb 0 (length (keep p l))
+  unfolding any keep
+  any-number [] = refl
+  any-number (a ∷ l) = let i = any-number l in split (p a) (λ q. rw q (sym (lt-ltb 0 (suc (length (keep p l))) (omega arith)))) (λ q. rw q i)
+
+  left-number : (l : List A) → length (keep (λ (a : A). not (p a)) l) + length (keep p l) ≡ length l
+  left-number l = rw (← kept-marks p l, ← count-marks p l) (length-kept (marksOf p l) l (length-marks p l))
+
+-- What a decision by place means.
+unfoldable meant : List Stored → Stored → PlaceDecision → Decision
+meant l x (place.Refuse k) = refuse k
+meant l x (place.Old k) = obsolete (getD l k x)
+meant l x (place.Take n) = take-it
+
+module _ (limit : ℕ) (l : List Stored) (e : Entry) (prevent : Bool) where
+  stay-number : length (keep (stays e) l) ≡ length l - removedFrom l e
+  stay-number = omega (arith, left-number (removes e) l)
+
+  place-meant : (x : Stored) → meant l x (placeDecided limit l e prevent) ≡ decided limit l e prevent
+  unfolding meant placeDecided decided decidedOf
+  place-meant x = split (ltb (outdatedAt l e) (length l))
+      (λ q. rw (q, first-at (outdates e) l x (ltb-true (outdatedAt l e) (length l) q)))
+      (λ q. rw (q, first-absent (outdates e) l (first-none (outdates e) l (ltb-false (outdatedAt l e) (length l) q)), any-number (removes e) l, stay-number)
+      (split (prevent && ltb 0 (removedFrom l e))
+      (λ r. rw r)
+      (λ r. rw r (split (leb limit (length l - removedFrom l e)) (λ t. rw t) (λ t. rw t)))))
+
+  pub place-old : (k : ℕ) → placeDecided limit l e prevent ≡ place.Old k → k < length l
+  unfolding placeDecided
+  place-old k d = split (ltb (outdatedAt l e) (length l))
+      (λ q.
+      let w : place.Old (outdatedAt l e) ≡ place.Old k = rw q at d in
+      let g : outdatedAt l e ≡ k = cc in
+      let h = ltb-true (outdatedAt l e) (length l) q in
+      omega arith)
+      (λ q. split (prevent && ltb 0 (removedFrom l e))
+      (λ r. absurd (let w : place.Refuse 7 ≡ place.Old k = rw (q, r) at d in let z : _≡_ {A = ℕ} 0 1 = cc in omega arith))
+      (λ r. split (leb limit (length l - removedFrom l e))
+      (λ t. absurd (let w : place.Refuse 8 ≡ place.Old k = rw (q, r, t) at d in let z : _≡_ {A = ℕ} 0 1 = cc in omega arith))
+      (λ t. absurd (let w : place.Take (removedFrom l e) ≡ place.Old k = rw (q, r, t) at d in let z : _≡_ {A = ℕ} 0 1 = cc in omega arith))))
+
+  pub place-take : (n : ℕ) → placeDecided limit l e prevent ≡ place.Take n → (removedFrom l e ≡ n) × (length l - n < limit)
+  unfolding placeDecided
+  place-take n d = split (ltb (outdatedAt l e) (length l))
+      (λ q. absurd (let w : place.Old (outdatedAt l e) ≡ place.Take n = rw q at d in let z : _≡_ {A = ℕ} 0 1 = cc in omega arith))
+      (λ q. split (prevent && ltb 0 (removedFrom l e))
+      (λ r. absurd (let w : place.Refuse 7 ≡ place.Take n = rw (q, r) at d in let z : _≡_ {A = ℕ} 0 1 = cc in omega arith))
+      (λ r. split (leb limit (length l - removedFrom l e))
+      (λ t. absurd (let w : place.Refuse 8 ≡ place.Take n = rw (q, r, t) at d in let z : _≡_ {A = ℕ} 0 1 = cc in omega arith))
+      (λ t.
+      let w : place.Take (removedFrom l e) ≡ place.Take n = rw (q, r, t) at d in
+      let g : removedFrom l e ≡ n = cc in
+      let h = leb-false limit (length l - removedFrom l e) t in
+      (g, omega arith))))
+
+-- What stands at a place of a tree that was tested.
+stands-at : {count : ℕ} {dir tree : List ℕ} (v : Formed Spt count dir tree) (ns : List ℕ) (k : ℕ) → k < count → (x : Stored)
+    → getD (contents Spt field ns (records count dir tree)) k x ≡ stored Spt field ns (recordAt k dir tree)
+stands-at {count} {dir} {tree} v ns k h x =
+    let l = contents Spt field ns (records count dir tree) in
+    let e : getD l k x ∷ drop (suc k) l ≡ stored Spt field ns (recordAt k dir tree) ∷ drop (k + 1) l = sym (drop-cons l k x (omega (arith, formed-many v ns))) ∙ formed-next v ns k h in
+    cc
+
+-- The subspace-first tree and its directory in their room.
+abbrev pub sptIn : Store → List ℕ
+sptIn s = take (410 * s .state .limit) (s .spt)
+
+abbrev pub sptDirIn : Store → List ℕ
+sptDirIn s = take (2 * s .state .limit) (s .sptDir)
+
+abbrev pub inSpt : Store → List Stored
+inSpt s = contents Spt field (s .state .«namespace_id») (records (s .state .count) (sptDirIn s) (sptIn s))
+
+pub ready-formed : (s : Store) (prune : List ℕ) (e : EntryValue) → Ready s prune e → Formed Spt (s .state .count) (sptDirIn s) (sptIn s)
+unfolding dirOf treeOf
+ready-formed s prune e v = v .passes .formed Spt
+
+-- The answers.
+module _ (s : Store) (prune : List ℕ) (e : EntryValue) (token : List ℕ) (prevent : Bool) where
+  pub answers-refused : (n : ℕ) → n ≡ ingestRefusal field s prune e → (n ≡ 0 → ⊥) → (r : Ingested) → r ≡ plainAnswer (verdict.Refused n) (s .state) → r ≡ ingested field s prune e token prevent .answer
+  unfolding ingested judged carried
+  answers-refused n q h r er = rw (er, ← q, ne-eqb n 0 h)
+
+  module _ (z : ingestRefusal field s prune e ≡ 0) (d : PlaceDecision) (ed : d ≡ placeDecided (s .state .limit) (inSpt s) (entryOf e) prevent) where
+    formed : Formed Spt (s .state .count) (sptDirIn s) (sptIn s)
+    formed = ready-formed s prune e (ready s prune e z)
+
+    judged-place : (x : Stored) → judged field s prune e prevent ≡ meant (inSpt s) x d
+    unfolding judged held treeOf dirOf
+    judged-place x = rw (eq-eqb (ingestRefusal field s prune e) 0 z) (sym (place-meant (s .state .limit) (inSpt s) (entryOf e) prevent x) ∙ ap (meant (inSpt s) x) (sym ed))
+
+    answers : (x : Stored) → ingested field s prune e token prevent .answer ≡ carried field s prune (entryOf e) token (meant (inSpt s) x d) .answer
+    unfolding ingested
+    answers x = ap (λ (j : Decision). carried field s prune (entryOf e) token j .answer) (judged-place x)
+
+    pub answers-late : (k : ℕ) → d ≡ place.Refuse k → (r : Ingested) → r ≡ plainAnswer (verdict.Refused k) (s .state) → r ≡ ingested field s prune e token prevent .answer
+    unfolding meant carried
+    answers-late k q r er =
+        let x = stored Spt field (s .state .«namespace_id») [] in
+        er ∙ sym (answers x ∙ ap (λ (j : PlaceDecision). carried field s prune (entryOf e) token (meant (inSpt s) x j) .answer) q)
+
+    pub old-bounds : (k : ℕ) → d ≡ place.Old k → InBounds k (sptDirIn s) (sptIn s)
+    old-bounds k q = formed-bounds formed k (omega (arith, place-old (s .state .limit) (inSpt s) (entryOf e) prevent k (sym ed ∙ q), formed-many formed (s .state .«namespace_id»)))
+
+    pub answers-old : (k : ℕ) → d ≡ place.Old k → (r : Ingested) → r ≡ obsoleteAnswer (s .state) (stored Spt field (s .state .«namespace_id») (recordAt k (sptDirIn s) (sptIn s)))
+        → r ≡ ingested field s prune e token prevent .answer
+    unfolding meant carried
+    answers-old k q r er =
+        let x = stored Spt field (s .state .«namespace_id») (recordAt k (sptDirIn s) (sptIn s)) in
+        let h = place-old (s .state .limit) (inSpt s) (entryOf e) prevent k (sym ed ∙ q) in
+        let g = stands-at formed (s .state .«namespace_id») k (omega (arith, formed-many formed (s .state .«namespace_id»))) x in
+        er ∙ ap (obsoleteAnswer (s .state)) (sym g) ∙ sym (answers x ∙ ap (λ (j : PlaceDecision). carried field s prune (entryOf e) token (meant (inSpt s) x j) .answer) q)
+
+    pub take-fits : (n : ℕ) → d ≡ place.Take n → (n ≤ s .state .count) × (s .state .count - n < s .state .limit)
+    take-fits n q =
+        let k = place-take (s .state .limit) (inSpt s) (entryOf e) prevent n (sym ed ∙ q) in
+        let a = k .0 in
+        let b = k .1 in
+        let m = formed-many formed (s .state .«namespace_id») in
+        (omega (arith, left-number (removes (entryOf e)) (inSpt s)), omega arith)
+
+    pub answers-take : (n : ℕ) → d ≡ place.Take n → (r : Ingested) → r ≡ plainAnswer (verdict.Success n) (stateWith (s .state) (s .state .count - n + 1))
+        → r ≡ ingested field s prune e token prevent .answer
+    unfolding meant carried holding filed filedIn heldBy held treeOf dirOf
+    answers-take n q r er =
+        let x = stored Spt field (s .state .«namespace_id») [] in
+        let k = place-take (s .state .limit) (inSpt s) (entryOf e) prevent n (sym ed ∙ q) in
+        let a = k .0 in
+        let m = formed-many formed (s .state .«namespace_id») in
+        let c : s .state .count - n + 1 ≡ length (filedIn Spt (filing (entryOf e) token) (inSpt s)) =
+        omega (arith, stay-number (s .state .limit) (inSpt s) (entryOf e) prevent, files-length (filing (entryOf e) token) (inSpt s)) in
+        er
+        ∙ ap (λ (i : ℕ). plainAnswer (verdict.Success n) (stateWith (s .state) i)) c
+        ∙ ap (λ (i : ℕ). plainAnswer (verdict.Success i) (stateWith (s .state) (length (filedIn Spt (filing (entryOf e) token) (inSpt s))))) (sym a)
+        ∙ sym (answers x ∙ ap (λ (j : PlaceDecision). carried field s prune (entryOf e) token (meant (inSpt s) x j) .answer) q)
+      where
+        files-length : (y : Stored) (l : List Stored) → length (filedIn Spt y l) ≡ suc (length (keep (stays (y .entry)) l))
+        files-length y l = unfold filedIn in insert-length _ y (keep (stays (y .entry)) l)

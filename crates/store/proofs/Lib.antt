@@ -1,0 +1,12 @@
+pub mod Counted
+pub mod Meaning
+pub mod Recorded
+pub mod Lifted
+pub mod WellStore
+pub mod DecideLaws
+pub mod CheckLaws
+pub mod IngestLaws
+pub mod ChangeLaws
+pub mod FileLaws
+pub mod HoldingLaws
+pub mod ForgetLaws

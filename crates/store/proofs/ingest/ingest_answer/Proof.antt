@@ -1,0 +1,148 @@
+-- `ingest_answer` meets its contract: each way's answer is the definition's. Assumes nothing.
+use Prim.Native.Nat.{_*_}
+use mathlib.Core.Path.{_≡_, sym, _∙_}
+use native.Mathlib.Omega.{arith}
+use lib.Seq.{length-take-le}
+use Rattle.data_model.specs.Path.{field}
+use Rattle.store.specs.Store.{Store, storeOf}
+use Rattle.store.specs.Ingest.{ingestRefusal}
+use Rattle.store.proofs.IngestLaws.{Ready, ready, ready-formed, answers-refused, answers-late, old-bounds, answers-old, take-fits, answers-take}
+use borrow.Author.Needs.{needs}
+use Rattle.store.proofs.ingest.ingest_answer.Statement.{statement}
+use Rattle.store.proofs.ingest.ingest_answer.Tie as tie
+
+-- The store that was handed in; nothing of 1 to 6 is refused where the answer is not plain.
+abbrev lent : tie.Start → Store
+lent p = storeOf (p .args .state) (p .args .spt .now) (p .args .«spt-dir» .now) (p .args .tsp .now) (p .args .«tsp-dir» .now)
+
+abbrev start : tie.Else1 → tie.Start
+start c = c .before .before .before .before .before .before .before
+
+zero : (c : tie.Else1) → ingestRefusal field (lent (start c)) (start c .args .prune .now) (start c .args .entry) ≡ 0
+zero c = sym (c .before .ingest-refusal .ensures) ∙ c .if1 .left
+
+known : (c : tie.Else1) → Ready (lent (start c)) (start c .args .prune .now) (start c .args .entry)
+known c = ready (lent (start c)) (start c .args .prune .now) (start c .args .entry) (zero c)
+
+ingest-refusal-requires : tie.Need-ingest-refusal-requires
+ingest-refusal-requires c κs = search needs
+
+plain-answer-requires : tie.Need-plain-answer-requires
+plain-answer-requires c κs = search needs
+
+returns : tie.Need-returns
+returns c =
+    let p = c .before .before .before .before .before .before .before .before in
+    answers-refused (lent p) (p .args .prune .now) (p .args .entry) (p .args .token) (p .args .prevent) (c .before .before .ingest-refusal .result) (c .before .before .ingest-refusal .ensures) (c .before .if1 .taken) _ (c .plain-answer .ensures)
+
+mul-n : tie.Need-mul-n
+mul-n c =
+    let m = known c .passes .most in omega arith
+
+mul-m : tie.Need-mul-m
+mul-m c =
+    let m = known c .passes .most in omega arith
+
+slice-aggregate-decide : tie.Need-slice-aggregate-decide
+slice-aggregate-decide c =
+    let e = c .before .before in
+    let r = known e .passes .room .spt in
+    sym (length-take-le (410 * start e .args .state .limit) (start e .args .spt .now) (omega arith))
+
+slice-aggregate-decide-2 : tie.Need-slice-aggregate-decide-2
+slice-aggregate-decide-2 c =
+    let e = c .before .before .before in
+    let r = known e .passes .room .sptDir in
+    sym (length-take-le (2 * start e .args .state .limit) (start e .args .«spt-dir» .now) (omega arith))
+
+decide-requires : tie.Need-decide-requires
+decide-requires c κs =
+    let e = c .before .before .before in
+    let p = start e in
+    let v = known e in
+    let m = v .passes .most in
+    let f = v .passes .few in
+    (ready-formed (lent p) (p .args .prune .now) (p .args .entry) v, omega arith, v .legal-path)
+
+enum-known-d : tie.Need-enum-known-d
+enum-known-d c = search needs
+
+plain-answer-requires-2 : tie.Need-plain-answer-requires-2
+plain-answer-requires-2 c κs = search needs
+
+enum-known-d-2 : tie.Need-enum-known-d-2
+enum-known-d-2 c = search needs
+
+slice-aggregate-obsolete-answer : tie.Need-slice-aggregate-obsolete-answer
+slice-aggregate-obsolete-answer c =
+    let e = c .before .before .before .before .before .before .before .before in
+    let r = known e .passes .room .spt in
+    sym (length-take-le (410 * start e .args .state .limit) (start e .args .spt .now) (omega arith))
+
+slice-aggregate-obsolete-answer-2 : tie.Need-slice-aggregate-obsolete-answer-2
+slice-aggregate-obsolete-answer-2 c =
+    let e = c .before .before .before .before .before .before .before .before .before in
+    let r = known e .passes .room .sptDir in
+    sym (length-take-le (2 * start e .args .state .limit) (start e .args .«spt-dir» .now) (omega arith))
+
+obsolete-answer-requires : tie.Need-obsolete-answer-requires
+obsolete-answer-requires c κs =
+    let e = c .before .before .before .before .before .before .before .before .before in
+    let p = start e in
+    old-bounds (lent p) (p .args .prune .now) (p .args .entry) (p .args .token) (p .args .prevent) (zero e) (c .before .before .before .before .before .decide .result) (c .before .before .before .before .before .decide .ensures)
+    _ (c .before .before .before .d2 .given .1)
+
+enum-known-d-3 : tie.Need-enum-known-d-3
+enum-known-d-3 c = search needs
+
+taken-answer-requires : tie.Need-taken-answer-requires
+taken-answer-requires c κs =
+    let e = c .before .before .before .before .before .before .before in
+    let p = start e in
+    take-fits (lent p) (p .args .prune .now) (p .args .entry) (p .args .token) (p .args .prevent) (zero e) (c .before .before .before .decide .result) (c .before .before .before .decide .ensures)
+    _ (c .before .d3 .given .1)
+
+returns-2 : tie.Need-returns-2
+returns-2 c =
+    let e = c .before .before .before .before .before .before .before .before in
+    let p = start e in
+    answers-late (lent p) (p .args .prune .now) (p .args .entry) (p .args .token) (p .args .prevent) (zero e) (c .before .before .before .before .decide .result) (c .before .before .before .before .decide .ensures)
+    _ (c .before .before .d .given .1) _ (c .plain-answer2 .ensures)
+
+returns-3 : tie.Need-returns-3
+returns-3 c =
+    let e = c .before .before .before .before .before .before .before .before .before .before in
+    let p = start e in
+    answers-old (lent p) (p .args .prune .now) (p .args .entry) (p .args .token) (p .args .prevent) (zero e) (c .before .before .before .before .before .before .decide .result) (c .before .before .before .before .before .before .decide .ensures)
+    _ (c .before .before .before .before .d2 .given .1) _ (c .obsolete-answer .ensures)
+
+returns-4 : tie.Need-returns-4
+returns-4 c =
+    let e = c .before .before .before .before .before .before .before .before in
+    let p = start e in
+    answers-take (lent p) (p .args .prune .now) (p .args .entry) (p .args .token) (p .args .prevent) (zero e) (c .before .before .before .before .decide .result) (c .before .before .before .before .decide .ensures)
+    _ (c .before .before .d3 .given .1) _ (c .taken-answer .ensures)
+
+pub ingest-answer-spec : {M : Type 1} → statement M
+ingest-answer-spec =
+    tie.close
+    (tie.spec
+    ingest-refusal-requires
+    plain-answer-requires
+    returns
+    mul-n
+    mul-m
+    slice-aggregate-decide
+    slice-aggregate-decide-2
+    decide-requires
+    enum-known-d
+    plain-answer-requires-2
+    enum-known-d-2
+    slice-aggregate-obsolete-answer
+    slice-aggregate-obsolete-answer-2
+    obsolete-answer-requires
+    enum-known-d-3
+    taken-answer-requires
+    returns-2
+    returns-3
+    returns-4)

@@ -1,0 +1,163 @@
+-- Ingestion: 1, 2, 3, 4, 6; obsolete; 7, 8; or the entry is filed in both trees and what it removes goes from both.
+use Prim.Native.Nat.{ℕ, _-_, _<_}
+use mathlib.Core.Path.{_≡_}
+use mathlib.Core.List.{List, [], _∷_}
+use mathlib.Core.Option.{Option, some, none}
+use mathlib.Core.Bool.{Bool, false, not, cond, _&&_}
+use lib.ListN.{length, replicate}
+use lib.Dec.{leb, ltb, eqb}
+use Rattle.laws.specs.Lists.{put}
+use Rattle.laws.specs.Order.{below, on}
+use Rattle.laws.specs.Prefix.{sameNumber, sameList}
+use Rattle.laws.specs.Sorted.{any, keep, insert}
+use Rattle.layout.specs.Marks.{marksOf, firstMark, markedPairs}
+use Rattle.data_model.specs.Path.{Figures, legal, pathOf}
+use Rattle.data_model.specs.Subspace.{firstSubspace}
+use Rattle.data_model.specs.Entry.{Entry, entryOf}
+use Rattle.data_model.specs.Refusal.{illegalPath}
+use Rattle.data_model.specs.declared.entry.Entry.{Entry as EntryValue}
+use Rattle.key_laws.specs.KeyOrder.{sptOrder, tspOrder}
+use Rattle.tree.specs.Stored.{Stored, tripleOf, lengthy}
+use Rattle.tree.specs.Matching.{outdates, removes}
+use Rattle.tree.specs.declared.stored.KeyOrder.{KeyOrder}
+use Rattle.tree.specs.declared.stored.KeyOrder.the-variants.{Spt, Tsp}
+use Rattle.store.specs.Store.{Store, storeOf, dirRoom, dirOf, held, Held, heldBy, holding}
+use Rattle.store.specs.Refusal.{unless, _orElse_, storeRefusal, otherNamespace, pruningPrevented, full}
+use Rattle.store.specs.declared.state.State.{State}
+use Rattle.store.specs.declared.ingest.IngestVerdict.{IngestVerdict}
+use Rattle.store.specs.declared.ingest.IngestVerdict.the-variants as verdict
+use Rattle.store.specs.declared.ingest.Ingested.{Ingested}
+use Rattle.store.specs.declared.ingest.PlaceDecision.{PlaceDecision}
+use Rattle.store.specs.declared.ingest.PlaceDecision.the-variants as place
+
+-- 01's number of each case: 0, unless it is refused.
+unfoldable pub verdictNumber : IngestVerdict → ℕ
+verdictNumber (verdict.Success n) = 0
+verdictNumber verdict.Obsolete = 0
+verdictNumber (verdict.Refused n) = n
+
+-- The orders of the two trees, on entries.
+abbrev pub sptLess : Stored → Stored → Bool
+sptLess = below (on (λ (x : Stored). tripleOf (x .entry)) sptOrder)
+
+abbrev pub tspLess : Stored → Stored → Bool
+tspLess = below (on (λ (x : Stored). tripleOf (x .entry)) tspOrder)
+
+-- What an ingestion files.
+abbrev pub filing : Entry → (token : List ℕ) → Stored
+filing e token = record { entry = e; token = token; available = 0 }
+
+abbrev pub stays : Entry → Stored → Bool
+stays e x = not (removes e x)
+
+abbrev pub lessIn : KeyOrder → Stored → Stored → Bool
+lessIn Spt = sptLess
+lessIn Tsp = tspLess
+
+-- What it removes goes from a tree, and it stands at its key's place.
+unfoldable pub filedIn : KeyOrder → Stored → List Stored → List Stored
+filedIn o x l = insert (lessIn o) x (keep (stays (x .entry)) l)
+
+unfoldable pub filed : Stored → Held → Held
+filed x h = record { spt = filedIn Spt x (h .spt); tsp = filedIn Tsp x (h .tsp) }
+
+-- What is decided of an entry that is not refused with 1 to 6.
+pub data Decision : Type 0 where
+  refuse : ℕ → Decision
+  obsolete : Stored → Decision
+  take-it : Decision
+
+-- The first that a test holds of.
+unfoldable pub firstThat : {A : Type 0} → (A → Bool) → List A → Option A
+firstThat p [] = none
+firstThat p (a ∷ l) = cond (p a) (some a) (firstThat p l)
+
+unfoldable pub decidedOf : Option Stored → Decision → Decision
+decidedOf (some x) d = obsolete x
+decidedOf none d = d
+
+-- Obsolete, if a stored entry outdates it: shown is the first in key order. 7, if it would remove one and must not. 8, if those that stay
+-- number the limit.
+unfoldable pub decided : (limit : ℕ) → List Stored → Entry → (prevent : Bool) → Decision
+decided limit stored e prevent =
+    decidedOf (firstThat (outdates e) stored)
+    (cond (prevent && any (removes e) stored) (refuse pruningPrevented)
+    (cond (leb limit (length (keep (stays e) stored))) (refuse full) take-it))
+
+-- The same by the place of the first entry that outdates it and the number of those that it removes, as the code decides.
+abbrev pub outdatedAt : List Stored → Entry → ℕ
+outdatedAt stored e = firstMark (marksOf (outdates e) stored)
+
+abbrev pub removedFrom : List Stored → Entry → ℕ
+removedFrom stored e = length (keep (removes e) stored)
+
+unfoldable pub placeDecided : (limit : ℕ) → List Stored → Entry → (prevent : Bool) → PlaceDecision
+placeDecided limit stored e prevent =
+    cond (ltb (outdatedAt stored e) (length stored)) (place.Old (outdatedAt stored e))
+    (cond (prevent && ltb 0 (removedFrom stored e)) (place.Refuse pruningPrevented)
+    (cond (leb limit (length stored - removedFrom stored e)) (place.Refuse full) (place.Take (removedFrom stored e))))
+
+unfoldable pub ingestRefusal : Figures → Store → (prune : List ℕ) → EntryValue → ℕ
+ingestRefusal f s prune e =
+    storeRefusal f s (leb (dirRoom (s .state .limit)) (length prune)) orElse unless (legal f (e .path)) illegalPath orElse
+    unless (sameList sameNumber (e .«namespace_id») (s .state .«namespace_id»)) otherNamespace
+
+unfoldable pub judged : Figures → Store → (prune : List ℕ) → EntryValue → (prevent : Bool) → Decision
+judged f s prune e prevent =
+    cond (eqb (ingestRefusal f s prune e) 0) (decided (s .state .limit) (held f Spt s) (entryOf e) prevent) (refuse (ingestRefusal f s prune e))
+
+-- What is known of an entry that may be filed: no refusal of 1 to 6, nothing outdates it, and fewer than the limit are left.
+pub record MayFile (f : Figures) (s : Store) (prune : List ℕ) (e : EntryValue) : Type 0 where
+  pub tested : ingestRefusal f s prune e ≡ 0
+  pub current : any (outdates (entryOf e)) (held f Spt s) ≡ false
+  pub room : length (keep (stays (entryOf e)) (held f Spt s)) < s .state .limit
+
+-- The answers.
+abbrev pub noEntry : EntryValue
+noEntry = record {
+  «namespace_id» = replicate 16 0;
+  «subspace_id» = firstSubspace;
+  path = pathOf [];
+  timestamp = 0;
+  «payload_length» = 0;
+  «payload_digest» = replicate 32 0;
+}
+
+abbrev pub plainAnswer : IngestVerdict → State → Ingested
+plainAnswer v s = record { verdict = v; state = s; newer = noEntry; token = replicate 64 0 }
+
+abbrev pub obsoleteAnswer : State → Stored → Ingested
+obsoleteAnswer s x = record { verdict = verdict.Obsolete; state = s; newer = lengthy x .entry; token = x .token }
+
+-- A state with another count.
+abbrev pub stateWith : State → (count : ℕ) → State
+stateWith s n = record { «namespace_id» = s .«namespace_id»; count = n; limit = s .limit }
+
+-- The store after the entry was filed.
+abbrev pub storeFiled : Figures → Store → Entry → (token : List ℕ) → Store
+storeFiled f s e token = holding f (filed (filing e token) (heldBy f s)) s
+
+-- The answer, the store and the prune list afterwards.
+pub record IngestOutcome : Type 0 where
+  pub answer : Ingested
+  pub store : Store
+  pub prune : List ℕ
+
+abbrev pub ingestOutcome : Ingested → List ℕ → List ℕ → List ℕ → List ℕ → List ℕ → IngestOutcome
+ingestOutcome r a b c d prune = record { answer = r; store = storeOf (r .state) a b c d; prune = prune }
+
+-- The pairs of what an entry removes, as they stand in the subspace-first tree, in key order.
+unfoldable pub prunedPairs : Figures → Store → Entry → List ℕ
+prunedPairs f s e = markedPairs (marksOf (removes e) (held f Spt s)) (dirOf Spt s)
+
+unfoldable pub carried : Figures → Store → (prune : List ℕ) → Entry → (token : List ℕ) → Decision → IngestOutcome
+carried f s prune e token (refuse n) = record { answer = plainAnswer (verdict.Refused n) (s .state); store = s; prune = prune }
+carried f s prune e token (obsolete x) = record { answer = obsoleteAnswer (s .state) x; store = s; prune = prune }
+carried f s prune e token take-it = record {
+  answer = plainAnswer (verdict.Success (length (keep (removes e) (held f Spt s)))) (holding f (filed (filing e token) (heldBy f s)) s .state);
+  store = holding f (filed (filing e token) (heldBy f s)) s;
+  prune = put (prunedPairs f s e) prune;
+}
+
+unfoldable pub ingested : Figures → Store → (prune : List ℕ) → EntryValue → (token : List ℕ) → (prevent : Bool) → IngestOutcome
+ingested f s prune e token prevent = carried f s prune (entryOf e) token (judged f s prune e prevent)

@@ -1,0 +1,106 @@
+// Changes of one tree of a store, in its room: what an entry removes goes and it is filed; or what is marked goes.
+use crate::state::LIMIT_MOST;
+use crate::state::RECORD_MOST;
+use data_model::area::Area;
+use data_model::parameters::Subspace;
+use data_model::path::Path;
+use tree::edit::insert_at;
+use tree::edit::retain;
+use tree::matching::mark_at;
+use tree::matching::mark_forgotten;
+use tree::matching::mark_removed;
+use tree::search::find;
+use tree::stored::KeyOrder;
+use tree::stored::LengthyAuthorisedEntry;
+use tree::stored::encode_record;
+use tree::value::VALUE;
+ghost use mathlib.Core.Path.{_≡_};
+ghost use mathlib.Core.Bool.{true, not, cond};
+ghost use Prim.Native.Nat.{_≤_};
+ghost use Rattle.laws.specs.Sorted.{keep};
+ghost use Rattle.data_model.specs.Path.{field, legal, components};
+ghost use Rattle.tree.specs.Stored.{storedOf};
+ghost use Rattle.tree.specs.Tree.{Formed};
+ghost use Rattle.tree.specs.Matching.{standsAt, isForgotten};
+ghost use Rattle.store.specs.Store.{limitMost};
+ghost use Rattle.store.specs.Ingest.{filedIn};
+ghost use Rattle.store.specs.Change.{inTree, Changed, FilesIn};
+
+// Files an entry in one tree: removes what it removes, puts its record in at its key's place, and answers the new count.
+pub fn file_in(
+    order: KeyOrder,
+    namespace: [u8; 16],
+    count: usize,
+    tree: &mut [u8],
+    dir: &mut [u32],
+    a: LengthyAuthorisedEntry,
+) -> usize
+    requires { ⌜ FilesIn order namespace count (now dir) (now tree) a ⌝ }
+    ensures { λ r. ⌜ Changed order (filedIn order (storedOf a) (inTree order namespace count (now (dir .entry)) (now (tree .entry)))) (now (dir .entry)) (now (tree .entry)) (now (dir .exit)) (now (tree .exit)) r ⌝ }
+{
+    let e = a.entry;
+    let mut marks = [0u8; LIMIT_MOST];
+    mark_removed(order, namespace, count, dir, tree, e, &mut marks);
+    let left = retain(order, count, dir, tree, &marks);
+    let mut rec = [0u8; RECORD_MOST];
+    let n = encode_record(order, a, &mut rec);
+    let p = find(order, left, dir, tree, &rec[..n - VALUE]);
+    insert_at(order, left, dir, tree, p.at, &rec[..n]);
+    left + 1
+}
+
+// Takes out what stands at a subspace and path, and answers how many are left.
+pub fn drop_at(
+    order: KeyOrder,
+    namespace: [u8; 16],
+    count: usize,
+    tree: &mut [u8],
+    dir: &mut [u32],
+    subspace: Subspace,
+    path: Path,
+) -> usize
+    requires { ⌜ (Formed order count (now dir) (now tree)) × (count ≤ limitMost) × (legal field path ≡ true) ⌝ }
+    ensures { λ r. ⌜ Changed order (keep (λ x. not (standsAt subspace (components path) x)) (inTree order namespace count (now (dir .entry)) (now (tree .entry)))) (now (dir .entry)) (now (tree .entry)) (now (dir .exit)) (now (tree .exit)) r ⌝ }
+{
+    let mut marks = [0u8; LIMIT_MOST];
+    mark_at(
+        order,
+        namespace,
+        count,
+        dir,
+        tree,
+        subspace,
+        path,
+        &mut marks,
+    );
+    retain(order, count, dir, tree, &marks)
+}
+
+// Takes out what an area includes and the protected area, if any, does not, and answers how many are left.
+pub fn drop_area(
+    order: KeyOrder,
+    namespace: [u8; 16],
+    count: usize,
+    tree: &mut [u8],
+    dir: &mut [u32],
+    area: Area,
+    protects: bool,
+    protected: Area,
+) -> usize
+    requires { ⌜ (Formed order count (now dir) (now tree)) × (count ≤ limitMost) × (legal field (area .path) ≡ true) × (cond protects (legal field (protected .path)) true ≡ true) ⌝ }
+    ensures { λ r. ⌜ Changed order (keep (λ x. not (isForgotten area protects protected x)) (inTree order namespace count (now (dir .entry)) (now (tree .entry)))) (now (dir .entry)) (now (tree .entry)) (now (dir .exit)) (now (tree .exit)) r ⌝ }
+{
+    let mut marks = [0u8; LIMIT_MOST];
+    mark_forgotten(
+        order,
+        namespace,
+        count,
+        dir,
+        tree,
+        area,
+        protects,
+        protected,
+        &mut marks,
+    );
+    retain(order, count, dir, tree, &marks)
+}

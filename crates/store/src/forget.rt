@@ -1,0 +1,268 @@
+// Forgetting: the entry at a subspace and path, or what an area includes and a protected area, if any, does not.
+use crate::change::drop_area;
+use crate::change::drop_at;
+use crate::check::check_store;
+use crate::state::LIMIT_MOST;
+use crate::state::OTHER_DIGEST;
+use crate::state::RECORD_MOST;
+use crate::state::State;
+use data_model::answer::ILLEGAL_PATH;
+use data_model::area::Area;
+use data_model::parameters::Subspace;
+use data_model::path::Path;
+use tree::by_value::is_legal;
+use tree::by_value::same_bytes;
+use tree::marks::first_marked;
+use tree::matching::mark_at;
+use tree::stored::KeyOrder;
+use tree::stored::stored_at;
+ghost use mathlib.Core.Path.{_≡_};
+ghost use mathlib.Core.Bool.{true, cond, _&&_};
+ghost use Prim.Native.Nat.{_≤_};
+ghost use Rattle.laws.specs.Sorted.{any};
+ghost use Rattle.data_model.specs.Path.{field, legal, components};
+ghost use Rattle.tree.specs.Tree.{Formed};
+ghost use Rattle.tree.specs.Apart.{noPlaceTwice};
+ghost use Rattle.tree.specs.declared.stored.KeyOrder.the-variants.{Spt};
+ghost use Rattle.store.specs.Store.{storeOf, limitMost};
+ghost use Rattle.store.specs.Change.{inTree};
+ghost use Rattle.store.specs.Forget.{unexpected, forgetEntryRefusal, forgetEntryOutcome, entryForgotten, forgetAreaRefusal, forgetAreaOutcome, areaForgotten};
+
+// Refusal 0 and the state; or the refusal and the state that was handed in.
+pub struct EntryForgotten {
+    pub refusal: u8,
+    pub state: State,
+}
+
+// The same, with how many entries were forgotten.
+pub struct AreaForgotten {
+    pub refusal: u8,
+    pub state: State,
+    pub forgotten: usize,
+}
+
+// Whether an entry stands at the subspace and path, of another digest. Over the subspace-first tree in its room.
+fn is_other_digest(
+    namespace: [u8; 16],
+    count: usize,
+    spt: &[u8],
+    spt_dir: &[u32],
+    subspace: Subspace,
+    path: Path,
+    digest: [u8; 32],
+) -> bool
+    requires { ⌜ (Formed Spt count (now «spt_dir») (now spt)) × (count ≤ limitMost) × (legal field path ≡ true) × (noPlaceTwice (inTree Spt namespace count (now «spt_dir») (now spt)) ≡ true) ⌝ }
+    ensures { λ r. ⌜ r ≡ any (unexpected subspace (components path) true digest) (inTree Spt namespace count (now («spt_dir» .entry)) (now (spt .entry))) ⌝ }
+{
+    let mut marks = [0u8; LIMIT_MOST];
+    mark_at(
+        KeyOrder::Spt,
+        namespace,
+        count,
+        spt_dir,
+        spt,
+        subspace,
+        path,
+        &mut marks,
+    );
+    let k = first_marked(&marks[..count], 0);
+    if count <= k {
+        return false;
+    }
+    let a = stored_at(KeyOrder::Spt, namespace, spt_dir, spt, k);
+    let e = a.entry;
+    let own = e.payload_digest;
+    !same_bytes(&own, &digest)
+}
+
+// 1, 2, 3, 4 or 9; else 0.
+fn forget_entry_refusal(
+    state: State,
+    spt: &[u8],
+    spt_dir: &[u32],
+    tsp: &[u8],
+    tsp_dir: &[u32],
+    subspace: Subspace,
+    path: Path,
+    expects: bool,
+    digest: [u8; 32],
+) -> u8
+    ensures { λ r. ⌜ r ≡ forgetEntryRefusal field (storeOf state (now (spt .entry)) (now («spt_dir» .entry)) (now (tsp .entry)) (now («tsp_dir» .entry))) subspace path expects digest ⌝ }
+{
+    let n = check_store(state, spt, spt_dir, tsp, tsp_dir, true);
+    if n != 0 {
+        return n;
+    }
+    if !is_legal(path) {
+        return ILLEGAL_PATH;
+    }
+    if !expects {
+        return 0;
+    }
+    let namespace = state.namespace_id;
+    let t = RECORD_MOST * state.limit;
+    let d = 2 * state.limit;
+    if is_other_digest(
+        namespace,
+        state.count,
+        &spt[..t],
+        &spt_dir[..d],
+        subspace,
+        path,
+        digest,
+    ) {
+        return OTHER_DIGEST;
+    }
+    0
+}
+
+// An absent entry answers done, whatever digest was expected.
+pub fn forget_entry(
+    state: State,
+    spt: &mut [u8],
+    spt_dir: &mut [u32],
+    tsp: &mut [u8],
+    tsp_dir: &mut [u32],
+    subspace: Subspace,
+    path: Path,
+    expects: bool,
+    digest: [u8; 32],
+) -> EntryForgotten
+    ensures { λ r. ⌜ forgetEntryOutcome r (now (spt .exit)) (now («spt_dir» .exit)) (now (tsp .exit)) (now («tsp_dir» .exit)) ≡ entryForgotten field (storeOf state (now (spt .entry)) (now («spt_dir» .entry)) (now (tsp .entry)) (now («tsp_dir» .entry))) subspace path expects digest ⌝ }
+{
+    let refusal = forget_entry_refusal(
+        state,
+        spt,
+        spt_dir,
+        tsp,
+        tsp_dir,
+        subspace,
+        path,
+        expects,
+        digest,
+    );
+    if refusal != 0 {
+        return EntryForgotten { refusal, state };
+    }
+    let namespace_id = state.namespace_id;
+    let t = RECORD_MOST * state.limit;
+    let d = 2 * state.limit;
+    let count = drop_at(
+        KeyOrder::Spt,
+        namespace_id,
+        state.count,
+        &mut spt[..t],
+        &mut spt_dir[..d],
+        subspace,
+        path,
+    );
+    drop_at(
+        KeyOrder::Tsp,
+        namespace_id,
+        state.count,
+        &mut tsp[..t],
+        &mut tsp_dir[..d],
+        subspace,
+        path,
+    );
+    EntryForgotten {
+        refusal: 0,
+        state: State {
+            namespace_id,
+            count,
+            limit: state.limit,
+        },
+    }
+}
+
+// The path of an absent protected area is not looked at.
+fn are_legal(area: Area, protects: bool, protected: Area) -> bool
+    ensures { λ r. ⌜ r ≡ (legal field (area .path) && cond protects (legal field (protected .path)) true) ⌝ }
+{
+    let path = area.path;
+    if !is_legal(path) {
+        return false;
+    }
+    if protects {
+        let kept = protected.path;
+        return is_legal(kept);
+    }
+    true
+}
+
+// 1, 2, 3 or 4; else 0.
+fn forget_area_refusal(
+    state: State,
+    spt: &[u8],
+    spt_dir: &[u32],
+    tsp: &[u8],
+    tsp_dir: &[u32],
+    area: Area,
+    protects: bool,
+    protected: Area,
+) -> u8
+    ensures { λ r. ⌜ r ≡ forgetAreaRefusal field (storeOf state (now (spt .entry)) (now («spt_dir» .entry)) (now (tsp .entry)) (now («tsp_dir» .entry))) area protects protected ⌝ }
+{
+    let n = check_store(state, spt, spt_dir, tsp, tsp_dir, true);
+    if n != 0 {
+        return n;
+    }
+    if !are_legal(area, protects, protected) {
+        return ILLEGAL_PATH;
+    }
+    0
+}
+
+pub fn forget_area(
+    state: State,
+    spt: &mut [u8],
+    spt_dir: &mut [u32],
+    tsp: &mut [u8],
+    tsp_dir: &mut [u32],
+    area: Area,
+    protects: bool,
+    protected: Area,
+) -> AreaForgotten
+    ensures { λ r. ⌜ forgetAreaOutcome r (now (spt .exit)) (now («spt_dir» .exit)) (now (tsp .exit)) (now («tsp_dir» .exit)) ≡ areaForgotten field (storeOf state (now (spt .entry)) (now («spt_dir» .entry)) (now (tsp .entry)) (now («tsp_dir» .entry))) area protects protected ⌝ }
+{
+    let refusal = forget_area_refusal(state, spt, spt_dir, tsp, tsp_dir, area, protects, protected);
+    if refusal != 0 {
+        return AreaForgotten {
+            refusal,
+            state,
+            forgotten: 0,
+        };
+    }
+    let namespace_id = state.namespace_id;
+    let t = RECORD_MOST * state.limit;
+    let d = 2 * state.limit;
+    let count = drop_area(
+        KeyOrder::Spt,
+        namespace_id,
+        state.count,
+        &mut spt[..t],
+        &mut spt_dir[..d],
+        area,
+        protects,
+        protected,
+    );
+    drop_area(
+        KeyOrder::Tsp,
+        namespace_id,
+        state.count,
+        &mut tsp[..t],
+        &mut tsp_dir[..d],
+        area,
+        protects,
+        protected,
+    );
+    AreaForgotten {
+        refusal: 0,
+        state: State {
+            namespace_id,
+            count,
+            limit: state.limit,
+        },
+        forgotten: state.count - count,
+    }
+}

@@ -1,0 +1,351 @@
+// Ingestion.
+use crate::change::file_in;
+use crate::check::check_store;
+use crate::check::dir_fits;
+use crate::state::FULL;
+use crate::state::LIMIT_MOST;
+use crate::state::OTHER_NAMESPACE;
+use crate::state::PRUNING_PREVENTED;
+use crate::state::RECORD_MOST;
+use crate::state::State;
+use data_model::answer::ILLEGAL_PATH;
+use data_model::entry::Entry;
+use data_model::parameters::Subspace;
+use data_model::path::MCC;
+use data_model::path::MPL;
+use data_model::path::Path;
+use tree::by_value::is_legal;
+use tree::by_value::same_bytes;
+use tree::marks::count_marked;
+use tree::marks::first_marked;
+use tree::marks::write_pairs;
+use tree::matching::mark_outdating;
+use tree::matching::mark_removed;
+use tree::stored::KeyOrder;
+use tree::stored::LengthyAuthorisedEntry;
+use tree::stored::stored_at;
+ghost use mathlib.Core.Path.{_≡_};
+ghost use mathlib.Core.Bool.{true, _&&_};
+ghost use Prim.Native.Nat.{_-_, _+_, _*_, _≤_, _<_};
+ghost use lib.ListN.{length};
+ghost use lib.Dec.{ltb};
+ghost use Rattle.laws.specs.Lists.{put};
+ghost use Rattle.layout.specs.Layout.{records, recordAt};
+ghost use Rattle.layout.specs.Marks.{marksOf, markedPairs};
+ghost use Rattle.data_model.specs.Path.{field, legal};
+ghost use Rattle.data_model.specs.Entry.{entryOf};
+ghost use Rattle.tree.specs.Stored.{contents, stored};
+ghost use Rattle.tree.specs.Matching.{removes};
+ghost use Rattle.tree.specs.Tree.{Formed, InBounds};
+ghost use Rattle.tree.specs.declared.stored.KeyOrder.the-variants.{Spt};
+ghost use Rattle.store.specs.Store.{limitMost, storeOf};
+ghost use Rattle.store.specs.Ingest.{MayFile, noEntry, plainAnswer, obsoleteAnswer, stateWith, storeFiled, placeDecided, prunedPairs, ingestRefusal, ingestOutcome, ingested};
+ghost use Rattle.store.specs.declared.ingest.IngestVerdict.the-variants as verdict;
+
+// Success says how many entries were pruned.
+pub enum IngestVerdict {
+    Success(usize),
+    Obsolete,
+    Refused(u8),
+}
+
+// The verdict and the state; with an obsolete verdict the newer entry and its token, else all 0.
+pub struct Ingested {
+    pub verdict: IngestVerdict,
+    pub state: State,
+    pub newer: Entry,
+    pub token: [u8; 64],
+}
+
+// What is decided: refused, outdated by the entry at a place, or taken with so many removed.
+pub enum PlaceDecision {
+    Refuse(u8),
+    Old(usize),
+    Take(usize),
+}
+
+// 1, 2, 3, 4 or 6; else 0.
+fn ingest_refusal(
+    state: State,
+    spt: &[u8],
+    spt_dir: &[u32],
+    tsp: &[u8],
+    tsp_dir: &[u32],
+    prune: &[u32],
+    entry: Entry,
+) -> u8
+    ensures { λ r. ⌜ r ≡ ingestRefusal field (storeOf state (now (spt .entry)) (now («spt_dir» .entry)) (now (tsp .entry)) (now («tsp_dir» .entry))) (now (prune .entry)) entry ⌝ }
+{
+    let rooms = dir_fits(prune.len(), state.limit);
+    let n = check_store(state, spt, spt_dir, tsp, tsp_dir, rooms);
+    if n != 0 {
+        return n;
+    }
+    let path = entry.path;
+    if !is_legal(path) {
+        return ILLEGAL_PATH;
+    }
+    let own = state.namespace_id;
+    let other = entry.namespace_id;
+    if !same_bytes(&other, &own) {
+        return OTHER_NAMESPACE;
+    }
+    0
+}
+
+// Whether a removal is prevented.
+fn is_prevented(prevent: bool, removed: usize) -> bool
+    ensures { λ r. ⌜ r ≡ (prevent && ltb 0 removed) ⌝ }
+{
+    if prevent {
+        return 0 < removed;
+    }
+    false
+}
+
+// Over the subspace-first tree in its room.
+fn decide(
+    namespace: [u8; 16],
+    limit: usize,
+    count: usize,
+    spt: &[u8],
+    spt_dir: &[u32],
+    entry: Entry,
+    prevent: bool,
+) -> PlaceDecision
+    requires { ⌜ (Formed Spt count (now «spt_dir») (now spt)) × (count ≤ limitMost) × (legal field (entry .path) ≡ true) ⌝ }
+    ensures { λ r. ⌜ r ≡ placeDecided limit (contents Spt field namespace (records count (now («spt_dir» .entry)) (now (spt .entry)))) (entryOf entry) prevent ⌝ }
+{
+    let mut marks = [0u8; LIMIT_MOST];
+    mark_outdating(
+        KeyOrder::Spt,
+        namespace,
+        count,
+        spt_dir,
+        spt,
+        entry,
+        &mut marks,
+    );
+    let k = first_marked(&marks[..count], 0);
+    if k < count {
+        return PlaceDecision::Old(k);
+    }
+    let mut removed = [0u8; LIMIT_MOST];
+    mark_removed(
+        KeyOrder::Spt,
+        namespace,
+        count,
+        spt_dir,
+        spt,
+        entry,
+        &mut removed,
+    );
+    let n = count_marked(&removed[..count]);
+    if is_prevented(prevent, n) {
+        return PlaceDecision::Refuse(PRUNING_PREVENTED);
+    }
+    if limit <= count - n {
+        return PlaceDecision::Refuse(FULL);
+    }
+    PlaceDecision::Take(n)
+}
+
+fn zero_entry() -> Entry
+    ensures { λ r. ⌜ r ≡ noEntry ⌝ }
+{
+    let path = Path {
+        bytes: [0; MPL],
+        ends: [0; MCC],
+        count: 0,
+    };
+    Entry {
+        namespace_id: [0; 16],
+        subspace_id: Subspace { high: 0, low: 0 },
+        path,
+        timestamp: 0,
+        payload_length: 0,
+        payload_digest: [0; 32],
+    }
+}
+
+fn plain_answer(verdict: IngestVerdict, state: State) -> Ingested
+    ensures { λ r. ⌜ r ≡ plainAnswer verdict state ⌝ }
+{
+    let newer = zero_entry();
+    Ingested {
+        verdict,
+        state,
+        newer,
+        token: [0; 64],
+    }
+}
+
+// The answer to an entry that the one at a place outdates.
+fn obsolete_answer(state: State, spt: &[u8], spt_dir: &[u32], k: usize) -> Ingested
+    requires { ⌜ InBounds k (now «spt_dir») (now spt) ⌝ }
+    ensures { λ r. ⌜ r ≡ obsoleteAnswer state (stored Spt field (state .«namespace_id») (recordAt k (now («spt_dir» .entry)) (now (spt .entry)))) ⌝ }
+{
+    let namespace = state.namespace_id;
+    let a = stored_at(KeyOrder::Spt, namespace, spt_dir, spt, k);
+    let newer = a.entry;
+    let token = a.token;
+    Ingested {
+        verdict: IngestVerdict::Obsolete,
+        state,
+        newer,
+        token,
+    }
+}
+
+fn taken_answer(state: State, n: usize) -> Ingested
+    requires { ⌜ (n ≤ state .count) × (state .count - n < state .limit) ⌝ }
+    ensures { λ r. ⌜ r ≡ plainAnswer (verdict.Success n) (stateWith state (state .count - n + 1)) ⌝ }
+{
+    let namespace_id = state.namespace_id;
+    let count = state.count - n + 1;
+    let after = State {
+        namespace_id,
+        count,
+        limit: state.limit,
+    };
+    plain_answer(IngestVerdict::Success(n), after)
+}
+
+// The whole answer, over shared slices.
+fn ingest_answer(
+    state: State,
+    spt: &[u8],
+    spt_dir: &[u32],
+    tsp: &[u8],
+    tsp_dir: &[u32],
+    prune: &[u32],
+    entry: Entry,
+    token: [u8; 64],
+    prevent: bool,
+) -> Ingested
+    ensures { λ r. ⌜ r ≡ ingested field (storeOf state (now (spt .entry)) (now («spt_dir» .entry)) (now (tsp .entry)) (now («tsp_dir» .entry))) (now (prune .entry)) entry token prevent .answer ⌝ }
+{
+    let refusal = ingest_refusal(state, spt, spt_dir, tsp, tsp_dir, prune, entry);
+    if refusal != 0 {
+        return plain_answer(IngestVerdict::Refused(refusal), state);
+    }
+    let limit = state.limit;
+    let count = state.count;
+    let n = RECORD_MOST * limit;
+    let m = 2 * limit;
+    let namespace = state.namespace_id;
+    let d = decide(
+        namespace,
+        limit,
+        count,
+        &spt[..n],
+        &spt_dir[..m],
+        entry,
+        prevent,
+    );
+    match d {
+        PlaceDecision::Refuse(k) => plain_answer(IngestVerdict::Refused(k), state),
+        PlaceDecision::Old(k) => obsolete_answer(state, &spt[..n], &spt_dir[..m], k),
+        PlaceDecision::Take(k) => taken_answer(state, k),
+    }
+}
+
+// Writes the pairs of what an entry removes from the subspace-first tree.
+fn write_pruned(
+    namespace: [u8; 16],
+    count: usize,
+    spt: &[u8],
+    spt_dir: &[u32],
+    entry: Entry,
+    prune: &mut [u32],
+)
+    requires { ⌜ (Formed Spt count (now «spt_dir») (now spt)) × (count ≤ limitMost) × (legal field (entry .path) ≡ true) × (2 * count ≤ length (now prune)) ⌝ }
+    ensures { λ _. ⌜ now (prune .exit) ≡ put (markedPairs (marksOf (removes (entryOf entry)) (contents Spt field namespace (records count (now («spt_dir» .entry)) (now (spt .entry))))) (now («spt_dir» .entry))) (now (prune .entry)) ⌝ }
+{
+    let mut marks = [0u8; LIMIT_MOST];
+    mark_removed(
+        KeyOrder::Spt,
+        namespace,
+        count,
+        spt_dir,
+        spt,
+        entry,
+        &mut marks,
+    );
+    write_pairs(spt_dir, &marks[..count], prune);
+}
+
+// Files an entry in both trees.
+fn file(
+    state: State,
+    spt: &mut [u8],
+    spt_dir: &mut [u32],
+    tsp: &mut [u8],
+    tsp_dir: &mut [u32],
+    prune: &mut [u32],
+    entry: Entry,
+    token: [u8; 64],
+)
+    requires { ⌜ MayFile field (storeOf state (now spt) (now «spt_dir») (now tsp) (now «tsp_dir»)) (now prune) entry ⌝ }
+    ensures store { λ _. ⌜ storeOf (storeFiled field (storeOf state (now (spt .entry)) (now («spt_dir» .entry)) (now (tsp .entry)) (now («tsp_dir» .entry))) (entryOf entry) token .state) (now (spt .exit)) (now («spt_dir» .exit)) (now (tsp .exit)) (now («tsp_dir» .exit)) ≡ storeFiled field (storeOf state (now (spt .entry)) (now («spt_dir» .entry)) (now (tsp .entry)) (now («tsp_dir» .entry))) (entryOf entry) token ⌝ }
+    ensures pairs { λ _. ⌜ now (prune .exit) ≡ put (prunedPairs field (storeOf state (now (spt .entry)) (now («spt_dir» .entry)) (now (tsp .entry)) (now («tsp_dir» .entry))) (entryOf entry)) (now (prune .entry)) ⌝ }
+{
+    let limit = state.limit;
+    let count = state.count;
+    let n = RECORD_MOST * limit;
+    let m = 2 * limit;
+    let namespace = state.namespace_id;
+    let a = LengthyAuthorisedEntry {
+        entry,
+        token,
+        available: 0,
+    };
+    write_pruned(namespace, count, &spt[..n], &spt_dir[..m], entry, prune);
+    file_in(
+        KeyOrder::Spt,
+        namespace,
+        count,
+        &mut spt[..n],
+        &mut spt_dir[..m],
+        a,
+    );
+    file_in(
+        KeyOrder::Tsp,
+        namespace,
+        count,
+        &mut tsp[..n],
+        &mut tsp_dir[..m],
+        a,
+    );
+}
+
+pub fn ingest_entry_numbers(
+    state: State,
+    spt: &mut [u8],
+    spt_dir: &mut [u32],
+    tsp: &mut [u8],
+    tsp_dir: &mut [u32],
+    prune: &mut [u32],
+    entry: Entry,
+    token: [u8; 64],
+    prevent: bool,
+) -> Ingested
+    ensures { λ r. ⌜ ingestOutcome r (now (spt .exit)) (now («spt_dir» .exit)) (now (tsp .exit)) (now («tsp_dir» .exit)) (now (prune .exit)) ≡ ingested field (storeOf state (now (spt .entry)) (now («spt_dir» .entry)) (now (tsp .entry)) (now («tsp_dir» .entry))) (now (prune .entry)) entry token prevent ⌝ }
+{
+    let given = ingest_answer(
+        state,
+        spt,
+        spt_dir,
+        tsp,
+        tsp_dir,
+        prune,
+        entry,
+        token,
+        prevent,
+    );
+    let verdict = given.verdict;
+    if let IngestVerdict::Success(_) = verdict {
+        file(state, spt, spt_dir, tsp, tsp_dir, prune, entry, token);
+    }
+    given
+}

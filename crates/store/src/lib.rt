@@ -1,0 +1,9 @@
+// The store: two trees of the same entries in lent buffers, one in subspace-first and one in time-first order. The public entries are
+// `open::open`, `ingest::ingest_entry_numbers`, `forget::forget_entry` and `forget::forget_area`: they have no `requires`. `check` and
+// `change` are for them, and for the crates above.
+pub mod change;
+pub mod check;
+pub mod forget;
+pub mod ingest;
+pub mod open;
+pub mod state;

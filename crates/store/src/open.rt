@@ -1,0 +1,72 @@
+// Opening a store.
+use crate::check::is_roomy;
+use crate::check::limit_ok;
+use crate::state::BAD_LIMIT;
+use crate::state::Opened;
+use crate::state::RECORD_MOST;
+use crate::state::State;
+use data_model::answer::SHORT_BUFFER;
+ghost use mathlib.Core.Path.{_≡_};
+ghost use mathlib.Core.List.{[]};
+ghost use Rattle.data_model.specs.Path.{field};
+ghost use Rattle.store.specs.Store.{storeOf};
+ghost use Rattle.store.specs.Open.{emptyState, openRefusal, openAnswer, openOutcome, opening};
+
+// The namespace is not looked at.
+fn open_refusal(limit: usize, spt: &[u8], spt_dir: &[u32], tsp: &[u8], tsp_dir: &[u32]) -> u8
+    ensures { λ r. ⌜ r ≡ openRefusal field (storeOf (emptyState [] limit) (now (spt .entry)) (now («spt_dir» .entry)) (now (tsp .entry)) (now («tsp_dir» .entry))) ⌝ }
+{
+    if !limit_ok(limit) {
+        return BAD_LIMIT;
+    }
+    if !is_roomy(limit, spt, spt_dir, tsp, tsp_dir) {
+        return SHORT_BUFFER;
+    }
+    0
+}
+
+// The answer of an opening: refused, its state is all 0.
+fn open_answer(refusal: u8, namespace: [u8; 16], limit: usize) -> Opened
+    ensures { λ r. ⌜ r ≡ openAnswer refusal namespace limit ⌝ }
+{
+    if refusal == 0 {
+        return Opened {
+            refusal: 0,
+            state: State {
+                namespace_id: namespace,
+                count: 0,
+                limit,
+            },
+        };
+    }
+    Opened {
+        refusal,
+        state: State {
+            namespace_id: [0; 16],
+            count: 0,
+            limit: 0,
+        },
+    }
+}
+
+// A store of no entries, for at most `limit` of them.
+pub fn open(
+    namespace: [u8; 16],
+    limit: usize,
+    spt: &mut [u8],
+    spt_dir: &mut [u32],
+    tsp: &mut [u8],
+    tsp_dir: &mut [u32],
+) -> Opened
+    ensures { λ r. ⌜ openOutcome r (now (spt .exit)) (now («spt_dir» .exit)) (now (tsp .exit)) (now («tsp_dir» .exit)) ≡ opening field namespace limit (now (spt .entry)) (now («spt_dir» .entry)) (now (tsp .entry)) (now («tsp_dir» .entry)) ⌝ }
+{
+    let refusal = open_refusal(limit, spt, spt_dir, tsp, tsp_dir);
+    if refusal != 0 {
+        return open_answer(refusal, namespace, limit);
+    }
+    let n = RECORD_MOST * limit;
+    let m = 2 * limit;
+    tree::edit::open(&mut spt_dir[..m], &mut spt[..n]);
+    tree::edit::open(&mut tsp_dir[..m], &mut tsp[..n]);
+    open_answer(0, namespace, limit)
+}

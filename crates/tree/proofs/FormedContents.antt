@@ -1,0 +1,76 @@
+-- What the records of a tree that was tested say: how many they are, which is the next, that they are of one namespace; and what the walk
+-- over a subspace-first tree finds. Assumes nothing.
+use mathlib.Core.Path.{_≡_, sym, ap, _∙_}
+use mathlib.Core.List.{List, [], _∷_}
+use mathlib.Core.Bool.{Bool, true, false, not, _&&_}
+use Prim.Native.Nat.{ℕ, _+_, _≤_, _<_}
+use native.Mathlib.Omega.{arith}
+use lib.ListN.{length, drop, drop-of-length-le}
+use Rattle.laws.proofs.Truth.{not-true, not-false}
+use Rattle.layout.specs.Layout.{records, recordAt}
+use Rattle.layout.proofs.LaidLaws.{records-many, records-at}
+use Rattle.data_model.specs.Path.{Figures, field}
+use Rattle.data_model.specs.Entry.{entryOf}
+use Rattle.key_laws.specs.Bytes.{Bytes}
+use Rattle.tree.specs.Stored.{orderIn, Stored, storedFrom, stored, contents, storedOf}
+use Rattle.tree.specs.Tree.{Formed}
+use Rattle.tree.specs.Apart.{apart, clearBehind, allClear}
+use Rattle.tree.specs.declared.stored.KeyOrder.{KeyOrder}
+use Rattle.tree.specs.declared.stored.KeyOrder.the-variants.{Spt}
+use Rattle.tree.specs.declared.stored.LengthyAuthorisedEntry.{LengthyAuthorisedEntry}
+use Rattle.tree.proofs.FormedLaws.{formed-ascends}
+use Rattle.tree.proofs.RecordLaws.{contents-length, contents-drop, contents-view}
+use Rattle.tree.proofs.WithinLaws.{formed-recorded}
+use Rattle.tree.proofs.AgreeLaws.{contents-ascends}
+use Rattle.tree.proofs.WalkLaws.{OfOne, apart-walk}
+
+pub contents-one : (o : KeyOrder) (f : Figures) (ns : List ℕ) (recs : List (List ℕ)) → OfOne ns (contents o f ns recs)
+unfolding stored storedFrom
+contents-one o f ns recs x m = ap (λ (s : Stored). s .entry .namespace) (contents-view o f ns recs m .2)
+
+module _ {o : KeyOrder} {count : ℕ} {dir tree : List ℕ} (v : Formed o count dir tree) (ns : List ℕ) where
+  pub formed-many : length (contents o field ns (records count dir tree)) ≡ count
+  formed-many = contents-length o field ns (records count dir tree) ∙ records-many count dir tree (v .few)
+
+  pub formed-next : (k : ℕ) → k < count
+      → drop k (contents o field ns (records count dir tree)) ≡ stored o field ns (recordAt k dir tree) ∷ drop (k + 1) (contents o field ns (records count dir tree))
+  formed-next k h =
+      contents-drop o field ns k (records count dir tree)
+      ∙ ap (contents o field ns) (records-at count k dir tree (v .few) h)
+      ∙ ap (stored o field ns (recordAt k dir tree) ∷_) (sym (contents-drop o field ns (k + 1) (records count dir tree)))
+
+  pub formed-done : (k : ℕ) → count ≤ k → drop k (contents o field ns (records count dir tree)) ≡ []
+  formed-done k h = drop-of-length-le (contents o field ns (records count dir tree)) {i = k} (omega (arith, formed-many))
+
+-- In a subspace-first tree the walk finds what the comparison of all pairs does.
+pub formed-walk : {count : ℕ} {dir tree : List ℕ} → Formed Spt count dir tree → (ns : List ℕ) → Bytes tree
+    → apart (contents Spt field ns (records count dir tree)) ≡ allClear (contents Spt field ns (records count dir tree))
+unfolding orderIn
+formed-walk {count} {dir} {tree} v ns b =
+    apart-walk ns (contents Spt field ns (records count dir tree))
+    (contents-ascends Spt field ns (records count dir tree) (formed-recorded v b) (formed-ascends v))
+    (contents-one Spt field ns (records count dir tree))
+
+-- The walk from each entry, turn by turn: record k is the next.
+module _ {count : ℕ} {dir tree : List ℕ} (v : Formed Spt count dir tree) (ns : List ℕ) (k : ℕ) (there : k < count)
+    (a : LengthyAuthorisedEntry) (q : storedOf a ≡ stored Spt field ns (recordAt k dir tree))
+    (whole : Bool) (w : whole ≡ allClear (drop k (contents Spt field ns (records count dir tree))))
+    (t : Bool) (h : t ≡ clearBehind (entryOf (a .entry)) (drop (k + 1) (contents Spt field (a .entry .«namespace_id») (records count dir tree)))) where
+  own-namespace : a .entry .«namespace_id» ≡ ns
+  unfolding storedOf entryOf stored storedFrom
+  own-namespace = ap (λ (s : Stored). s .entry .namespace) q
+
+  all-next : whole ≡ (t && allClear (drop (k + 1) (contents Spt field ns (records count dir tree))))
+  unfolding allClear storedOf
+  all-next =
+      let rest = drop (k + 1) (contents Spt field ns (records count dir tree)) in
+      w
+      ∙ ap allClear (formed-next v ns k there ∙ ap (_∷ rest) (sym q))
+      ∙ ap (λ (m : List ℕ). clearBehind (entryOf (a .entry)) (drop (k + 1) (contents Spt field m (records count dir tree))) && allClear rest) (sym own-namespace)
+      ∙ ap (λ (b : Bool). b && allClear rest) (sym h)
+
+  pub all-stops : not t ≡ true → false ≡ whole
+  all-stops g = sym (all-next ∙ ap (λ (b : Bool). b && allClear (drop (k + 1) (contents Spt field ns (records count dir tree)))) (not-true t g))
+
+  pub all-goes : not t ≡ false → whole ≡ allClear (drop (k + 1) (contents Spt field ns (records count dir tree)))
+  all-goes g = all-next ∙ ap (λ (b : Bool). b && allClear (drop (k + 1) (contents Spt field ns (records count dir tree)))) (not-false t g)

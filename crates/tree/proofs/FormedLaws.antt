@@ -1,0 +1,72 @@
+-- What a tree that was tested gives to the functions: its layout, each record and its bounds, ascending keys. Assumes nothing.
+use mathlib.Core.Path.{_≡_, ap}
+use mathlib.Core.List.{List}
+use mathlib.Core.Bool.{true, _&&_}
+use Prim.Native.Nat.{ℕ, _≤_, _<_}
+use native.Mathlib.Omega.{arith}
+use lib.ListN.{length}
+use lib.Dec.{leb}
+use borrow.Author.Tests.{leb-true}
+use Rattle.laws.specs.Order.{isLess, below}
+use Rattle.laws.specs.Sorted.{all, ascending, Ascends}
+use Rattle.laws.proofs.Truth.{and-true}
+use Rattle.laws.proofs.Order.{is-less}
+use Rattle.laws.proofs.Sorted.{all-view}
+use Rattle.layout.specs.Layout.{records, recordAt, laidOut}
+use Rattle.layout.proofs.LaidLaws.{Laid, laid, laid-pair, laid-length, record-in}
+use Rattle.laws.proofs.Sorted.{ascending-ascends}
+use Rattle.data_model.specs.Path.{Figures, field}
+use Rattle.data_model.proofs.Orders.{bytes-linear}
+use Rattle.tree.specs.Value.{valueLength, readValue, isValue}
+use Rattle.tree.specs.Stored.{keyOf, valuePart, keyBelow, isKey, isRecord}
+use Rattle.tree.specs.Tree.{wellFormed, Formed, InBounds}
+use Rattle.tree.specs.declared.stored.KeyOrder.{KeyOrder}
+
+-- Keys are ordered as bytes are.
+pub key-trans : (a b c : List ℕ) → keyBelow a b ≡ true → keyBelow b c ≡ true → keyBelow a c ≡ true
+unfolding below isLess
+key-trans a b c e f = ap isLess (bytes-linear .trans (keyOf a) (keyOf b) (keyOf c) (is-less _ e) (is-less _ f))
+
+-- A record has room for a value.
+pub record-long : (o : KeyOrder) (f : Figures) (r : List ℕ) → isRecord o f r ≡ true → valueLength ≤ length r
+unfolding isRecord
+record-long o f r e = leb-true valueLength (length r) (and-true (leb valueLength (length r)) (isKey o f (keyOf r) && isValue (readValue (valuePart r))) e .0)
+
+-- The three tests of a tree.
+module _ (o : KeyOrder) (f : Figures) (count : ℕ) (dir tree : List ℕ) (w : wellFormed o f count dir tree ≡ true) where
+  pub well-laid : laidOut count dir tree ≡ true
+  unfolding wellFormed
+  well-laid = and-true (laidOut count dir tree) (all (isRecord o f) (records count dir tree) && ascending keyBelow (records count dir tree)) w .0
+
+  well-others : all (isRecord o f) (records count dir tree) && ascending keyBelow (records count dir tree) ≡ true
+  unfolding wellFormed
+  well-others = and-true (laidOut count dir tree) (all (isRecord o f) (records count dir tree) && ascending keyBelow (records count dir tree)) w .1
+
+  pub well-all : all (isRecord o f) (records count dir tree) ≡ true
+  well-all = and-true (all (isRecord o f) (records count dir tree)) (ascending keyBelow (records count dir tree)) well-others .0
+
+  pub well-ascending : ascending keyBelow (records count dir tree) ≡ true
+  well-ascending = and-true (all (isRecord o f) (records count dir tree)) (ascending keyBelow (records count dir tree)) well-others .1
+
+module _ {o : KeyOrder} {count : ℕ} {dir tree : List ℕ} (v : Formed o count dir tree) where
+  pub formed-laid : Laid count dir tree
+  formed-laid = laid count dir tree (well-laid o field count dir tree (v .well))
+
+  pub formed-all : all (isRecord o field) (records count dir tree) ≡ true
+  formed-all = well-all o field count dir tree (v .well)
+
+  pub formed-ascends : Ascends keyBelow (records count dir tree)
+  formed-ascends = ascending-ascends keyBelow key-trans (records count dir tree) (well-ascending o field count dir tree (v .well))
+
+  module _ (k : ℕ) (h : k < count) where
+    pub formed-record : isRecord o field (recordAt k dir tree) ≡ true
+    formed-record = all-view (isRecord o field) (records count dir tree) formed-all (record-in count k dir tree (v .few) h)
+
+    pub formed-bounds : InBounds k dir tree
+    formed-bounds =
+        let p = laid-pair formed-laid k h in
+        record {
+          pair = p .0;
+          least = omega (arith, record-long o field (recordAt k dir tree) formed-record, laid-length formed-laid k h);
+          inside = p .1;
+        }

@@ -1,0 +1,14 @@
+pub mod FormedLaws
+pub mod InterestLaws
+pub mod TestLaws
+pub mod WalkLaws
+pub mod WellFormedLaws
+pub mod RecordLaws
+pub mod RecordParts
+pub mod PassLaws
+pub mod SearchLaws
+pub mod ContentLaws
+pub mod WithinLaws
+pub mod AgreeLaws
+pub mod FormedContents
+pub mod MarkingLaws

@@ -1,0 +1,6 @@
+pub mod Value
+pub mod Stored
+pub mod Tree
+pub mod Apart
+pub mod Matching
+pub mod Interest

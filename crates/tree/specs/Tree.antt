@@ -1,0 +1,55 @@
+-- One tree: what makes it well-formed, and where a key stands in it.
+use Prim.Native.Nat.{ℕ, _+_, _*_, _^_, _≤_, _<_}
+use mathlib.Core.Path.{_≡_}
+use mathlib.Core.List.{List}
+use mathlib.Core.Bool.{Bool, true, _&&_}
+use lib.ListN.{length, getD}
+use Rattle.laws.specs.Order.{isLess, isSame}
+use Rattle.laws.specs.Prefix.{sameNumber, sameList}
+use Rattle.laws.specs.Sorted.{any, all, keep, ascending, Ascends, _∈_}
+use Rattle.layout.specs.Layout.{records, laidOut, treeBytes, dirNumbers}
+use Rattle.data_model.specs.Path.{Figures, field, byBytes}
+use Rattle.tree.specs.Value.{valueLength}
+use Rattle.tree.specs.Stored.{keyOf, valuePart, keyBelow, isRecord, Stored, sameStored}
+use Rattle.tree.specs.declared.stored.KeyOrder.{KeyOrder}
+
+-- The pairs of the directory chain from 0 without gaps and zeros stand behind; each record is a key that an encoder writes and a value;
+-- the keys ascend strictly.
+unfoldable pub wellFormed : KeyOrder → Figures → ℕ → List ℕ → List ℕ → Bool
+wellFormed o f count dir tree = laidOut count dir tree && (all (isRecord o f) (records count dir tree) && ascending keyBelow (records count dir tree))
+
+-- The same as facts: the theorem `well-formed` turns the one into the other.
+pub record WellFormed (o : KeyOrder) (f : Figures) (count : ℕ) (dir tree : List ℕ) : Type 0 where
+  pub many : length (records count dir tree) ≡ count
+  pub few : 2 * count ≤ length dir
+  pub numbers : dir ≡ dirNumbers (length dir) (records count dir tree)
+  pub bytes : tree ≡ treeBytes (length tree) (records count dir tree)
+  pub each : (r : List ℕ) → r ∈ records count dir tree → isRecord o f r ≡ true
+  pub ascends : Ascends keyBelow (records count dir tree)
+
+-- What the functions ask of a tree that was tested.
+pub record Formed (o : KeyOrder) (count : ℕ) (dir tree : List ℕ) : Type 0 where
+  pub few : 2 * count ≤ length dir
+  pub small : length tree < 2 ^ 32
+  pub well : wellFormed o field count dir tree ≡ true
+
+-- Pair k is there, its record within the bytes and at least as long as a value.
+pub record InBounds (k : ℕ) (dir tree : List ℕ) : Type 0 where
+  pub pair : 2 * k + 1 < length dir
+  pub least : valueLength ≤ getD dir (2 * k + 1) 0
+  pub inside : getD dir (2 * k) 0 + getD dir (2 * k + 1) 0 ≤ length tree
+
+-- How many keys are below a key, and whether it is there.
+unfoldable pub keysBelow : List ℕ → List (List ℕ) → ℕ
+keysBelow key recs = length (keep (λ (r : List ℕ). isLess (byBytes (keyOf r) key)) recs)
+
+unfoldable pub hasKey : List ℕ → List (List ℕ) → Bool
+hasKey key recs = any (λ (r : List ℕ). isSame (byBytes (keyOf r) key)) recs
+
+-- Whether a record of this key and this value is there.
+unfoldable pub hasRecord : List ℕ → List ℕ → List (List ℕ) → Bool
+hasRecord key value recs = any (λ (r : List ℕ). sameList sameNumber (keyOf r) key && sameList sameNumber (valuePart r) value) recs
+
+-- Each of the first is among the second, with the same token and available length.
+unfoldable pub within : List Stored → List Stored → Bool
+within l m = all (λ (a : Stored). any (sameStored a) m) l

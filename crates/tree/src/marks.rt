@@ -1,0 +1,59 @@
+// What marks say: the first, how many, and the pairs of the marked records.
+use layout::directory::offset;
+use layout::directory::put_pair;
+use layout::directory::size;
+ghost use mathlib.Core.Path.{_≡_};
+ghost use Prim.Native.Nat.{_+_, _*_, _≤_};
+ghost use lib.ListN.{length, take, drop};
+ghost use Rattle.laws.specs.Lists.{put};
+ghost use Rattle.layout.specs.Marks.{firstMark, countMarks, markedPairs};
+
+// The first marked place from `from` on, or the number of places.
+pub fn first_marked(marks: &[u8], from: usize) -> usize
+    requires { ⌜ from ≤ length (now marks) ⌝ }
+    ensures { λ r. ⌜ r ≡ from + firstMark (drop from (now (marks .entry))) ⌝ }
+{
+    let mut k = from;
+    while k < marks.len() {
+        if marks[k] == 1 {
+            return k;
+        }
+        k += 1;
+    }
+    k
+}
+
+pub fn count_marked(marks: &[u8]) -> usize
+    ensures { λ r. ⌜ r ≡ countMarks (now (marks .entry)) ⌝ }
+{
+    let mut k: usize = 0;
+    let mut n: usize = 0;
+    while k < marks.len() {
+        if marks[k] == 1 {
+            n += 1;
+            k += 1;
+        } else {
+            k += 1;
+        }
+    }
+    n
+}
+
+// Writes the pairs of the marked records at the front of the list, as they stand and in their order, and answers how many.
+pub fn write_pairs(dir: &[u32], marks: &[u8], out: &mut [u32]) -> usize
+    requires { ⌜ (2 * length (now marks) ≤ length (now dir)) × (2 * countMarks (now marks) ≤ length (now out)) ⌝ }
+    ensures { λ r. ⌜ (r ≡ countMarks (now (marks .entry))) × (now (out .exit) ≡ put (markedPairs (now (marks .entry)) (now (dir .entry))) (now (out .entry))) ⌝ }
+{
+    let mut k: usize = 0;
+    let mut n: usize = 0;
+    while k < marks.len() {
+        if marks[k] == 1 {
+            put_pair(out, n, offset(dir, k), size(dir, k));
+            n += 1;
+            k += 1;
+        } else {
+            k += 1;
+        }
+    }
+    n
+}

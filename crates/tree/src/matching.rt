@@ -1,0 +1,257 @@
+// The marks of a whole walk: 1 for each record that a test holds of, 0 for the others.
+use crate::by_value::covers;
+use crate::by_value::is_newer;
+use crate::stored::KeyOrder;
+use crate::stored::LengthyAuthorisedEntry;
+use crate::stored::stored_at;
+use data_model::area::Area;
+use data_model::checked;
+use data_model::entry::Entry;
+use data_model::parameters::Subspace;
+use data_model::path::Path;
+use data_model::range_3d::Range3d;
+ghost use mathlib.Core.Path.{_≡_};
+ghost use mathlib.Core.Bool.{Bool, true, cond};
+ghost use Prim.Native.Nat.{_≤_};
+ghost use lib.ListN.{length};
+ghost use Rattle.laws.specs.Lists.{put};
+ghost use Rattle.layout.specs.Layout.{records};
+ghost use Rattle.layout.specs.Marks.{marksOf};
+ghost use Rattle.data_model.specs.Path.{field, legal, components};
+ghost use Rattle.data_model.specs.Entry.{entryOf};
+ghost use Rattle.data_model.specs.Range.{legalRange};
+ghost use Rattle.tree.specs.Stored.{contents, storedOf};
+ghost use Rattle.tree.specs.Tree.{Formed};
+ghost use Rattle.tree.specs.Matching.{outdates, removes, standsAt, inArea, inRange, isForgotten, letThrough, listedInArea, listedInRange};
+
+// Which entries to ignore in a query: those whose payload is not all there, those of an empty payload.
+pub struct QueryIgnoreParams {
+    pub ignore_incomplete_payloads: bool,
+    pub ignore_empty_payloads: bool,
+}
+
+fn outdates(e: Entry, a: LengthyAuthorisedEntry) -> bool
+    requires { ⌜ (legal field (e .path) ≡ true) × (legal field (a .entry .path) ≡ true) ⌝ }
+    ensures { λ r. ⌜ r ≡ outdates (entryOf e) (storedOf a) ⌝ }
+{
+    let x = a.entry;
+    checked::prunes(x, e)
+}
+
+fn removes(e: Entry, a: LengthyAuthorisedEntry) -> bool
+    requires { ⌜ (legal field (e .path) ≡ true) × (legal field (a .entry .path) ≡ true) ⌝ }
+    ensures { λ r. ⌜ r ≡ removes (entryOf e) (storedOf a) ⌝ }
+{
+    let x = a.entry;
+    if covers(e, x) {
+        return !is_newer(x, e);
+    }
+    false
+}
+
+fn stands_at(subspace: Subspace, path: Path, a: LengthyAuthorisedEntry) -> bool
+    requires { ⌜ (legal field path ≡ true) × (legal field (a .entry .path) ≡ true) ⌝ }
+    ensures { λ r. ⌜ r ≡ standsAt subspace (components path) (storedOf a) ⌝ }
+{
+    let x = a.entry;
+    let s = x.subspace_id;
+    if !s.eq(subspace) {
+        return false;
+    }
+    let p = x.path;
+    checked::eq(p, path)
+}
+
+fn in_area(area: Area, a: LengthyAuthorisedEntry) -> bool
+    requires { ⌜ (legal field (area .path) ≡ true) × (legal field (a .entry .path) ≡ true) ⌝ }
+    ensures { λ r. ⌜ r ≡ inArea area (storedOf a) ⌝ }
+{
+    let x = a.entry;
+    let p = x.path;
+    checked::area_includes(area, x.subspace_id, p, x.timestamp)
+}
+
+fn in_range(range: Range3d, a: LengthyAuthorisedEntry) -> bool
+    requires { ⌜ (legalRange field (range .paths) ≡ true) × (legal field (a .entry .path) ≡ true) ⌝ }
+    ensures { λ r. ⌜ r ≡ inRange range (storedOf a) ⌝ }
+{
+    let x = a.entry;
+    let p = x.path;
+    checked::range_includes(range, x.subspace_id, p, x.timestamp)
+}
+
+pub fn let_through(ignore: QueryIgnoreParams, a: LengthyAuthorisedEntry) -> bool
+    ensures { λ r. ⌜ r ≡ letThrough ignore (storedOf a) ⌝ }
+{
+    let x = a.entry;
+    let n = x.payload_length;
+    if ignore.ignore_incomplete_payloads & (a.available != n) {
+        return false;
+    }
+    !(ignore.ignore_empty_payloads & (n == 0))
+}
+
+// The path of an absent protected area is not looked at.
+fn is_forgotten(area: Area, protects: bool, protected: Area, a: LengthyAuthorisedEntry) -> bool
+    requires { ⌜ (legal field (area .path) ≡ true) × (cond protects (legal field (protected .path)) true ≡ true) × (legal field (a .entry .path) ≡ true) ⌝ }
+    ensures { λ r. ⌜ r ≡ isForgotten area protects protected (storedOf a) ⌝ }
+{
+    if !in_area(area, a) {
+        return false;
+    }
+    if protects {
+        return !in_area(protected, a);
+    }
+    true
+}
+
+fn listed_in_area(area: Area, ignore: QueryIgnoreParams, a: LengthyAuthorisedEntry) -> bool
+    requires { ⌜ (legal field (area .path) ≡ true) × (legal field (a .entry .path) ≡ true) ⌝ }
+    ensures { λ r. ⌜ r ≡ listedInArea area ignore (storedOf a) ⌝ }
+{
+    if in_area(area, a) {
+        return let_through(ignore, a);
+    }
+    false
+}
+
+fn listed_in_range(range: Range3d, ignore: QueryIgnoreParams, a: LengthyAuthorisedEntry) -> bool
+    requires { ⌜ (legalRange field (range .paths) ≡ true) × (legal field (a .entry .path) ≡ true) ⌝ }
+    ensures { λ r. ⌜ r ≡ listedInRange range ignore (storedOf a) ⌝ }
+{
+    if in_range(range, a) {
+        return let_through(ignore, a);
+    }
+    false
+}
+
+// What makes an entry obsolete.
+pub fn mark_outdating(
+    order: KeyOrder,
+    namespace: [u8; 16],
+    count: usize,
+    dir: &[u32],
+    tree: &[u8],
+    e: Entry,
+    marks: &mut [u8],
+)
+    requires { ⌜ (Formed order count (now dir) (now tree)) × (count ≤ length (now marks)) × (legal field (e .path) ≡ true) ⌝ }
+    ensures { λ _. ⌜ now (marks .exit) ≡ put (marksOf (outdates (entryOf e)) (contents order field namespace (records count (now (dir .entry)) (now (tree .entry))))) (now (marks .entry)) ⌝ }
+{
+    let mut k: usize = 0;
+    while k < count {
+        let a = stored_at(order, namespace, dir, tree, k);
+        marks[k] = outdates(e, a) as u8;
+        k += 1;
+    }
+}
+
+// What an entry removes.
+pub fn mark_removed(
+    order: KeyOrder,
+    namespace: [u8; 16],
+    count: usize,
+    dir: &[u32],
+    tree: &[u8],
+    e: Entry,
+    marks: &mut [u8],
+)
+    requires { ⌜ (Formed order count (now dir) (now tree)) × (count ≤ length (now marks)) × (legal field (e .path) ≡ true) ⌝ }
+    ensures { λ _. ⌜ now (marks .exit) ≡ put (marksOf (removes (entryOf e)) (contents order field namespace (records count (now (dir .entry)) (now (tree .entry))))) (now (marks .entry)) ⌝ }
+{
+    let mut k: usize = 0;
+    while k < count {
+        let a = stored_at(order, namespace, dir, tree, k);
+        marks[k] = removes(e, a) as u8;
+        k += 1;
+    }
+}
+
+// What stands at a subspace and path.
+pub fn mark_at(
+    order: KeyOrder,
+    namespace: [u8; 16],
+    count: usize,
+    dir: &[u32],
+    tree: &[u8],
+    subspace: Subspace,
+    path: Path,
+    marks: &mut [u8],
+)
+    requires { ⌜ (Formed order count (now dir) (now tree)) × (count ≤ length (now marks)) × (legal field path ≡ true) ⌝ }
+    ensures { λ _. ⌜ now (marks .exit) ≡ put (marksOf (standsAt subspace (components path)) (contents order field namespace (records count (now (dir .entry)) (now (tree .entry))))) (now (marks .entry)) ⌝ }
+{
+    let mut k: usize = 0;
+    while k < count {
+        let a = stored_at(order, namespace, dir, tree, k);
+        marks[k] = stands_at(subspace, path, a) as u8;
+        k += 1;
+    }
+}
+
+// What an area includes and the protected area, if any, does not.
+pub fn mark_forgotten(
+    order: KeyOrder,
+    namespace: [u8; 16],
+    count: usize,
+    dir: &[u32],
+    tree: &[u8],
+    area: Area,
+    protects: bool,
+    protected: Area,
+    marks: &mut [u8],
+)
+    requires { ⌜ (Formed order count (now dir) (now tree)) × (count ≤ length (now marks)) × (legal field (area .path) ≡ true) × (cond protects (legal field (protected .path)) true ≡ true) ⌝ }
+    ensures { λ _. ⌜ now (marks .exit) ≡ put (marksOf (isForgotten area protects protected) (contents order field namespace (records count (now (dir .entry)) (now (tree .entry))))) (now (marks .entry)) ⌝ }
+{
+    let mut k: usize = 0;
+    while k < count {
+        let a = stored_at(order, namespace, dir, tree, k);
+        marks[k] = is_forgotten(area, protects, protected, a) as u8;
+        k += 1;
+    }
+}
+
+// What an area includes and the flags let through.
+pub fn mark_area(
+    order: KeyOrder,
+    namespace: [u8; 16],
+    count: usize,
+    dir: &[u32],
+    tree: &[u8],
+    area: Area,
+    ignore: QueryIgnoreParams,
+    marks: &mut [u8],
+)
+    requires { ⌜ (Formed order count (now dir) (now tree)) × (count ≤ length (now marks)) × (legal field (area .path) ≡ true) ⌝ }
+    ensures { λ _. ⌜ now (marks .exit) ≡ put (marksOf (listedInArea area ignore) (contents order field namespace (records count (now (dir .entry)) (now (tree .entry))))) (now (marks .entry)) ⌝ }
+{
+    let mut k: usize = 0;
+    while k < count {
+        let a = stored_at(order, namespace, dir, tree, k);
+        marks[k] = listed_in_area(area, ignore, a) as u8;
+        k += 1;
+    }
+}
+
+// What a 3d range includes and the flags let through.
+pub fn mark_range(
+    order: KeyOrder,
+    namespace: [u8; 16],
+    count: usize,
+    dir: &[u32],
+    tree: &[u8],
+    range: Range3d,
+    ignore: QueryIgnoreParams,
+    marks: &mut [u8],
+)
+    requires { ⌜ (Formed order count (now dir) (now tree)) × (count ≤ length (now marks)) × (legalRange field (range .paths) ≡ true) ⌝ }
+    ensures { λ _. ⌜ now (marks .exit) ≡ put (marksOf (listedInRange range ignore) (contents order field namespace (records count (now (dir .entry)) (now (tree .entry))))) (now (marks .entry)) ⌝ }
+{
+    let mut k: usize = 0;
+    while k < count {
+        let a = stored_at(order, namespace, dir, tree, k);
+        marks[k] = listed_in_range(range, ignore, a) as u8;
+        k += 1;
+    }
+}
