@@ -21,7 +21,7 @@ noState = emptyState (replicate 16 0) 0
 abbrev pub nothing : Held
 nothing = record { spt = []; tsp = [] }
 
--- The state that a store has before it is opened is none: what is handed in are a namespace, a limit and four buffers.
+-- 1: the limit asked for; 2: a buffer shorter than its room. The store is the buffers with the state asked for: `opening` makes it.
 unfoldable pub openRefusal : Figures → Store → ℕ
 openRefusal f s = unless (limitOk (s .state .limit)) badLimit orElse unless (roomy f (s .state .limit) s) shortBuffer
 

@@ -10,7 +10,7 @@ use Rattle.store.specs.Store.{limitMost, Store, treeRoom, dirRoom, wellF
 
 -- 1: the limit is outside 1 to 1,024. 3: the store is not well-formed. 6: an entry names another namespace. 7: pruning is prevented and
 -- an entry would be removed. 8: the entries left after pruning already number the limit. 9: the stored entry's digest is not the one
--- expected. 2 and 4 are the keys'.
+-- expected. 2 and 4 are the data model's.
 abbrev pub badLimit : ℕ
 badLimit = 1
 
