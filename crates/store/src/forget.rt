@@ -49,10 +49,10 @@ fn is_other_digest(
     spt_dir: &[u32],
     subspace: Subspace,
     path: Path,
-    digest: [u8; 32],
+    expected_digest: [u8; 32],
 ) -> bool
     requires { ⌜ (Formed Spt count (now «spt_dir») (now spt)) × (count ≤ limitMost) × (legal field path ≡ true) × (noPlaceTwice (inTree Spt namespace count (now «spt_dir») (now spt)) ≡ true) ⌝ }
-    ensures { λ r. ⌜ r ≡ any (unexpected subspace (components path) true digest) (inTree Spt namespace count (now («spt_dir» .entry)) (now (spt .entry))) ⌝ }
+    ensures { λ r. ⌜ r ≡ any (unexpected subspace (components path) true «expected_digest») (inTree Spt namespace count (now («spt_dir» .entry)) (now (spt .entry))) ⌝ }
 {
     let mut marks = [0u8; LIMIT_MOST];
     mark_at(
@@ -72,7 +72,7 @@ fn is_other_digest(
     let a = stored_at(KeyOrder::Spt, namespace, spt_dir, spt, k);
     let e = a.entry;
     let own = e.payload_digest;
-    !same_bytes(&own, &digest)
+    !same_bytes(&own, &expected_digest)
 }
 
 // 1, 2, 3, 4 or 9; else 0.
@@ -85,9 +85,9 @@ fn forget_entry_refusal(
     subspace: Subspace,
     path: Path,
     expects: bool,
-    digest: [u8; 32],
+    expected_digest: [u8; 32],
 ) -> u8
-    ensures { λ r. ⌜ r ≡ forgetEntryRefusal field (storeOf state (now (spt .entry)) (now («spt_dir» .entry)) (now (tsp .entry)) (now («tsp_dir» .entry))) subspace path expects digest ⌝ }
+    ensures { λ r. ⌜ r ≡ forgetEntryRefusal field (storeOf state (now (spt .entry)) (now («spt_dir» .entry)) (now (tsp .entry)) (now («tsp_dir» .entry))) subspace path expects «expected_digest» ⌝ }
 {
     let n = check_store(state, spt, spt_dir, tsp, tsp_dir, true);
     if n != 0 {
@@ -109,7 +109,7 @@ fn forget_entry_refusal(
         &spt_dir[..d],
         subspace,
         path,
-        digest,
+        expected_digest,
     ) {
         return OTHER_DIGEST;
     }
@@ -126,9 +126,9 @@ pub fn forget_entry(
     subspace: Subspace,
     path: Path,
     expects: bool,
-    digest: [u8; 32],
+    expected_digest: [u8; 32],
 ) -> EntryForgotten
-    ensures { λ r. ⌜ forgetEntryOutcome r (now (spt .exit)) (now («spt_dir» .exit)) (now (tsp .exit)) (now («tsp_dir» .exit)) ≡ entryForgotten field (storeOf state (now (spt .entry)) (now («spt_dir» .entry)) (now (tsp .entry)) (now («tsp_dir» .entry))) subspace path expects digest ⌝ }
+    ensures { λ r. ⌜ forgetEntryOutcome r (now (spt .exit)) (now («spt_dir» .exit)) (now (tsp .exit)) (now («tsp_dir» .exit)) ≡ entryForgotten field (storeOf state (now (spt .entry)) (now («spt_dir» .entry)) (now (tsp .entry)) (now («tsp_dir» .entry))) subspace path expects «expected_digest» ⌝ }
 {
     let refusal = forget_entry_refusal(
         state,
@@ -139,7 +139,7 @@ pub fn forget_entry(
         subspace,
         path,
         expects,
-        digest,
+        expected_digest,
     );
     if refusal != 0 {
         return EntryForgotten { refusal, state };

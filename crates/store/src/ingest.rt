@@ -94,10 +94,10 @@ fn ingest_refusal(
 }
 
 // Whether a removal is prevented.
-fn is_prevented(prevent: bool, removed: usize) -> bool
-    ensures { λ r. ⌜ r ≡ (prevent && ltb 0 removed) ⌝ }
+fn is_prevented(prevent_pruning: bool, removed: usize) -> bool
+    ensures { λ r. ⌜ r ≡ («prevent_pruning» && ltb 0 removed) ⌝ }
 {
-    if prevent {
+    if prevent_pruning {
         return 0 < removed;
     }
     false
@@ -111,10 +111,10 @@ fn decide(
     spt: &[u8],
     spt_dir: &[u32],
     entry: Entry,
-    prevent: bool,
+    prevent_pruning: bool,
 ) -> PlaceDecision
     requires { ⌜ (Formed Spt count (now «spt_dir») (now spt)) × (count ≤ limitMost) × (legal field (entry .path) ≡ true) ⌝ }
-    ensures { λ r. ⌜ r ≡ placeDecided limit (contents Spt field namespace (records count (now («spt_dir» .entry)) (now (spt .entry)))) (entryOf entry) prevent ⌝ }
+    ensures { λ r. ⌜ r ≡ placeDecided limit (contents Spt field namespace (records count (now («spt_dir» .entry)) (now (spt .entry)))) (entryOf entry) «prevent_pruning» ⌝ }
 {
     let mut marks = [0u8; LIMIT_MOST];
     mark_outdating(
@@ -141,7 +141,7 @@ fn decide(
         &mut removed,
     );
     let n = count_marked(&removed[..count]);
-    if is_prevented(prevent, n) {
+    if is_prevented(prevent_pruning, n) {
         return PlaceDecision::Refuse(PRUNING_PREVENTED);
     }
     if limit <= count - n {
@@ -221,9 +221,9 @@ fn ingest_answer(
     prune: &[u32],
     entry: Entry,
     token: [u8; 64],
-    prevent: bool,
+    prevent_pruning: bool,
 ) -> Ingested
-    ensures { λ r. ⌜ r ≡ ingested field (storeOf state (now (spt .entry)) (now («spt_dir» .entry)) (now (tsp .entry)) (now («tsp_dir» .entry))) (now (prune .entry)) entry token prevent .answer ⌝ }
+    ensures { λ r. ⌜ r ≡ ingested field (storeOf state (now (spt .entry)) (now («spt_dir» .entry)) (now (tsp .entry)) (now («tsp_dir» .entry))) (now (prune .entry)) entry token «prevent_pruning» .answer ⌝ }
 {
     let refusal = ingest_refusal(state, spt, spt_dir, tsp, tsp_dir, prune, entry);
     if refusal != 0 {
@@ -241,7 +241,7 @@ fn ingest_answer(
         &spt[..n],
         &spt_dir[..m],
         entry,
-        prevent,
+        prevent_pruning,
     );
     match d {
         PlaceDecision::Refuse(k) => plain_answer(IngestVerdict::Refused(k), state),
@@ -328,9 +328,9 @@ pub fn ingest_entry_numbers(
     prune: &mut [u32],
     entry: Entry,
     token: [u8; 64],
-    prevent: bool,
+    prevent_pruning: bool,
 ) -> Ingested
-    ensures { λ r. ⌜ ingestOutcome r (now (spt .exit)) (now («spt_dir» .exit)) (now (tsp .exit)) (now («tsp_dir» .exit)) (now (prune .exit)) ≡ ingested field (storeOf state (now (spt .entry)) (now («spt_dir» .entry)) (now (tsp .entry)) (now («tsp_dir» .entry))) (now (prune .entry)) entry token prevent ⌝ }
+    ensures { λ r. ⌜ ingestOutcome r (now (spt .exit)) (now («spt_dir» .exit)) (now (tsp .exit)) (now («tsp_dir» .exit)) (now (prune .exit)) ≡ ingested field (storeOf state (now (spt .entry)) (now («spt_dir» .entry)) (now (tsp .entry)) (now («tsp_dir» .entry))) (now (prune .entry)) entry token «prevent_pruning» ⌝ }
 {
     let given = ingest_answer(
         state,
@@ -341,7 +341,7 @@ pub fn ingest_entry_numbers(
         prune,
         entry,
         token,
-        prevent,
+        prevent_pruning,
     );
     let verdict = given.verdict;
     if let IngestVerdict::Success(_) = verdict {

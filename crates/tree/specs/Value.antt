@@ -1,5 +1,5 @@
 -- The value of a record: payload length 8 bytes, digest 32, token 64, available length 8; whole numbers big-endian.
-use Prim.Native.Nat.{ℕ}
+use Prim.Native.Nat.{ℕ, _+_}
 use mathlib.Core.List.{List, _++_}
 use mathlib.Core.Bool.{Bool}
 use lib.ListN.{drop}
@@ -9,8 +9,18 @@ use Rattle.keys.specs.Encode.{be}
 use Rattle.keys.specs.Decode.{number}
 use Rattle.tree.specs.declared.value.Value.{Value}
 
+-- Where the digest, the token and the available length begin; the bytes of a value: 112.
+abbrev pub digestAt : ℕ
+digestAt = 8
+
+abbrev pub tokenAt : ℕ
+tokenAt = digestAt + 32
+
+abbrev pub availableAt : ℕ
+availableAt = tokenAt + 64
+
 abbrev pub valueLength : ℕ
-valueLength = 112
+valueLength = availableAt + 8
 
 unfoldable pub valueBytes : Value → List ℕ
 valueBytes v = be 8 (v .«payload_length») ++ (v .«payload_digest» ++ (v .token ++ be 8 (v .available)))
@@ -18,9 +28,9 @@ valueBytes v = be 8 (v .«payload_length») ++ (v .«payload_digest» ++ (v .tok
 unfoldable pub readValue : List ℕ → Value
 readValue b = record {
   «payload_length» = number b;
-  «payload_digest» = piece 8 40 b;
-  token = piece 40 104 b;
-  available = number (drop 104 b);
+  «payload_digest» = piece digestAt tokenAt b;
+  token = piece tokenAt availableAt b;
+  available = number (drop availableAt b);
 }
 
 -- No more of the payload is available than there is.

@@ -30,7 +30,7 @@ pub struct QueryIgnoreParams {
     pub ignore_empty_payloads: bool,
 }
 
-fn outdates(e: Entry, a: LengthyAuthorisedEntry) -> bool
+pub fn outdates(e: Entry, a: LengthyAuthorisedEntry) -> bool
     requires { ⌜ (legal field (e .path) ≡ true) × (legal field (a .entry .path) ≡ true) ⌝ }
     ensures { λ r. ⌜ r ≡ outdates (entryOf e) (storedOf a) ⌝ }
 {
@@ -38,7 +38,7 @@ fn outdates(e: Entry, a: LengthyAuthorisedEntry) -> bool
     checked::prunes(x, e)
 }
 
-fn removes(e: Entry, a: LengthyAuthorisedEntry) -> bool
+pub fn removes(e: Entry, a: LengthyAuthorisedEntry) -> bool
     requires { ⌜ (legal field (e .path) ≡ true) × (legal field (a .entry .path) ≡ true) ⌝ }
     ensures { λ r. ⌜ r ≡ removes (entryOf e) (storedOf a) ⌝ }
 {
@@ -49,7 +49,7 @@ fn removes(e: Entry, a: LengthyAuthorisedEntry) -> bool
     false
 }
 
-fn stands_at(subspace: Subspace, path: Path, a: LengthyAuthorisedEntry) -> bool
+pub fn stands_at(subspace: Subspace, path: Path, a: LengthyAuthorisedEntry) -> bool
     requires { ⌜ (legal field path ≡ true) × (legal field (a .entry .path) ≡ true) ⌝ }
     ensures { λ r. ⌜ r ≡ standsAt subspace (components path) (storedOf a) ⌝ }
 {
@@ -62,7 +62,7 @@ fn stands_at(subspace: Subspace, path: Path, a: LengthyAuthorisedEntry) -> bool
     checked::eq(p, path)
 }
 
-fn in_area(area: Area, a: LengthyAuthorisedEntry) -> bool
+pub fn in_area(area: Area, a: LengthyAuthorisedEntry) -> bool
     requires { ⌜ (legal field (area .path) ≡ true) × (legal field (a .entry .path) ≡ true) ⌝ }
     ensures { λ r. ⌜ r ≡ inArea area (storedOf a) ⌝ }
 {
@@ -71,7 +71,7 @@ fn in_area(area: Area, a: LengthyAuthorisedEntry) -> bool
     checked::area_includes(area, x.subspace_id, p, x.timestamp)
 }
 
-fn in_range(range: Range3d, a: LengthyAuthorisedEntry) -> bool
+pub fn in_range(range: Range3d, a: LengthyAuthorisedEntry) -> bool
     requires { ⌜ (legalRange field (range .paths) ≡ true) × (legal field (a .entry .path) ≡ true) ⌝ }
     ensures { λ r. ⌜ r ≡ inRange range (storedOf a) ⌝ }
 {
@@ -92,7 +92,7 @@ pub fn let_through(ignore: QueryIgnoreParams, a: LengthyAuthorisedEntry) -> bool
 }
 
 // The path of an absent protected area is not looked at.
-fn is_forgotten(area: Area, protects: bool, protected: Area, a: LengthyAuthorisedEntry) -> bool
+pub fn is_forgotten(area: Area, protects: bool, protected: Area, a: LengthyAuthorisedEntry) -> bool
     requires { ⌜ (legal field (area .path) ≡ true) × (cond protects (legal field (protected .path)) true ≡ true) × (legal field (a .entry .path) ≡ true) ⌝ }
     ensures { λ r. ⌜ r ≡ isForgotten area protects protected (storedOf a) ⌝ }
 {
@@ -105,7 +105,7 @@ fn is_forgotten(area: Area, protects: bool, protected: Area, a: LengthyAuthorise
     true
 }
 
-fn listed_in_area(area: Area, ignore: QueryIgnoreParams, a: LengthyAuthorisedEntry) -> bool
+pub fn listed_in_area(area: Area, ignore: QueryIgnoreParams, a: LengthyAuthorisedEntry) -> bool
     requires { ⌜ (legal field (area .path) ≡ true) × (legal field (a .entry .path) ≡ true) ⌝ }
     ensures { λ r. ⌜ r ≡ listedInArea area ignore (storedOf a) ⌝ }
 {
@@ -115,7 +115,7 @@ fn listed_in_area(area: Area, ignore: QueryIgnoreParams, a: LengthyAuthorisedEnt
     false
 }
 
-fn listed_in_range(range: Range3d, ignore: QueryIgnoreParams, a: LengthyAuthorisedEntry) -> bool
+pub fn listed_in_range(range: Range3d, ignore: QueryIgnoreParams, a: LengthyAuthorisedEntry) -> bool
     requires { ⌜ (legalRange field (range .paths) ≡ true) × (legal field (a .entry .path) ≡ true) ⌝ }
     ensures { λ r. ⌜ r ≡ listedInRange range ignore (storedOf a) ⌝ }
 {

@@ -4,14 +4,22 @@ use keys::number::write_u64;
 use layout::bytes::write;
 ghost use mathlib.Core.Path.{_≡_};
 ghost use mathlib.Core.List.{_++_};
-ghost use Prim.Native.Nat.{_≤_};
+ghost use Prim.Native.Nat.{_-_, _≤_};
 ghost use lib.ListN.{length, take};
 ghost use Rattle.laws.specs.Lists.{put};
 ghost use Rattle.keys.specs.Encode.{be};
-ghost use Rattle.tree.specs.Value.{valueLength, valueBytes, readValue, isValue};
+ghost use Rattle.tree.specs.Value.{tokenAt, valueLength, valueBytes, readValue, isValue};
 
-// The bytes of a value.
-pub const VALUE: usize = 112;
+// The bytes of a token. Where the digest, the token and the available length begin; the bytes of a value.
+const TOKEN: usize = 64;
+
+const DIGEST_AT: usize = 8;
+
+const TOKEN_AT: usize = DIGEST_AT + 32;
+
+const AVAILABLE_AT: usize = TOKEN_AT + TOKEN;
+
+pub const VALUE: usize = AVAILABLE_AT + 8;
 
 pub struct Value {
     pub payload_length: u64,
@@ -22,20 +30,20 @@ pub struct Value {
 
 // Writes the first half of a value: a length, and a digest behind it.
 fn write_front(n: u64, digest: &[u8], out: &mut [u8])
-    requires { ⌜ (length (now digest) ≡ 32) × (40 ≤ length (now out)) ⌝ }
+    requires { ⌜ (length (now digest) ≡ 32) × (tokenAt ≤ length (now out)) ⌝ }
     ensures { λ _. ⌜ now (out .exit) ≡ put (be 8 n ++ now (digest .entry)) (now (out .entry)) ⌝ }
 {
     write_u64(n, out);
-    write(out, 8, digest);
+    write(out, DIGEST_AT, digest);
 }
 
 // Writes the second half: a token, and a length behind it.
 fn write_back(token: &[u8], n: u64, out: &mut [u8])
-    requires { ⌜ (length (now token) ≡ 64) × (72 ≤ length (now out)) ⌝ }
+    requires { ⌜ (length (now token) ≡ 64) × (valueLength - tokenAt ≤ length (now out)) ⌝ }
     ensures { λ _. ⌜ now (out .exit) ≡ put (now (token .entry) ++ be 8 n) (now (out .entry)) ⌝ }
 {
     write(out, 0, token);
-    write_u64(n, &mut out[64..]);
+    write_u64(n, &mut out[TOKEN..]);
 }
 
 // Writes a value at the front of the buffer, and answers how many bytes.
@@ -46,7 +54,7 @@ pub fn encode_entry_values(v: Value, out: &mut [u8]) -> usize
     let digest = v.payload_digest;
     let token = v.token;
     write_front(v.payload_length, &digest, out);
-    write_back(&token, v.available, &mut out[40..]);
+    write_back(&token, v.available, &mut out[TOKEN_AT..]);
     VALUE
 }
 
@@ -73,13 +81,13 @@ pub fn decode_entry_values(value: &[u8]) -> Value
     requires { ⌜ length (now value) ≡ valueLength ⌝ }
     ensures { λ r. ⌜ r ≡ readValue (now (value .entry)) ⌝ }
 {
-    let payload_digest = copy_32(&value[8..40]);
-    let token = copy_64(&value[40..104]);
+    let payload_digest = copy_32(&value[DIGEST_AT..TOKEN_AT]);
+    let token = copy_64(&value[TOKEN_AT..AVAILABLE_AT]);
     Value {
         payload_length: read_u64(value),
         payload_digest,
         token,
-        available: read_u64(&value[104..]),
+        available: read_u64(&value[AVAILABLE_AT..]),
     }
 }
 
@@ -88,5 +96,5 @@ pub fn is_value(value: &[u8]) -> bool
     requires { ⌜ length (now value) ≡ valueLength ⌝ }
     ensures { λ r. ⌜ r ≡ isValue (readValue (now (value .entry))) ⌝ }
 {
-    read_u64(&value[104..]) <= read_u64(value)
+    read_u64(&value[AVAILABLE_AT..]) <= read_u64(value)
 }

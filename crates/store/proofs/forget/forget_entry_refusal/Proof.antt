@@ -17,16 +17,16 @@ check-store-requires : tie.Need-check-store-requires
 check-store-requires c κs = search needs
 
 returns : tie.Need-returns
-returns c = let p = (c .before .before .before .before .before .before) in entry-early (storeOf (p .args .state) (p .args .spt .now) (p .args .«spt-dir» .now) (p .args .tsp .now) (p .args .«tsp-dir» .now)) (p .args .subspace) (p .args .path) (p .args .expects) (p .args .digest) (c .before .check-store .result) (c .before .check-store .ensures) (c .if1 .taken)
+returns c = let p = (c .before .before .before .before .before .before) in entry-early (storeOf (p .args .state) (p .args .spt .now) (p .args .«spt-dir» .now) (p .args .tsp .now) (p .args .«tsp-dir» .now)) (p .args .subspace) (p .args .path) (p .args .expects) (p .args .«expected-digest») (c .before .check-store .result) (c .before .check-store .ensures) (c .if1 .taken)
 
 is-legal-requires : tie.Need-is-legal-requires
 is-legal-requires c κs = search needs
 
 returns-2 : tie.Need-returns-2
-returns-2 c = let p = (c .before .before .before .before .before .before .before .before) in entry-path (storeOf (p .args .state) (p .args .spt .now) (p .args .«spt-dir» .now) (p .args .tsp .now) (p .args .«tsp-dir» .now)) (p .args .subspace) (p .args .path) (p .args .expects) (p .args .digest) (c .before .before .before .check-store .result) (c .before .before .before .check-store .ensures) (c .before .before .if1 .left) (fails (c .before .is-legal .ensures) (c .if2 .taken))
+returns-2 c = let p = (c .before .before .before .before .before .before .before .before) in entry-path (storeOf (p .args .state) (p .args .spt .now) (p .args .«spt-dir» .now) (p .args .tsp .now) (p .args .«tsp-dir» .now)) (p .args .subspace) (p .args .path) (p .args .expects) (p .args .«expected-digest») (c .before .before .before .check-store .result) (c .before .before .before .check-store .ensures) (c .before .before .if1 .left) (fails (c .before .is-legal .ensures) (c .if2 .taken))
 
 returns-3 : tie.Need-returns-3
-returns-3 c = let p = (c .before .before .before .before .before .before .before .before .before) in entry-passes (storeOf (p .args .state) (p .args .spt .now) (p .args .«spt-dir» .now) (p .args .tsp .now) (p .args .«tsp-dir» .now)) (p .args .subspace) (p .args .path) (p .args .expects) (p .args .digest) (c .before .before .before .before .check-store .result) (c .before .before .before .before .check-store .ensures) (c .before .before .before .if1 .left) (holds (c .before .before .is-legal .ensures) (c .before .if2 .left)) (unasked-in (storeOf (p .args .state) (p .args .spt .now) (p .args .«spt-dir» .now) (p .args .tsp .now) (p .args .«tsp-dir» .now)) (p .args .subspace) (components (p .args .path)) (p .args .expects) (p .args .digest) (not-true _ (c .if3 .taken)))
+returns-3 c = let p = (c .before .before .before .before .before .before .before .before .before) in entry-passes (storeOf (p .args .state) (p .args .spt .now) (p .args .«spt-dir» .now) (p .args .tsp .now) (p .args .«tsp-dir» .now)) (p .args .subspace) (p .args .path) (p .args .expects) (p .args .«expected-digest») (c .before .before .before .before .check-store .result) (c .before .before .before .before .check-store .ensures) (c .before .before .before .if1 .left) (holds (c .before .before .is-legal .ensures) (c .before .if2 .left)) (unasked-in (storeOf (p .args .state) (p .args .spt .now) (p .args .«spt-dir» .now) (p .args .tsp .now) (p .args .«tsp-dir» .now)) (p .args .subspace) (components (p .args .path)) (p .args .expects) (p .args .«expected-digest») (not-true _ (c .if3 .taken)))
 
 mul-t : tie.Need-mul-t
 mul-t c = let p = (c .before .before .before .before .before .before .before .before .before .before .before) in let q = passed (storeOf (p .args .state) (p .args .spt .now) (p .args .«spt-dir» .now) (p .args .tsp .now) (p .args .«tsp-dir» .now)) true (sym (c .before .before .before .before .before .before .check-store .ensures) ∙ c .before .before .before .before .before .if1 .left) .0 in let m = q .most in omega arith
@@ -45,10 +45,10 @@ unfolding treeOf dirOf held
 is-other-digest-requires c κs = let p = (c .before .before .before .before .before .before .before .before .before .before .before .before .before .before) in let q = passed (storeOf (p .args .state) (p .args .spt .now) (p .args .«spt-dir» .now) (p .args .tsp .now) (p .args .«tsp-dir» .now)) true (sym (c .before .before .before .before .before .before .before .before .before .check-store .ensures) ∙ c .before .before .before .before .before .before .before .before .if1 .left) .0 in let m = q .most in let k = q .few in (q .formed Spt, omega arith, (holds (c .before .before .before .before .before .before .before .is-legal .ensures) (c .before .before .before .before .before .before .if2 .left)), q .once)
 
 returns-4 : tie.Need-returns-4
-returns-4 c = let p = (c .before .before .before .before .before .before .before .before .before .before .before .before .before .before .before .before) in entry-other (storeOf (p .args .state) (p .args .spt .now) (p .args .«spt-dir» .now) (p .args .tsp .now) (p .args .«tsp-dir» .now)) (p .args .subspace) (p .args .path) (p .args .expects) (p .args .digest) (c .before .before .before .before .before .before .before .before .before .before .before .check-store .result) (c .before .before .before .before .before .before .before .before .before .before .before .check-store .ensures) (c .before .before .before .before .before .before .before .before .before .before .if1 .left) (holds (c .before .before .before .before .before .before .before .before .before .is-legal .ensures) (c .before .before .before .before .before .before .before .before .if2 .left)) (asked (storeOf (p .args .state) (p .args .spt .now) (p .args .«spt-dir» .now) (p .args .tsp .now) (p .args .«tsp-dir» .now)) (p .args .subspace) (components (p .args .path)) (p .args .expects) (p .args .digest) (not-false _ (c .before .before .before .before .before .before .before .if3 .left)) _ _ (c .before .is-other-digest .ensures) (c .if4 .taken))
+returns-4 c = let p = (c .before .before .before .before .before .before .before .before .before .before .before .before .before .before .before .before) in entry-other (storeOf (p .args .state) (p .args .spt .now) (p .args .«spt-dir» .now) (p .args .tsp .now) (p .args .«tsp-dir» .now)) (p .args .subspace) (p .args .path) (p .args .expects) (p .args .«expected-digest») (c .before .before .before .before .before .before .before .before .before .before .before .check-store .result) (c .before .before .before .before .before .before .before .before .before .before .before .check-store .ensures) (c .before .before .before .before .before .before .before .before .before .before .if1 .left) (holds (c .before .before .before .before .before .before .before .before .before .is-legal .ensures) (c .before .before .before .before .before .before .before .before .if2 .left)) (asked (storeOf (p .args .state) (p .args .spt .now) (p .args .«spt-dir» .now) (p .args .tsp .now) (p .args .«tsp-dir» .now)) (p .args .subspace) (components (p .args .path)) (p .args .expects) (p .args .«expected-digest») (not-false _ (c .before .before .before .before .before .before .before .if3 .left)) _ _ (c .before .is-other-digest .ensures) (c .if4 .taken))
 
 returns-5 : tie.Need-returns-5
-returns-5 c = let p = (c .before .before .before .before .before .before .before .before .before .before .before .before .before .before .before .before) in entry-passes (storeOf (p .args .state) (p .args .spt .now) (p .args .«spt-dir» .now) (p .args .tsp .now) (p .args .«tsp-dir» .now)) (p .args .subspace) (p .args .path) (p .args .expects) (p .args .digest) (c .before .before .before .before .before .before .before .before .before .before .before .check-store .result) (c .before .before .before .before .before .before .before .before .before .before .before .check-store .ensures) (c .before .before .before .before .before .before .before .before .before .before .if1 .left) (holds (c .before .before .before .before .before .before .before .before .before .is-legal .ensures) (c .before .before .before .before .before .before .before .before .if2 .left)) (asked (storeOf (p .args .state) (p .args .spt .now) (p .args .«spt-dir» .now) (p .args .tsp .now) (p .args .«tsp-dir» .now)) (p .args .subspace) (components (p .args .path)) (p .args .expects) (p .args .digest) (not-false _ (c .before .before .before .before .before .before .before .if3 .left)) _ _ (c .before .is-other-digest .ensures) (c .if4 .left))
+returns-5 c = let p = (c .before .before .before .before .before .before .before .before .before .before .before .before .before .before .before .before) in entry-passes (storeOf (p .args .state) (p .args .spt .now) (p .args .«spt-dir» .now) (p .args .tsp .now) (p .args .«tsp-dir» .now)) (p .args .subspace) (p .args .path) (p .args .expects) (p .args .«expected-digest») (c .before .before .before .before .before .before .before .before .before .before .before .check-store .result) (c .before .before .before .before .before .before .before .before .before .before .before .check-store .ensures) (c .before .before .before .before .before .before .before .before .before .before .if1 .left) (holds (c .before .before .before .before .before .before .before .before .before .is-legal .ensures) (c .before .before .before .before .before .before .before .before .if2 .left)) (asked (storeOf (p .args .state) (p .args .spt .now) (p .args .«spt-dir» .now) (p .args .tsp .now) (p .args .«tsp-dir» .now)) (p .args .subspace) (components (p .args .path)) (p .args .expects) (p .args .«expected-digest») (not-false _ (c .before .before .before .before .before .before .before .if3 .left)) _ _ (c .before .is-other-digest .ensures) (c .if4 .left))
 
 pub forget-entry-refusal-spec : {M : Type 1} → statement M
 forget-entry-refusal-spec =

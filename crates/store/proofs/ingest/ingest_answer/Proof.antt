@@ -33,7 +33,7 @@ plain-answer-requires c κs = search needs
 returns : tie.Need-returns
 returns c =
     let p = c .before .before .before .before .before .before .before .before in
-    answers-refused (lent p) (p .args .prune .now) (p .args .entry) (p .args .token) (p .args .prevent) (c .before .before .ingest-refusal .result) (c .before .before .ingest-refusal .ensures) (c .before .if1 .taken) _ (c .plain-answer .ensures)
+    answers-refused (lent p) (p .args .prune .now) (p .args .entry) (p .args .token) (p .args .«prevent-pruning») (c .before .before .ingest-refusal .result) (c .before .before .ingest-refusal .ensures) (c .before .if1 .taken) _ (c .plain-answer .ensures)
 
 mul-n : tie.Need-mul-n
 mul-n c =
@@ -89,7 +89,7 @@ obsolete-answer-requires : tie.Need-obsolete-answer-requires
 obsolete-answer-requires c κs =
     let e = c .before .before .before .before .before .before .before .before .before in
     let p = start e in
-    old-bounds (lent p) (p .args .prune .now) (p .args .entry) (p .args .token) (p .args .prevent) (zero e) (c .before .before .before .before .before .decide .result) (c .before .before .before .before .before .decide .ensures)
+    old-bounds (lent p) (p .args .prune .now) (p .args .entry) (p .args .token) (p .args .«prevent-pruning») (zero e) (c .before .before .before .before .before .decide .result) (c .before .before .before .before .before .decide .ensures)
     _ (c .before .before .before .d2 .given .1)
 
 enum-known-d-3 : tie.Need-enum-known-d-3
@@ -99,28 +99,28 @@ taken-answer-requires : tie.Need-taken-answer-requires
 taken-answer-requires c κs =
     let e = c .before .before .before .before .before .before .before in
     let p = start e in
-    take-fits (lent p) (p .args .prune .now) (p .args .entry) (p .args .token) (p .args .prevent) (zero e) (c .before .before .before .decide .result) (c .before .before .before .decide .ensures)
+    take-fits (lent p) (p .args .prune .now) (p .args .entry) (p .args .token) (p .args .«prevent-pruning») (zero e) (c .before .before .before .decide .result) (c .before .before .before .decide .ensures)
     _ (c .before .d3 .given .1)
 
 returns-2 : tie.Need-returns-2
 returns-2 c =
     let e = c .before .before .before .before .before .before .before .before in
     let p = start e in
-    answers-late (lent p) (p .args .prune .now) (p .args .entry) (p .args .token) (p .args .prevent) (zero e) (c .before .before .before .before .decide .result) (c .before .before .before .before .decide .ensures)
+    answers-late (lent p) (p .args .prune .now) (p .args .entry) (p .args .token) (p .args .«prevent-pruning») (zero e) (c .before .before .before .before .decide .result) (c .before .before .before .before .decide .ensures)
     _ (c .before .before .d .given .1) _ (c .plain-answer2 .ensures)
 
 returns-3 : tie.Need-returns-3
 returns-3 c =
     let e = c .before .before .before .before .before .before .before .before .before .before in
     let p = start e in
-    answers-old (lent p) (p .args .prune .now) (p .args .entry) (p .args .token) (p .args .prevent) (zero e) (c .before .before .before .before .before .before .decide .result) (c .before .before .before .before .before .before .decide .ensures)
+    answers-old (lent p) (p .args .prune .now) (p .args .entry) (p .args .token) (p .args .«prevent-pruning») (zero e) (c .before .before .before .before .before .before .decide .result) (c .before .before .before .before .before .before .decide .ensures)
     _ (c .before .before .before .before .d2 .given .1) _ (c .obsolete-answer .ensures)
 
 returns-4 : tie.Need-returns-4
 returns-4 c =
     let e = c .before .before .before .before .before .before .before .before in
     let p = start e in
-    answers-take (lent p) (p .args .prune .now) (p .args .entry) (p .args .token) (p .args .prevent) (zero e) (c .before .before .before .before .decide .result) (c .before .before .before .before .decide .ensures)
+    answers-take (lent p) (p .args .prune .now) (p .args .entry) (p .args .token) (p .args .«prevent-pruning») (zero e) (c .before .before .before .before .decide .result) (c .before .before .before .before .decide .ensures)
     _ (c .before .before .d3 .given .1) _ (c .taken-answer .ensures)
 
 pub ingest-answer-spec : {M : Type 1} → statement M
