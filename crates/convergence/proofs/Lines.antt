@@ -16,7 +16,7 @@ use Rattle.key_laws.specs.Bytes.{Bytes}
 use Rattle.key_laws.proofs.Fits.{isByte}
 use Rattle.tree.specs.Stored.{recordOf}
 use Rattle.tree.specs.declared.stored.KeyOrder.the-variants.{Spt}
-use Rattle.store.specs.Store.{Store, treeRoom, treeOf, Held, heldBy}
+use Rattle.store.specs.Store.{Store, treeRoom, dirRoom, treeOf, Held, heldBy}
 use Rattle.store.specs.Refusal.{unless, _orElse_, limitOk, roomy}
 use Rattle.store.specs.Open.{nothing, openRefusal, openAnswer, opened}
 use Rattle.store.specs.declared.ingest.IngestVerdict.{IngestVerdict}
@@ -113,7 +113,7 @@ module _ (limit : ℕ) where
 -- The opening is not refused.
 pub opens-fine : (n : ℕ) → limitOk n ≡ true → NotRefused field (atLimit n)
 unfolding opens opened openAnswer openRefusal unless _orElse_ roomy
-opens-fine n h = rw (h, has-room (410 * n) 7, has-room (2 * n) 7)
+opens-fine n h = rw (h, has-room (treeRoom field n) 7, has-room (dirRoom n) 7)
 
 -- What lines do, computed.
 module _ (limit : ℕ) (ok : limitOk limit ≡ true) (xs : List Line) (h : all fine xs ≡ true) where

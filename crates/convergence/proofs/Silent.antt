@@ -1,20 +1,13 @@
 -- A store that refuses without a number whomever it would otherwise take: that a refusal has a number refutes it. Assumes nothing.
 use Prim.Native.Nat.{ℕ}
-use mathlib.Core.Path.{_≡_, refl, sym, ap, subst}
-use mathlib.Core.Logic.{⊎-elim}
-use mathlib.Core.List.{List, [], _∷_, List·Memᴰ·head as here, List·Memᴰ·not-nil as none-in, List·Memᴰ·cases-cons as uncons}
+use mathlib.Core.Path.{_≡_, refl}
+use mathlib.Core.List.{[], _∷_, List·Memᴰ·head as here}
 use native.Mathlib.Omega.{arith}
-use Rattle.laws.specs.Sorted.{_∈_}
 use Rattle.data_model.specs.Path.{field}
-use Rattle.tree.specs.Stored.{Stored}
-use Rattle.store.specs.Store.{Store, Held, heldBy}
-use Rattle.store.specs.declared.ingest.IngestVerdict.{IngestVerdict}
-use Rattle.store.specs.declared.ingest.IngestVerdict.the-variants.{Success, Obsolete, Refused}
-use Rattle.convergence.specs.History.{Call, ingest, forget-entry, forget-area, Answer, of-ingest, of-entry, of-area, answer, Event, history, left, receipt, received, refusalIn, IsObsolete, Ingestions, AreValues}
-use Rattle.convergence.specs.Conditions.{ObsoleteWhere}
-use Rattle.convergence.specs.Demand.{Opening, opens, NotRefused, Plain, RefusedRight}
+use Rattle.store.specs.declared.ingest.IngestVerdict.the-variants.{Success, Refused}
+use Rattle.convergence.specs.History.{Answer, of-ingest, of-entry, of-area, answer, AreValues}
 use Rattle.convergence.specs.Examples.{callOf, atLimit, verdictIn, one}
-use Rattle.convergence.specs.WrongStores.{historyOf, leftBy, Clauses, Meets, unnumbered, hushed, silent}
+use Rattle.convergence.specs.WrongStores.{historyOf, Meets, unnumbered, hushed, silent}
 use Rattle.convergence.proofs.OneEntry.{s0, shows-one, first-answer, first-value}
 
 hushed-success : (a : Answer) (n : ℕ) → verdictIn a ≡ Success n ∷ [] → verdictIn (hushed a) ≡ Refused 0 ∷ []

@@ -4,7 +4,7 @@ use mathlib.Core.Path.{_≡_}
 use mathlib.Core.Logic.{_⊎_, _↔_}
 use mathlib.Core.List.{List, _++_, map}
 use mathlib.Core.Bool.{true, false}
-use lib.ListN.{length, drop}
+use lib.ListN.{length}
 use Rattle.laws.specs.Sorted.{_∈_, Ascends}
 use Rattle.layout.specs.Layout.{treeBytes, dirNumbers}
 use Rattle.data_model.specs.Path.{Figures, isPrefix}

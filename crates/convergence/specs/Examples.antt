@@ -12,7 +12,7 @@ use Rattle.data_model.specs.declared.entry.Entry.{Entry as EntryValue}
 use Rattle.tree.specs.Stored.{Stored}
 use Rattle.tree.specs.declared.stored.KeyOrder.{KeyOrder}
 use Rattle.tree.specs.declared.stored.KeyOrder.the-variants.{Spt}
-use Rattle.store.specs.Store.{held}
+use Rattle.store.specs.Store.{treeRoom, dirRoom, held}
 use Rattle.store.specs.Ingest.{filing}
 use Rattle.store.specs.declared.ingest.IngestVerdict.{IngestVerdict}
 use Rattle.store.specs.declared.ingest.IngestVerdict.the-variants.{Success, Obsolete, Refused}
@@ -62,10 +62,10 @@ abbrev pub atLimit : ℕ → Opening
 atLimit n = record {
   namespace = namespace;
   limit = n;
-  spt = replicate (410 * n) 7;
-  sptDir = replicate (2 * n) 7;
-  tsp = replicate (410 * n) 7;
-  tspDir = replicate (2 * n) 7;
+  spt = replicate (treeRoom field n) 7;
+  sptDir = replicate (dirRoom n) 7;
+  tsp = replicate (treeRoom field n) 7;
+  tspDir = replicate (dirRoom n) 7;
 }
 
 -- The verdicts in a history.

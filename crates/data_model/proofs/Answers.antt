@@ -1,11 +1,10 @@
 -- Laws of the answers: one for each way out of a public entry. Assumes nothing.
 use mathlib.Core.Path.{_≡_, refl, sym, ap, _∙_}
-use mathlib.Core.Bool.{Bool, true, false, _&&_}
-use Rattle.laws.specs.Order.{Order, less, same, greater, _then_, isLess, isSame, isGreater}
+use mathlib.Core.Bool.{Bool, true, false}
+use Rattle.laws.specs.Order.{Order, less, same, greater}
 use Rattle.data_model.specs.Refusal.{answered, compared, ordered, orderOf, illegalPath}
 use Rattle.data_model.specs.declared.answer.Answer.{Answer}
 use Rattle.data_model.specs.declared.answer.Answer.the-variants as answer
-use Rattle.data_model.specs.declared.answer.Compared.{Compared}
 use Rattle.data_model.specs.declared.answer.Compared.the-variants as compare
 use Rattle.data_model.specs.declared.answer.Ordering.{Ordering}
 use Rattle.data_model.specs.declared.answer.Ordering.the-variants as ordering

@@ -3,13 +3,13 @@ use Prim.Native.Nat.{ℕ, zero, suc, _+_, _-_, _≤_, _<_, min}
 use mathlib.Core.Path.{_≡_, refl, sym, ap, _∙_}
 use mathlib.Core.List.{List, [], _∷_, _++_, append-assoc, append-nil}
 use mathlib.Core.Option.{Option, some, none, Option·map}
-use mathlib.Core.Bool.{Bool, true, false, _&&_, cond}
+use mathlib.Core.Bool.{Bool, true, false, _&&_}
 use native.Mathlib.Omega.{arith}
 use native.Mathlib.Nat.{sub-zero}
 use native.Mathlib.Numerals.{add-one}
 use lib.Dec.{leb, ltb}
-use borrow.Author.Tests.{le-leb, lt-ltb, le-ltb, leb-true, ltb-true}
-use lib.ListN.{length, take, drop, getD, set, replicate, length-replicate, length-append, length-take, length-drop, drop-of-length-le}
+use borrow.Author.Tests.{lt-ltb, le-ltb, leb-true, ltb-true}
+use lib.ListN.{length, take, drop, getD, set, replicate, length-replicate, length-append, length-take, drop-of-length-le}
 use lib.Seq.{drop-cons, take-suc, length-take-le, take-take, take-add, getD-take, getD-drop}
 use Rattle.laws.specs.Lists.{piece, put}
 use Rattle.laws.proofs.Lists.{put-zeros, put-snoc}
@@ -18,7 +18,7 @@ use Rattle.data_model.specs.Path.{Figures, field, Component, Components,
 use Rattle.data_model.specs.Above.{orElse, raisedByte, raisedBytes, raised, aboveIn, above, raisedAt, aboveFound}
 use Rattle.data_model.specs.declared.path.Path.{Path}
 use Rattle.data_model.specs.declared.above.Above.{Above}
-use Rattle.data_model.proofs.Values.{last-within, ends-top, ends-fewer, legal-these, legal-count, legal-within, cut-take, joined-more, ends-more, length-piece, cut-length}
+use Rattle.data_model.proofs.Values.{last-within, ends-top, ends-fewer, legal-these, legal-within, cut-take, joined-more, ends-more, length-piece, cut-length}
 
 -- The last of the first ends.
 pub last-none : (from : ℕ) (es : List ℕ) → lastEnd from (take 0 es) ≡ from

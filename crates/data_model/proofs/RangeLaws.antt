@@ -1,11 +1,10 @@
 -- Laws of ranges: one for each way in which a range answers, over any order. Assumes nothing.
-use Prim.Native.Nat.{ℕ, _<_, _≤_}
-use mathlib.Core.Path.{_≡_, refl, sym, ap, _∙_}
+use Prim.Native.Nat.{ℕ}
+use mathlib.Core.Path.{_≡_, refl, sym}
 use mathlib.Core.Bool.{Bool, true, false, not, cond, _&&_}
 use lib.Dec.{ltb}
-use borrow.Author.Tests.{lt-ltb, le-ltb}
-use Rattle.laws.specs.Order.{Order, less, same, greater, byNumber, isLess}
-use Rattle.laws.proofs.Truth.{split, and-true, clash}
+use Rattle.laws.specs.Order.{Order, byNumber, isLess}
+use Rattle.laws.proofs.Truth.{split, and-true}
 use mathlib.Core.Option.{Option, some, none}
 use Rattle.data_model.specs.Path.{field, Components, legal, pathOf}
 use Rattle.data_model.specs.Above.{aboveFound}

@@ -1,18 +1,18 @@
 -- Path values and their components: what legal ends cut, and the value that is handed out for components. Assumes nothing.
-use Prim.Native.Nat.{ℕ, zero, suc, _+_, _-_, _*_, _≤_, _<_, min}
-use mathlib.Core.Path.{_≡_, refl, sym, ap, subst, _∙_}
+use Prim.Native.Nat.{ℕ, zero, suc, _+_, _-_, _≤_, _<_}
+use mathlib.Core.Path.{_≡_, refl, sym, ap, _∙_}
 use mathlib.Core.List.{List, [], _∷_, _++_, append-assoc, append-nil}
-use mathlib.Core.Bool.{Bool, true, false, _&&_, false≢true}
+use mathlib.Core.Bool.{true, false, _&&_}
 use native.Mathlib.Omega.{arith}
-use native.Mathlib.Nat.{le-trans, add-sub-cancel-left, sub-self, sub-zero}
+use native.Mathlib.Nat.{le-trans}
 use native.Mathlib.Numerals.{add-one}
 use lib.Dec.{leb}
 use borrow.Author.Tests.{le-leb, lt-leb, leb-true}
-use lib.ListN.{length, take, drop, getD, replicate, drop-of-length-le, length-append, length-drop, length-take}
-use lib.Seq.{drop-cons, length-take-le, take-at, drop-at, take-take}
+use lib.ListN.{length, take, drop, getD, drop-of-length-le, length-append, length-drop}
+use lib.Seq.{drop-cons, length-take-le, take-take}
 use Rattle.laws.specs.Lists.{piece}
 use Rattle.laws.proofs.Truth.{and-true}
-use Rattle.data_model.specs.Path.{Figures, field, Components, cut, components, joined, endsFrom, legalEnds, legal, pathOf, lastEnd}
+use Rattle.data_model.specs.Path.{Figures, cut, components, joined, endsFrom, legalEnds, legal, lastEnd}
 use Rattle.data_model.specs.declared.path.Path.{Path}
 
 -- Of ends read one by one: what the end at i says of those from i on.

@@ -1,9 +1,9 @@
 -- The least legal path above a path that the path does not prefix, or none. That it is this is the theorem `above-least`.
 use Prim.Native.Nat.{ℕ, _+_, _-_, _<_, min}
 use mathlib.Core.Path.{_≡_}
-use mathlib.Core.List.{List, [], _∷_, _++_}
+use mathlib.Core.List.{[], _∷_, _++_}
 use mathlib.Core.Option.{Option, some, none, Option·map}
-use mathlib.Core.Bool.{Bool, true, false, cond}
+use mathlib.Core.Bool.{true, false, cond}
 use lib.ListN.{length, take, getD}
 use lib.Dec.{ltb}
 use Rattle.data_model.specs.Path.{Figures, Component, Components, joined, legal, components, pathOf}

@@ -1,7 +1,7 @@
 -- Entries: which is newer, which prunes which.
 use Prim.Native.Nat.{ℕ}
 use mathlib.Core.List.{List}
-use mathlib.Core.Bool.{Bool, true, false, _&&_}
+use mathlib.Core.Bool.{Bool, _&&_}
 use Rattle.laws.specs.Order.{Order, _then_, byNumber, isGreater}
 use Rattle.laws.specs.Prefix.{sameNumber, sameList}
 use Rattle.data_model.specs.Path.{Components, components, byBytes, isPrefix}

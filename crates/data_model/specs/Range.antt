@@ -1,6 +1,6 @@
 -- Ranges: from a start up to an end, which shuts out its own value, or open.
 use Prim.Native.Nat.{ℕ}
-use mathlib.Core.Bool.{Bool, true, false, not, cond, _&&_}
+use mathlib.Core.Bool.{Bool, true, not, cond, _&&_}
 use Rattle.laws.specs.Order.{Order, byNumber, isLess}
 use Rattle.data_model.specs.Path.{Figures, Components, components, byComponents, legal}
 use Rattle.data_model.specs.Subspace.{bySubspace}

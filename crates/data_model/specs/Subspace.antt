@@ -1,6 +1,6 @@
 -- Subspaces: two 64-bit numbers, the high half first.
-use Prim.Native.Nat.{ℕ, _+_, _^_, _-_}
-use mathlib.Core.Bool.{Bool, true, false, cond, _&&_}
+use Prim.Native.Nat.{_+_, _^_, _-_}
+use mathlib.Core.Bool.{Bool, cond, _&&_}
 use lib.Dec.{ltb}
 use Rattle.laws.specs.Order.{Order, _then_, byNumber}
 use Rattle.laws.specs.Prefix.{sameNumber}

@@ -12,7 +12,7 @@ ghost use lib.Dec.{ltb};
 ghost use lib.ListN.{length, take};
 ghost use Rattle.laws.specs.Lists.{put};
 ghost use Rattle.data_model.specs.Path.{field, legal, components, pathOf, lastEnd, valueOf};
-ghost use Rattle.data_model.specs.Above.{above, aboveFound, aboveAnswer, raisedAt, RaisesByte};
+ghost use Rattle.data_model.specs.Above.{above, aboveFound, raisedAt, RaisesByte};
 
 // Refusal 0 and whether there is such a path, and it; or the refusal and all else 0.
 pub struct Above {

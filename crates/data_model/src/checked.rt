@@ -11,7 +11,7 @@ use crate::path::Path;
 use crate::range::PathRange;
 use crate::range_3d::Range3d;
 ghost use mathlib.Core.Path.{_≡_};
-ghost use mathlib.Core.Bool.{true, _&&_};
+ghost use mathlib.Core.Bool.{true};
 ghost use lib.ListN.{length};
 ghost use Rattle.data_model.specs.Path.{field, legal, legalEnds, cut, components, byBytes, byComponents, samePath, isPrefix};
 ghost use Rattle.laws.specs.Order.{isGreater};

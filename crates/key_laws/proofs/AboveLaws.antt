@@ -3,7 +3,7 @@
 use Prim.Native.Nat.{suc, _+_, _-_, _≤_, _<_, min}
 use mathlib.Core.Path.{_≡_, subst}
 use mathlib.Core.List.{[], _∷_, _++_}
-use mathlib.Core.Bool.{true, false, _&&_}
+use mathlib.Core.Bool.{true, _&&_}
 use native.Mathlib.Omega.{arith}
 use lib.Dec.{leb, ltb}
 use lib.ListN.{length, length-append}

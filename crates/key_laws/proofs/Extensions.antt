@@ -1,11 +1,10 @@
 -- The extensions of a path stand in one run in the order of the subspace-first keys, those that are no older behind it. Assumes nothing.
 use mathlib.Core.Path.{_≡_, sym, ap, _∙_}
-use mathlib.Core.List.{List}
 use mathlib.Core.Bool.{true}
-use Prim.Native.Nat.{ℕ, _<_}
+use Prim.Native.Nat.{_<_}
 use mathlib.Core.Logic.{⊎-elim}
-use Rattle.laws.specs.Order.{Order, less, same, greater, _then_, byNumber}
-use Rattle.laws.proofs.Order.{three, less-same, less-greater, then-less, then-same, then-less-view, number-is-less, greater-less}
+use Rattle.laws.specs.Order.{less, same, _then_, byNumber}
+use Rattle.laws.proofs.Order.{three, then-less, then-same, then-less-view, number-is-less, greater-less}
 use Rattle.data_model.specs.Path.{byBytes, byComponents, isPrefix}
 use Rattle.data_model.specs.Subspace.{bySubspace}
 use Rattle.keys.specs.Encode.{Triple, sptKey}

@@ -1,18 +1,17 @@
 -- The theorems on keys and on the path above, for the values that the calls are handed and hand out. Assumes nothing.
-use Prim.Native.Nat.{ℕ, _≤_, _<_, _^_}
-use mathlib.Core.Path.{_≡_, refl, ap, subst}
-use mathlib.Core.Bool.{true, false}
-use mathlib.Core.Option.{Option, some, none}
+use Prim.Native.Nat.{ℕ, _≤_}
+use mathlib.Core.Path.{_≡_, ap, subst}
+use mathlib.Core.Bool.{true}
+use mathlib.Core.Option.{some}
 use lib.ListN.{length}
-use Rattle.data_model.specs.Path.{Figures, Components, components, legal, isPath, pathOf}
+use Rattle.data_model.specs.Path.{Figures, Components, components, legal, pathOf}
 use Rattle.data_model.specs.Above.{above}
-use Rattle.key_laws.specs.Least.{Beyond, LeastAbove}
+use Rattle.key_laws.specs.Least.{LeastAbove}
 use Rattle.keys.specs.Encode.{triple, sptKey, tspKey}
-use Rattle.keys.specs.Decode.{took, readSpt, readTsp, decoded}
+use Rattle.keys.specs.Decode.{readSpt, readTsp, decoded}
 use Rattle.key_laws.specs.KeyOrder.{Sized}
 use Rattle.data_model.specs.declared.path.Path.{Path}
 use Rattle.data_model.specs.declared.parameters.Subspace.{Subspace}
-use Rattle.keys.specs.declared.decode.Decoded.{Decoded}
 use Rattle.key_laws.specs.Bytes.{Bytes}
 use Rattle.key_laws.proofs.Fits.{legal-fits, legal-of}
 use Rattle.key_laws.proofs.Inverse.{spt-back, tsp-back}

@@ -1,15 +1,14 @@
 -- Laws of the decoders' answers: a component, a path and a key that were read, or refused.
 -- Assumes nothing.
-use Prim.Native.Nat.{ℕ, zero, suc, _+_, _-_, _*_, _≤_, _<_}
+use Prim.Native.Nat.{ℕ, _+_, _-_, _*_, _≤_, _<_}
 use mathlib.Core.Path.{_≡_, refl, sym, ap, subst, _∙_}
 use mathlib.Core.List.{List, [], _∷_, _++_}
 use mathlib.Core.Bool.{Bool, true, false, cond}
 use native.Mathlib.Omega.{arith}
 use lib.Dec.{eqb}
-use lib.ListN.{length, drop, getD, replicate}
+use lib.ListN.{length, getD, replicate}
 use borrow.Author.Tests.{eq-eqb, ne-eqb, eqb-true}
 use Rattle.laws.proofs.Lists.{put-zeros}
-use Rattle.laws.specs.Lists.{put}
 use Rattle.data_model.specs.Path.{Figures, field, Component, Components, joined, endsFrom, valueOf, pathOf}
 use Rattle.keys.specs.Encode.{Triple}
 use Rattle.keys.specs.Decode.{Taken, refused, took, bind, tokenOf, endsPath, readComponent, readPath, partOf, Filled, nextComponent, componentRead, pathRead, numberFrom, number, whole, decoded}
@@ -19,7 +18,6 @@ use Rattle.keys.specs.declared.decode.Part.the-variants as part
 use Rattle.keys.specs.declared.decode.Next.the-variants as next
 use Rattle.keys.specs.declared.decode.PathRead.{PathRead}
 use Rattle.keys.specs.declared.decode.Decoded.{Decoded}
-use Rattle.data_model.proofs.Values.{ends-length}
 use Rattle.keys.proofs.Walking.{PathFit, path-fit, path-empty}
 
 -- The next component: the path's end, a component, or neither.

@@ -15,7 +15,6 @@ use Rattle.keys.specs.declared.decode.Token.{Token}
 use Rattle.keys.specs.declared.decode.Token.the-variants as token
 use Rattle.keys.specs.declared.decode.Part.{Part}
 use Rattle.keys.specs.declared.decode.Part.the-variants as part
-use Rattle.keys.specs.declared.decode.Next.{Next}
 use Rattle.keys.specs.declared.decode.Next.the-variants as next
 use Rattle.keys.specs.declared.decode.ComponentRead.{ComponentRead}
 use Rattle.keys.specs.declared.decode.PathRead.{PathRead}

@@ -1,14 +1,14 @@
 -- Laws of `put`, and of a buffer that is written from the front in pieces. Assumes nothing.
-use Prim.Native.Nat.{ℕ, zero, suc, _+_, _-_, _*_, _≤_, _<_}
+use Prim.Native.Nat.{ℕ, zero, suc, _+_, _-_, _≤_, _<_}
 use mathlib.Core.Path.{_≡_, refl, sym, ap, subst, _∙_}
 use mathlib.Core.List.{List, [], _∷_, _++_, append-assoc, append-nil}
 use native.Mathlib.Omega.{arith}
 use native.Mathlib.Nat.{zero-add}
 use native.Mathlib.Numerals.{add-one}
-use lib.ListN.{length, getD, set, replicate, drop-of-length-le, take, drop, length-append, length-take, length-drop, take-append-drop}
-use lib.Seq.{take-all, take-suc, drop-cons, set-append-seam, sets, sets-eq, take-at, drop-at, length-take-le, drop-drop, take-append-add, drop-append-add}
+use lib.ListN.{length, getD, set, replicate, drop-of-length-le, take, drop, length-append, length-drop, take-append-drop}
+use lib.Seq.{take-all, take-suc, drop-cons, set-append-seam, sets, sets-eq, take-at, drop-at, length-take-le, drop-drop}
 use borrow.Rule.Slice.PartMut.{putMid, midOf}
-use Rattle.laws.specs.Lists.{put, piece}
+use Rattle.laws.specs.Lists.{put}
 
 -- Stores one after the other from the front on.
 pub put-sets : (vs l : List ℕ) → length vs ≤ length l → sets l 0 vs ≡ put vs l

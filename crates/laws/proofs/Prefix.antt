@@ -4,9 +4,9 @@ use mathlib.Core.Bool.{Bool, true, false, _&&_}
 use mathlib.Core.List.{List, [], _∷_, _++_}
 use Prim.Native.Nat.{ℕ, suc}
 use borrow.Author.Tests.{eqb-true, eq-eqb}
-use Rattle.laws.specs.Order.{Order, less, same, greater, _then_, flip, isSame, byNumber, byElements, Linear}
+use Rattle.laws.specs.Order.{Order, less, _then_, isSame, byElements, Linear}
 use Rattle.laws.specs.Prefix.{Equality, sameNumber, sameList, prefixOf}
-use Rattle.laws.proofs.Truth.{split, clash, refute, and-true, alike}
+use Rattle.laws.proofs.Truth.{clash, and-true, alike}
 use native.Mathlib.Omega.{arith}
 use lib.Dec.{leb}
 use lib.ListN.{length, take}

@@ -1,7 +1,7 @@
 -- Laws of membership, filtering, insertion and strict ascent, over any test. Assumes nothing.
-use mathlib.Core.Path.{_≡_, refl, sym, ap₂, subst}
+use mathlib.Core.Path.{_≡_, refl, sym, ap₂}
 use mathlib.Core.Logic.{_⊎_, inl, inr, ⊎-elim, _↔_}
-use mathlib.Core.Bool.{Bool, true, false, cond, _&&_, _||_}
+use mathlib.Core.Bool.{Bool, true, false, _&&_}
 use mathlib.Core.List.{List, [], _∷_, List·Memᴰ·head as here, List·Memᴰ·tail as there, List·Memᴰ·not-nil as none-in, List·Memᴰ·cases-cons as uncons}
 use Rattle.laws.specs.Sorted.{_∈_, any, all, keep, insert, ascending, Ascends}
 use Rattle.laws.proofs.Truth.{split, clash, refute, and-true}

@@ -1,6 +1,6 @@
 -- Buffers after a move, a clearing and a writing inside them; zeros.
 use mathlib.Core.List.{List, [], _∷_, _++_}
-use mathlib.Core.Bool.{Bool, true, false, _&&_}
+use mathlib.Core.Bool.{Bool, true, _&&_}
 use Prim.Native.Nat.{ℕ, _+_, _-_}
 use lib.ListN.{length, take, drop, replicate}
 use lib.Dec.{eqb}

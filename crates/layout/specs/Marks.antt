@@ -1,6 +1,6 @@
 -- A mark for each element of a list, 1 or another number: what the marks leave, which come first, how many there are.
 use mathlib.Core.List.{List, [], _∷_}
-use mathlib.Core.Bool.{Bool, true, false, cond}
+use mathlib.Core.Bool.{Bool, cond}
 use Prim.Native.Nat.{ℕ, suc}
 use lib.Dec.{eqb}
 

@@ -21,7 +21,7 @@ use Rattle.tree.specs.declared.stored.KeyOrder.{KeyOrder}
 use Rattle.tree.specs.declared.stored.KeyOrder.the-variants.{Spt, Tsp}
 use Rattle.tree.proofs.FormedLaws.{well-laid}
 use Rattle.tree.proofs.AgreeLaws.{within-make, trees-agree}
-use Rattle.store.specs.Store.{Store, limitMost, treeRoom, dirRoom, treeOf, dirOf, held, wellFormedTree, sameEntries, wellFormedTrees, wellFormedStore}
+use Rattle.store.specs.Store.{Store, limitMost, treeRoom, dirRoom, treeOf, dirOf, held, wellFormedTree, sameEntries, wellFormedTrees, wellFormedStore, recordMost}
 use Rattle.store.proofs.Lifted.{Rooms, rooms}
 use Rattle.store.specs.Refusal.{unless, _orElse_, limitOk, roomy, storeRefusal}
 
@@ -33,10 +33,10 @@ pub fails : {t b : Bool} → t ≡ b → not t ≡ true → b ≡ false
 fails {t} q n = sym q ∙ not-true t n
 
 -- A multiple is within a number exactly if the factor is within the quotient.
-pub tree-quotient : (n m : ℕ) → leb n (m / 410) ≡ leb (treeRoom field n) m
-tree-quotient n m = alike (leb n (m / 410)) (leb (410 * n) m)
-    (λ e. let h = leb-true n (m / 410) e in le-leb (410 * n) m (omega arith))
-    (λ e. let h = leb-true (410 * n) m e in le-leb n (m / 410) (omega arith))
+pub tree-quotient : (n m : ℕ) → leb n (m / recordMost field) ≡ leb (treeRoom field n) m
+tree-quotient n m = alike (leb n (m / recordMost field)) (leb (treeRoom field n) m)
+    (λ e. let h = leb-true n (m / recordMost field) e in le-leb (treeRoom field n) m (omega arith))
+    (λ e. let h = leb-true (treeRoom field n) m e in le-leb n (m / recordMost field) (omega arith))
 
 pub dir-quotient : (n m : ℕ) → leb n (m / 2) ≡ leb (dirRoom n) m
 dir-quotient n m = alike (leb n (m / 2)) (leb (2 * n) m)

@@ -1,7 +1,7 @@
 -- What an entry that may be filed brings with it for each tree, what the store is when it is filed in both, and what the public call
 -- leaves. Assumes nothing.
 use mathlib.Core.Path.{_≡_, refl, sym, ap, _∙_}
-use mathlib.Core.List.{List, _++_, map}
+use mathlib.Core.List.{List, _++_}
 use mathlib.Core.Bool.{Bool, true, false, _&&_}
 use Prim.Native.Nat.{ℕ, _+_, _*_, _≤_, _<_}
 use native.Mathlib.Omega.{arith}
@@ -13,20 +13,19 @@ use Rattle.laws.specs.Lists.{put}
 use Rattle.laws.specs.Sorted.{any, keep}
 use Rattle.laws.proofs.Truth.{split, clash, refute}
 use Rattle.laws.proofs.Sorted.{any-view, any-make}
-use Rattle.layout.specs.Layout.{treeBytes, dirNumbers}
 use Rattle.layout.specs.Marks.{marksOf, markedPairs}
 use Rattle.data_model.specs.Path.{field, legal}
 use Rattle.data_model.specs.Entry.{Entry, entryOf}
 use Rattle.data_model.specs.declared.entry.Entry.{Entry as EntryValue}
 use Rattle.key_laws.specs.Bytes.{Bytes}
 use Rattle.key_laws.proofs.Fits.{bytes-take}
-use Rattle.tree.specs.Stored.{Stored, recordOf, storedOf}
+use Rattle.tree.specs.Stored.{Stored, storedOf}
 use Rattle.tree.specs.Matching.{outdates, removes}
 use Rattle.tree.specs.Tree.{Formed}
 use Rattle.tree.specs.declared.stored.KeyOrder.{KeyOrder}
 use Rattle.tree.specs.declared.stored.KeyOrder.the-variants.{Spt, Tsp}
 use Rattle.tree.specs.declared.stored.LengthyAuthorisedEntry.{LengthyAuthorisedEntry}
-use Rattle.store.specs.Store.{Store, storeOf, limitMost, treeOf, dirOf, held, heldBy, treeHolding, dirHolding, holding}
+use Rattle.store.specs.Store.{Store, storeOf, limitMost, treeRoom, dirRoom, treeOf, dirOf, held, heldBy, holding}
 use Rattle.store.specs.Ingest.{stays, filing, filedIn, filed, Decision, refuse, obsolete, take-it, decidedOf, decided, ingestRefusal, judged, MayFile, storeFiled, ingestOutcome, prunedPairs, carried, ingested}
 use Rattle.store.specs.Forget.{without}
 use Rattle.store.specs.Change.{inTree, Changed, FilesIn}
@@ -34,14 +33,15 @@ use Rattle.store.specs.declared.ingest.Ingested.{Ingested}
 use Rattle.store.specs.declared.ingest.IngestVerdict.the-variants as verdict
 use Rattle.store.proofs.Meaning.{SoundHeld, sound-without, sound-length}
 use Rattle.store.proofs.WellStore.{held-fit}
+use Rattle.store.proofs.HoldingLaws.{tree-holds, dir-holds}
 use Rattle.store.proofs.IngestLaws.{Ready, ready, ready-formed, first-absent, first-there, sptIn, sptDirIn, inSpt}
 
 -- The time-first tree and its directory in their room.
 abbrev pub tspIn : Store → List ℕ
-tspIn s = take (410 * s .state .limit) (s .tsp)
+tspIn s = take (treeRoom field (s .state .limit)) (s .tsp)
 
 abbrev pub tspDirIn : Store → List ℕ
-tspDirIn s = take (2 * s .state .limit) (s .tspDir)
+tspDirIn s = take (dirRoom (s .state .limit)) (s .tspDir)
 
 -- What is filed, as a value.
 abbrev pub filedValue : EntryValue → (token : List ℕ) → LengthyAuthorisedEntry
@@ -52,15 +52,15 @@ module _ (s : Store) (prune : List ℕ) (e : EntryValue) (m : MayFile field s pr
   pub may-ready : Ready s prune e
   may-ready = ready s prune e (m .tested)
 
-  tree-room : (o : KeyOrder) → length (treeOf field o s) ≡ 410 * s .state .limit
+  tree-room : (o : KeyOrder) → length (treeOf field o s) ≡ treeRoom field (s .state .limit)
   unfolding treeOf
-  tree-room Spt = length-take-le (410 * s .state .limit) (s .spt) (may-ready .passes .room .spt)
-  tree-room Tsp = length-take-le (410 * s .state .limit) (s .tsp) (may-ready .passes .room .tsp)
+  tree-room Spt = length-take-le (treeRoom field (s .state .limit)) (s .spt) (may-ready .passes .room .spt)
+  tree-room Tsp = length-take-le (treeRoom field (s .state .limit)) (s .tsp) (may-ready .passes .room .tsp)
 
-  dir-room : (o : KeyOrder) → length (dirOf o s) ≡ 2 * s .state .limit
+  dir-room : (o : KeyOrder) → length (dirOf o s) ≡ dirRoom (s .state .limit)
   unfolding dirOf
-  dir-room Spt = length-take-le (2 * s .state .limit) (s .sptDir) (may-ready .passes .room .sptDir)
-  dir-room Tsp = length-take-le (2 * s .state .limit) (s .tspDir) (may-ready .passes .room .tspDir)
+  dir-room Spt = length-take-le (dirRoom (s .state .limit)) (s .sptDir) (may-ready .passes .room .sptDir)
+  dir-room Tsp = length-take-le (dirRoom (s .state .limit)) (s .tspDir) (may-ready .passes .room .tspDir)
 
   -- What `write_pruned` asks.
   pub may-prune : (Formed Spt (s .state .count) (sptDirIn s) (sptIn s)) × (s .state .count ≤ limitMost) × (legal field (e .path) ≡ true) × (2 * s .state .count ≤ length prune)
@@ -75,8 +75,8 @@ module _ (s : Store) (prune : List ℕ) (e : EntryValue) (m : MayFile field s pr
   module _ (spt-bytes : Bytes (s .spt)) (tsp-bytes : Bytes (s .tsp)) where
     room-bytes : (o : KeyOrder) → Bytes (treeOf field o s)
     unfolding treeOf
-    room-bytes Spt = bytes-take (410 * s .state .limit) (s .spt) spt-bytes
-    room-bytes Tsp = bytes-take (410 * s .state .limit) (s .tsp) tsp-bytes
+    room-bytes Spt = bytes-take (treeRoom field (s .state .limit)) (s .spt) spt-bytes
+    room-bytes Tsp = bytes-take (treeRoom field (s .state .limit)) (s .tsp) tsp-bytes
 
     sound : SoundHeld (s .state .«namespace_id») (heldBy field s)
     sound = held-fit field s (may-ready .passes .well) room-bytes .sound
@@ -127,30 +127,18 @@ module _ (s : Store) (prune : List ℕ) (e : EntryValue) (m : MayFile field s pr
 
   -- What is left: the front parts rewritten, the rest kept.
   module _ (token : List ℕ) where
-    after-tree : (o : KeyOrder) (l : List Stored) (old last : List ℕ) → 410 * s .state .limit ≤ length old
-        → last ≡ treeBytes (length (take (410 * s .state .limit) old)) (map (recordOf o) l) → last ++ drop (410 * s .state .limit) old ≡ treeHolding field o (s .state .limit) l old
-    unfolding treeHolding
-    after-tree o l old last h q =
-        ap (_++ drop (410 * s .state .limit) old) (q ∙ ap (λ (n : ℕ). treeBytes n (map (recordOf o) l)) (length-take-le (410 * s .state .limit) old h))
-
-    after-dir : (o : KeyOrder) (l : List Stored) (old last : List ℕ) → 2 * s .state .limit ≤ length old
-        → last ≡ dirNumbers (length (take (2 * s .state .limit) old)) (map (recordOf o) l) → last ++ drop (2 * s .state .limit) old ≡ dirHolding o (s .state .limit) l old
-    unfolding dirHolding
-    after-dir o l old last h q =
-        ap (_++ drop (2 * s .state .limit) old) (q ∙ ap (λ (n : ℕ). dirNumbers n (map (recordOf o) l)) (length-take-le (2 * s .state .limit) old h))
-
     pub filed-both : (spt sptDir tsp tspDir : List ℕ) (i j : ℕ)
         → Changed Spt (filedIn Spt (storedOf (filedValue e token)) (inTree Spt (s .state .«namespace_id») (s .state .count) (sptDirIn s) (sptIn s))) (sptDirIn s) (sptIn s) sptDir spt i
         → Changed Tsp (filedIn Tsp (storedOf (filedValue e token)) (inTree Tsp (s .state .«namespace_id») (s .state .count) (tspDirIn s) (tspIn s))) (tspDirIn s) (tspIn s) tspDir tsp j
-        → storeOf (storeFiled field s (entryOf e) token .state) (spt ++ drop (410 * s .state .limit) (s .spt)) (sptDir ++ drop (2 * s .state .limit) (s .sptDir))
-        (tsp ++ drop (410 * s .state .limit) (s .tsp)) (tspDir ++ drop (2 * s .state .limit) (s .tspDir)) ≡ storeFiled field s (entryOf e) token
+        → storeOf (storeFiled field s (entryOf e) token .state) (spt ++ drop (treeRoom field (s .state .limit)) (s .spt)) (sptDir ++ drop (dirRoom (s .state .limit)) (s .sptDir))
+        (tsp ++ drop (treeRoom field (s .state .limit)) (s .tsp)) (tspDir ++ drop (dirRoom (s .state .limit)) (s .tspDir)) ≡ storeFiled field s (entryOf e) token
     unfolding holding filed heldBy held treeOf dirOf storedOf
     filed-both spt sptDir tsp tspDir i j p q =
         let r = may-ready .passes .room in
-        let a = after-tree Spt (filedIn Spt (filing (entryOf e) token) (held field Spt s)) (s .spt) spt (r .spt) (p .bytes) in
-        let b = after-dir Spt (filedIn Spt (filing (entryOf e) token) (held field Spt s)) (s .sptDir) sptDir (r .sptDir) (p .numbers) in
-        let c = after-tree Tsp (filedIn Tsp (filing (entryOf e) token) (held field Tsp s)) (s .tsp) tsp (r .tsp) (q .bytes) in
-        let d = after-dir Tsp (filedIn Tsp (filing (entryOf e) token) (held field Tsp s)) (s .tspDir) tspDir (r .tspDir) (q .numbers) in
+        let a = tree-holds Spt (s .state .limit) (filedIn Spt (filing (entryOf e) token) (held field Spt s)) (s .spt) spt (r .spt) (p .bytes) in
+        let b = dir-holds Spt (s .state .limit) (filedIn Spt (filing (entryOf e) token) (held field Spt s)) (s .sptDir) sptDir (r .sptDir) (p .numbers) in
+        let c = tree-holds Tsp (s .state .limit) (filedIn Tsp (filing (entryOf e) token) (held field Tsp s)) (s .tsp) tsp (r .tsp) (q .bytes) in
+        let d = dir-holds Tsp (s .state .limit) (filedIn Tsp (filing (entryOf e) token) (held field Tsp s)) (s .tspDir) tspDir (r .tspDir) (q .numbers) in
         λ k. storeOf (storeFiled field s (entryOf e) token .state) (a k) (b k) (c k) (d k)
 
     pub pruned-done : (out : List ℕ) → out ≡ put (markedPairs (marksOf (removes (entryOf e)) (inSpt s)) (sptDirIn s)) prune → out ≡ put (prunedPairs field s (entryOf e)) prune

@@ -4,7 +4,7 @@ use mathlib.Core.Path.{_≡_, refl, sym, ap, _∙_}
 use mathlib.Core.Option.{some, none}
 use mathlib.Core.List.{List, [], _∷_}
 use mathlib.Core.Bool.{Bool, true, false, not, _&&_}
-use Prim.Native.Nat.{ℕ, suc, _+_, _-_, _*_, _≤_, _<_}
+use Prim.Native.Nat.{ℕ, suc, _+_, _-_, _≤_, _<_}
 use native.Mathlib.Omega.{arith}
 use lib.ListN.{length, take, drop, getD}
 use lib.Seq.{drop-cons}
@@ -26,7 +26,7 @@ use Rattle.tree.specs.Matching.{outdates, removes}
 use Rattle.tree.specs.declared.stored.KeyOrder.the-variants.{Spt}
 use Rattle.tree.proofs.FormedLaws.{formed-bounds}
 use Rattle.tree.proofs.FormedContents.{formed-many, formed-next}
-use Rattle.store.specs.Store.{Store, dirRoom, treeOf, dirOf, held, heldBy, holding}
+use Rattle.store.specs.Store.{Store, dirRoom, treeOf, dirOf, held, heldBy, holding, treeRoom}
 use Rattle.store.specs.Refusal.{unless, _orElse_, storeRefusal}
 use Rattle.store.specs.Ingest.{Decision, refuse, obsolete, take-it, firstThat, decidedOf, decided, stays, outdatedAt, removedFrom, placeDecided, ingestRefusal, judged, plainAnswer, obsoleteAnswer, stateWith, filed, filedIn, filing, carried, ingested}
 use Rattle.store.specs.declared.ingest.Ingested.{Ingested}
@@ -165,10 +165,10 @@ stands-at {count} {dir} {tree} v ns k h x =
 
 -- The subspace-first tree and its directory in their room.
 abbrev pub sptIn : Store → List ℕ
-sptIn s = take (410 * s .state .limit) (s .spt)
+sptIn s = take (treeRoom field (s .state .limit)) (s .spt)
 
 abbrev pub sptDirIn : Store → List ℕ
-sptDirIn s = take (2 * s .state .limit) (s .sptDir)
+sptDirIn s = take (dirRoom (s .state .limit)) (s .sptDir)
 
 abbrev pub inSpt : Store → List Stored
 inSpt s = contents Spt field (s .state .«namespace_id») (records (s .state .count) (sptDirIn s) (sptIn s))

@@ -1,6 +1,6 @@
 -- What the two trees of a store hold, as lists: sound if both ascend by their keys, have the same members, all of one namespace, and none
 -- prunes another. Filing and forgetting keep that, from any sound lists. Assumes nothing.
-use Prim.Native.Nat.{ℕ, _≤_}
+use Prim.Native.Nat.{ℕ}
 use mathlib.Core.Path.{_≡_, refl, sym, ap, ap₂, _∙_}
 use mathlib.Core.Logic.{_⊎_, inl, inr, ⊎-elim, _↔_}
 use mathlib.Core.Bool.{Bool, true, false, not, _&&_}

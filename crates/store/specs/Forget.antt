@@ -1,7 +1,7 @@
 -- Forgetting: of the entry at a subspace and path, and of what an area includes and a protected area, if any, does not.
 use Prim.Native.Nat.{ℕ}
 use mathlib.Core.List.{List}
-use mathlib.Core.Bool.{Bool, true, false, not, cond, _&&_}
+use mathlib.Core.Bool.{Bool, true, not, cond, _&&_}
 use lib.ListN.{length}
 use lib.Dec.{eqb}
 use Rattle.laws.specs.Prefix.{sameNumber, sameList}

@@ -1,7 +1,7 @@
 -- Opening: refused with 1 or 2, or a store that holds nothing.
 use Prim.Native.Nat.{ℕ}
 use mathlib.Core.List.{List, []}
-use mathlib.Core.Bool.{Bool, cond}
+use mathlib.Core.Bool.{cond}
 use lib.ListN.{replicate}
 use lib.Dec.{eqb}
 use Rattle.data_model.specs.Path.{Figures}

@@ -1,7 +1,6 @@
 -- The refusals of the store's calls by 01's numbers, and the tests that every call on a store begins with.
-use Prim.Native.Nat.{ℕ, _*_}
-use mathlib.Core.List.{List}
-use mathlib.Core.Bool.{Bool, true, false, cond, _&&_}
+use Prim.Native.Nat.{ℕ}
+use mathlib.Core.Bool.{Bool, cond, _&&_}
 use lib.ListN.{length}
 use lib.Dec.{leb, eqb}
 use Rattle.data_model.specs.Path.{Figures}

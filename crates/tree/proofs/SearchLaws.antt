@@ -2,26 +2,26 @@
 use mathlib.Core.Path.{_≡_, refl, sym, ap, subst, _∙_}
 use mathlib.Core.Logic.{⊎-elim}
 use mathlib.Core.List.{List, [], _∷_, List·Memᴰ·head as here, List·Memᴰ·tail as there, List·Memᴰ·not-nil as none-in, List·Memᴰ·cases-cons as uncons}
-use mathlib.Core.Bool.{Bool, true, false, cond, _&&_, _||_}
+use mathlib.Core.Bool.{Bool, true, false, cond, _&&_}
 use Prim.Native.Nat.{ℕ, zero, suc, _+_, _≤_, _<_, suc-le-suc}
 use native.Mathlib.Omega.{arith}
 use native.Mathlib.Nat.{not-suc-le-zero, le-of-suc-le-suc, eq-or-lt-of-le}
 use lib.ListN.{length, getD}
 use Rattle.laws.specs.Order.{isLess, isSame, below}
 use Rattle.laws.specs.Prefix.{sameNumber, sameList}
-use Rattle.laws.specs.Sorted.{_∈_, any, keep, insert, Ascends}
+use Rattle.laws.specs.Sorted.{_∈_, keep, Ascends}
 use Rattle.laws.proofs.Truth.{split, clash, refute, and-true, alike}
-use Rattle.laws.proofs.Order.{Tri, under, equal, over, tri, three, is-less, is-same, greater-less, less-is-greater}
+use Rattle.laws.proofs.Order.{Tri, under, equal, over, tri, is-less, is-same}
 use Rattle.laws.proofs.Prefix.{list-equality, number-equality}
 use Rattle.laws.proofs.Sorted.{any-view, any-make}
-use Rattle.layout.specs.Layout.{records, recordAt, inserted}
+use Rattle.layout.specs.Layout.{records, recordAt}
 use Rattle.layout.proofs.LaidLaws.{records-get}
 use Rattle.data_model.specs.Path.{byBytes}
 use Rattle.data_model.proofs.Orders.{bytes-linear}
 use Rattle.tree.specs.Stored.{keyOf, valuePart, keyBelow}
 use Rattle.tree.specs.Tree.{Formed, keysBelow, hasKey, hasRecord}
 use Rattle.tree.specs.declared.stored.KeyOrder.{KeyOrder}
-use Rattle.tree.proofs.FormedLaws.{key-trans, formed-laid, formed-ascends}
+use Rattle.tree.proofs.FormedLaws.{formed-laid, formed-ascends}
 
 -- The key of a record is below a key.
 abbrev pub lessThan : List ℕ → List ℕ → Bool
@@ -223,48 +223,6 @@ module _ (key : List ℕ) where
                 let b = and-true (sameList sameNumber (keyOf (w .0)) key) (sameList sameNumber (valuePart (w .0)) value) (w .2) in
                 ap (λ (r : List ℕ). sameList sameNumber (valuePart r) value) (key-place (w .1) (equal-lists _ _ (b .0)) .1) ∙ b .1),
           )
-
--- The place of a new record is where an insertion by keys puts it.
-not-above : (r x : List ℕ) → keyBelow r x ≡ true → lessThan (keyOf r) x ≡ false
-unfolding below isLess
-not-above r x e = ap isLess (less-is-greater byBytes bytes-linear (keyOf r) (keyOf x) (is-less _ e))
-
-absent-tail : (key a : List ℕ) (rs : List (List ℕ)) → hasKey key (a ∷ rs) ≡ false → (isSame (byBytes (keyOf a) key) ≡ false) × (hasKey key rs ≡ false)
-unfolding hasKey any
-absent-tail key a rs f = split (isSame (byBytes (keyOf a) key))
-    (λ t. clash (ap (λ (b : Bool). b || any (λ (r : List ℕ). isSame (byBytes (keyOf r) key)) rs) t) f)
-    (λ t. (t, sym (ap (λ (b : Bool). b || any (λ (r : List ℕ). isSame (byBytes (keyOf r) key)) rs) t) ∙ f))
-
-absent-less : (r a : List ℕ) → isSame (byBytes (keyOf a) (keyOf r)) ≡ false → keyBelow r a ≡ false → lessThan (keyOf r) a ≡ true
-unfolding below isLess isSame
-absent-less r a f g = three (byBytes (keyOf a) (keyOf r))
-    (λ h. ap isLess h)
-    (λ h. clash (ap isSame h) f)
-    (λ h. clash (ap isLess (greater-less byBytes bytes-linear (keyOf a) (keyOf r) h)) g)
-
-count-none : (key : List ℕ) (recs : List (List ℕ)) → ((x : List ℕ) → x ∈ recs → lessThan key x ≡ false) → keysBelow key recs ≡ 0
-unfolding keysBelow keep
-count-none key [] h = refl
-count-none key (r ∷ rs) h =
-    ap (λ (x : Bool). length (cond x (r ∷ keep (λ (s : List ℕ). lessThan key s) rs) (keep (λ (s : List ℕ). lessThan key s) rs))) (h r (here refl))
-    ∙ count-none key rs λ x m. h x (there m)
-
-pub insert-place : (r : List ℕ) (recs : List (List ℕ)) → Ascends keyBelow recs → hasKey (keyOf r) recs ≡ false
-    → inserted (keysBelow (keyOf r) recs) r recs ≡ insert keyBelow r recs
-unfolding Ascends insert keysBelow keep below
-insert-place r [] s f = refl
-insert-place r (a ∷ rs) s f = split (keyBelow r a)
-    (λ t.
-    ap (λ (n : ℕ). inserted n r (a ∷ rs)) (count-none (keyOf r) (a ∷ rs) λ x m. ⊎-elim
-    (λ (e : x ≡ a). not-above r x (ap (λ (y : List ℕ). keyBelow r y) e ∙ t))
-    (λ n. not-above r x (key-trans r a x t (s .0 x n)))
-    (uncons m))
-    ∙ sym (ap (λ (b : Bool). cond b (r ∷ a ∷ rs) (a ∷ insert keyBelow r rs)) t))
-    (λ t.
-    let v = absent-tail (keyOf r) a rs f in
-    ap (λ (b : Bool). inserted (length (cond b (a ∷ keep (λ (s : List ℕ). lessThan (keyOf r) s) rs) (keep (λ (s : List ℕ). lessThan (keyOf r) s) rs))) r (a ∷ rs)) (absent-less r a (v .0) t)
-    ∙ ap (a ∷_) (insert-place r rs (s .1) (v .1))
-    ∙ sym (ap (λ (b : Bool). cond b (r ∷ a ∷ rs) (a ∷ insert keyBelow r rs)) t))
 
 -- Over a tree that was tested, each step with what the calls answered.
 module _ {o : KeyOrder} {count : ℕ} {dir tree : List ℕ} (v : Formed o count dir tree) (key : List ℕ) where

@@ -7,7 +7,7 @@ use mathlib.Core.Bool.{true, false, _&&_}
 use Prim.Native.Nat.{ℕ, _+_, _-_, _*_, _≤_, _<_, _^_}
 use native.Mathlib.Omega.{arith}
 use lib.ListN.{length, replicate, length-append, length-replicate}
-use Rattle.laws.specs.Order.{same, isLess, isSame, below}
+use Rattle.laws.specs.Order.{isLess, isSame, below}
 use Rattle.laws.specs.Sorted.{_∈_, Ascends, insert}
 use Rattle.laws.proofs.Truth.{split, clash}
 use Rattle.laws.proofs.Order.{three, greater-less}

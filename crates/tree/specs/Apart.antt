@@ -1,6 +1,6 @@
 -- No subspace and path stands twice, and no entry prunes another: pairwise, and as the walk tests it.
 use mathlib.Core.List.{List, [], _∷_}
-use mathlib.Core.Bool.{Bool, true, false, not, cond, _&&_}
+use mathlib.Core.Bool.{Bool, true, not, cond, _&&_}
 use Rattle.laws.specs.Sorted.{all}
 use Rattle.data_model.specs.Path.{samePath}
 use Rattle.data_model.specs.Subspace.{sameSubspace}

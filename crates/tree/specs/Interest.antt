@@ -1,7 +1,7 @@
 -- From which time on an area of interest takes entries: matches are met from the last in time-first order, up to one that breaks a limit.
 use Prim.Native.Nat.{ℕ, _+_, _-_, _^_}
 use mathlib.Core.List.{List, [], _∷_}
-use mathlib.Core.Bool.{Bool, true, false, not, cond, _&&_, _||_}
+use mathlib.Core.Bool.{Bool, not, cond, _&&_, _||_}
 use lib.Dec.{ltb}
 use Rattle.laws.specs.Prefix.{sameNumber}
 use Rattle.tree.specs.Stored.{Stored}

@@ -1,8 +1,8 @@
 -- What is asked of a stored entry: is it newer than an entry below it, is it removed by one, does it stand at a place, in an area or a
 -- range, and do the ignore flags let it through.
-use mathlib.Core.Bool.{Bool, true, false, not, cond, _&&_}
+use mathlib.Core.Bool.{Bool, false, not, cond, _&&_}
 use Rattle.laws.specs.Prefix.{sameNumber}
-use Rattle.data_model.specs.Path.{Figures, Components, legal, samePath}
+use Rattle.data_model.specs.Path.{Components, samePath}
 use Rattle.data_model.specs.Subspace.{sameSubspace}
 use Rattle.data_model.specs.Entry.{Entry, newer, covers, prunes}
 use Rattle.data_model.specs.Area.{areaIncludes}

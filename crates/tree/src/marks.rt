@@ -4,7 +4,7 @@ use layout::directory::put_pair;
 use layout::directory::size;
 ghost use mathlib.Core.Path.{_≡_};
 ghost use Prim.Native.Nat.{_+_, _*_, _≤_};
-ghost use lib.ListN.{length, take, drop};
+ghost use lib.ListN.{length, drop};
 ghost use Rattle.laws.specs.Lists.{put};
 ghost use Rattle.layout.specs.Marks.{firstMark, countMarks, markedPairs};
 

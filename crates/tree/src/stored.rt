@@ -22,7 +22,6 @@ ghost use lib.ListN.{length};
 ghost use Rattle.laws.specs.Lists.{put};
 ghost use Rattle.layout.specs.Layout.{recordAt};
 ghost use Rattle.data_model.specs.Path.{field, legal, components};
-ghost use Rattle.data_model.specs.Entry.{entryOf};
 ghost use Rattle.keys.specs.Encode.{triple, keyMost};
 ghost use Rattle.keys.specs.Decode.{decoded};
 ghost use Rattle.tree.specs.Value.{valueLength, readValue};

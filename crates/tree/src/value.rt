@@ -5,7 +5,7 @@ use layout::bytes::write;
 ghost use mathlib.Core.Path.{_≡_};
 ghost use mathlib.Core.List.{_++_};
 ghost use Prim.Native.Nat.{_-_, _≤_};
-ghost use lib.ListN.{length, take};
+ghost use lib.ListN.{length};
 ghost use Rattle.laws.specs.Lists.{put};
 ghost use Rattle.keys.specs.Encode.{be};
 ghost use Rattle.tree.specs.Value.{tokenAt, valueLength, valueBytes, readValue, isValue};

@@ -1,9 +1,8 @@
 -- `canonical` meets its contract. Assumes nothing.
-use Prim.Native.Nat.{ℕ, _+_, _-_, _≤_, _<_}
-use mathlib.Core.Path.{_≡_, refl, sym, ap, subst, _∙_}
+use Prim.Native.Nat.{ℕ, _-_}
+use mathlib.Core.Path.{_≡_, ap, _∙_}
 use native.Mathlib.Omega.{arith}
-use lib.ListN.{length, take, drop, getD, length-take}
-use lib.Seq.{length-take-le}
+use lib.ListN.{length, take}
 use Rattle.data_model.specs.Path.{field, valueOf}
 use Rattle.data_model.proofs.Values.{legal-count, legal-these, last-within}
 use Rattle.data_model.proofs.Raise.{canonical-value}

@@ -1,11 +1,11 @@
 -- `least_above` meets its contract: no component from i on can be replaced. Assumes nothing.
 use Prim.Native.Nat.{ℕ, _+_, _-_, _≤_}
-use mathlib.Core.Path.{_≡_, refl, sym, ap, _∙_}
-use mathlib.Core.Option.{Option, none}
+use mathlib.Core.Path.{_≡_, sym, ap, _∙_}
+use mathlib.Core.Option.{none}
 use native.Mathlib.Omega.{arith}
 use lib.ListN.{length}
 use Rattle.data_model.specs.Path.{field, components}
-use Rattle.data_model.specs.Above.{above, aboveFound}
+use Rattle.data_model.specs.Above.{aboveFound}
 use Rattle.data_model.proofs.Values.{legal-count, components-length}
 use Rattle.data_model.proofs.Raise.{aboveFrom, above-begins, above-here, above-next, above-ends, found-some, found-none}
 use borrow.Author.Needs.{needs}

@@ -1,5 +1,4 @@
 -- `none_above` meets its contract. Assumes nothing.
-use mathlib.Core.Path.{_≡_, refl, sym, ap, _∙_}
 use Rattle.data_model.specs.Above.{aboveFound}
 use borrow.Author.Needs.{needs}
 use Rattle.data_model.proofs.above.none_above.Statement.{statement}

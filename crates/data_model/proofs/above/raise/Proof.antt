@@ -1,8 +1,8 @@
 -- `raise` meets its contract. Assumes nothing.
-use Prim.Native.Nat.{ℕ, _+_, _-_, _≤_, _<_}
-use mathlib.Core.Path.{_≡_, refl, sym, ap, subst, _∙_}
+use Prim.Native.Nat.{_-_}
+use mathlib.Core.Path.{_≡_, sym}
 use native.Mathlib.Omega.{arith}
-use lib.ListN.{length, take, drop, getD, length-take}
+use lib.ListN.{length, take}
 use lib.Seq.{length-take-le}
 use Rattle.data_model.proofs.Raise.{front-more}
 use borrow.Author.Needs.{needs}

@@ -1,19 +1,13 @@
 -- `raised_at` meets its contract: the component grows, or its last byte below ff is raised, or neither. Assumes nothing.
-use Prim.Native.Nat.{ℕ, _+_, _-_, _≤_, _<_, min}
-use mathlib.Core.Path.{_≡_, refl, sym, ap, subst, _∙_}
+use Prim.Native.Nat.{_+_, _-_, _≤_, _<_}
+use mathlib.Core.Path.{_≡_, sym, ap, subst, _∙_}
 use native.Mathlib.Omega.{arith}
-use lib.ListN.{length, take, drop, getD, length-take}
-use lib.Seq.{length-take-le}
-use mathlib.Core.List.{List, [], _∷_, _++_}
+use lib.ListN.{length, getD}
 use mathlib.Core.Bool.{true}
-use borrow.Author.Tests.{ltb-true}
 use Rattle.data_model.specs.declared.path.Path.{Path}
-use mathlib.Core.Option.{Option, some, none}
-use lib.Dec.{ltb}
-use lib.Seq.{getD-take, getD-drop}
 use Rattle.laws.specs.Lists.{piece}
-use Rattle.data_model.specs.Path.{field, Component, valueOf, lastEnd}
-use Rattle.data_model.specs.Above.{raisedBytes, aboveFound, RaisesByte}
+use Rattle.data_model.specs.Path.{field}
+use Rattle.data_model.specs.Above.{aboveFound, RaisesByte}
 use Rattle.data_model.proofs.Values.{legal-count, length-piece}
 use Rattle.data_model.proofs.Raise.{grow-room, piece-at, nth-bounds, grown, lifted, stuck}
 use Rattle.data_model.specs.declared.above.Found.the-variants.{At}

@@ -1,5 +1,5 @@
 -- `is_greater` meets its contract. Assumes nothing.
-use mathlib.Core.Path.{_≡_, sym, ap}
+use mathlib.Core.Path.{sym, ap}
 use Rattle.laws.specs.Order.{isGreater}
 use Rattle.data_model.specs.Refusal.{orderOf}
 use Rattle.data_model.specs.declared.answer.Ordering.{Ordering}

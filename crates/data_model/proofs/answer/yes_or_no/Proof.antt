@@ -1,5 +1,5 @@
 -- `yes_or_no` meets its contract. Assumes nothing.
-use mathlib.Core.Path.{_≡_, sym, ap}
+use mathlib.Core.Path.{sym, ap}
 use mathlib.Core.Bool.{true}
 use Rattle.data_model.specs.Refusal.{answered}
 use Rattle.data_model.proofs.answer.yes_or_no.Statement.{statement}

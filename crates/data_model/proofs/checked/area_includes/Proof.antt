@@ -1,7 +1,6 @@
 -- `area_includes` meets its contract. Assumes nothing.
-use mathlib.Core.Path.{_≡_, refl, sym, ap, _∙_}
+use mathlib.Core.Path.{sym, _∙_}
 use Rattle.laws.proofs.Truth.{not-true, not-false}
-use mathlib.Core.Bool.{Bool, _&&_}
 use Rattle.data_model.specs.Path.{components, isPrefix}
 use Rattle.data_model.specs.Area.{areaIncludes}
 use Rattle.data_model.proofs.RangeLaws.{and-last-false, and-last-true}

@@ -1,8 +1,8 @@
 -- `compare_components` meets its contract: what is left of both compares as the whole does. Assumes nothing.
-use Prim.Native.Nat.{_-_, _≤_}
-use mathlib.Core.Path.{_≡_, refl}
+use Prim.Native.Nat.{_-_}
+use mathlib.Core.Path.{refl}
 use native.Mathlib.Omega.{arith}
-use lib.ListN.{length, drop}
+use lib.ListN.{length}
 use Rattle.data_model.proofs.Answers.{ordered-less, ordered-same, ordered-greater, answers-less, answers-same, answers-greater}
 use Rattle.data_model.proofs.Compare.{Comparing, a-next, b-next, comparing-next, components-greater, components-less, components-same, component-less, component-greater}
 use borrow.Author.Needs.{needs}

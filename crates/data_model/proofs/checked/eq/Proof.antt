@@ -1,5 +1,5 @@
 -- `eq` meets its contract. Assumes nothing.
-use mathlib.Core.Path.{_≡_, ap, _∙_}
+use mathlib.Core.Path.{ap, _∙_}
 use Rattle.laws.specs.Order.{isSame}
 use Rattle.data_model.proofs.Answers.{order-is}
 use Rattle.data_model.proofs.Orders.{same-path}

@@ -1,5 +1,5 @@
 -- `is_newer_than` meets its contract. Assumes nothing.
-use mathlib.Core.Path.{_≡_, refl, sym, ap, _∙_}
+use mathlib.Core.Path.{ap, _∙_}
 use Rattle.laws.specs.Order.{isGreater}
 use Rattle.data_model.proofs.Answers.{order-is}
 use borrow.Author.Needs.{needs}

@@ -5,7 +5,7 @@ use native.Mathlib.Omega.{arith}
 use lib.ListN.{length}
 use lib.Seq.{length-take-le}
 use Rattle.data_model.specs.Path.{field, components}
-use Rattle.data_model.proofs.Values.{legal-count, legal-within, ends-take, legal-these, ends-wider}
+use Rattle.data_model.proofs.Values.{legal-count, legal-within, ends-take}
 use Rattle.laws.specs.Order.{isSame}
 use Rattle.data_model.proofs.Answers.{order-is}
 use Rattle.data_model.proofs.Compare.{prefix-longer, prefix-cut}

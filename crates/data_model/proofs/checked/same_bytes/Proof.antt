@@ -1,5 +1,5 @@
 -- `same_bytes` meets its contract. Assumes nothing.
-use mathlib.Core.Path.{_≡_, refl, sym, ap, _∙_}
+use mathlib.Core.Path.{ap, _∙_}
 use Rattle.laws.specs.Order.{isSame}
 use Rattle.laws.proofs.Order.{number-linear}
 use Rattle.laws.proofs.Prefix.{number-equality, same-elements}

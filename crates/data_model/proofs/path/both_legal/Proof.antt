@@ -1,5 +1,5 @@
 -- `both_legal` meets its contract. Assumes nothing.
-use mathlib.Core.Path.{_≡_, sym, ap, _∙_}
+use mathlib.Core.Path.{sym, ap, _∙_}
 use mathlib.Core.Bool.{Bool, _&&_}
 use Rattle.data_model.specs.Path.{field, legal}
 use borrow.Author.Needs.{needs}

@@ -1,11 +1,9 @@
 -- `legal_ends` meets its contract: what is left of the ends is as legal as the whole. Assumes nothing.
-use Prim.Native.Nat.{ℕ, suc, _≤_, _-_}
-use mathlib.Core.Path.{_≡_, refl, sym, ap, _∙_}
+use Prim.Native.Nat.{_≤_, _-_}
+use mathlib.Core.Path.{_≡_, sym, _∙_}
 use native.Mathlib.Omega.{arith}
-use native.Mathlib.Numerals.{add-one}
 use borrow.Author.Needs.{needs}
-use lib.ListN.{length, drop, getD, drop-of-length-le}
-use lib.Seq.{drop-cons}
+use lib.ListN.{length, drop}
 use Rattle.data_model.specs.Path.{legalEnds}
 use Rattle.data_model.proofs.Values.{ends-low, ends-long, ends-step, ends-done}
 use Rattle.data_model.proofs.path.legal_ends.Statement.{statement}

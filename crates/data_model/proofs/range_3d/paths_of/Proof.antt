@@ -1,5 +1,4 @@
 -- `paths_of` meets its contract. Assumes nothing.
-use mathlib.Core.Path.{_≡_, refl, sym, ap, _∙_}
 use Rattle.data_model.proofs.RangeLaws.{paths-made}
 use borrow.Author.Needs.{needs}
 use Rattle.data_model.proofs.range_3d.paths_of.Statement.{statement}

@@ -1,5 +1,4 @@
 -- `refused_range` meets its contract. Assumes nothing.
-use mathlib.Core.Path.{_≡_, refl, sym, ap, _∙_}
 use borrow.Author.Needs.{needs}
 use Rattle.data_model.proofs.range_3d.refused_range.Statement.{statement}
 use Rattle.data_model.proofs.range_3d.refused_range.Tie as tie

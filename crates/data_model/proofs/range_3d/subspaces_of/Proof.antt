@@ -1,5 +1,5 @@
 -- `subspaces_of` meets its contract. Assumes nothing.
-use mathlib.Core.Path.{_≡_, refl, sym, ap, _∙_}
+use mathlib.Core.Path.{sym, ap}
 use Rattle.data_model.specs.Area.{subspacesOf}
 use borrow.Author.Needs.{needs}
 use Rattle.data_model.proofs.range_3d.subspaces_of.Statement.{statement}

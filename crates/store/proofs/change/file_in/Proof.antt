@@ -11,6 +11,7 @@ use Rattle.data_model.specs.Entry.{entryOf, rankOf}
 use Rattle.key_laws.specs.Bytes.{Bytes}
 use Rattle.tree.specs.Stored.{storedOf, tripleOf}
 use Rattle.store.proofs.ChangeLaws.{Handed, written-least, written-most, front-written, front-key, filing-formed, filing-numbers, filing-many, filing-bytes, filing-place, filing-done}
+use Rattle.tree.specs.Value.{valueLength}
 
 handed : (c : tie.Start) → Handed (storedOf (c .args .a))
 unfolding tripleOf storedOf entryOf rankOf
@@ -20,7 +21,7 @@ known : (c : tie.After-slice-known) → Bytes (c .before .args .tree .now)
 known c i = c .slice-known .given i .fits
 
 -- The record has a key and fits its buffer.
-least : (c : tie.After-encode-record) → 112 ≤ c .encode-record .result
+least : (c : tie.After-encode-record) → valueLength ≤ c .encode-record .result
 least c = let p = c .before .before .before .before .before .before .before .before .before .before .before .before .before .before .before .before .before .before in omega (arith, c .encode-record .ensures .0, written-least (p .args .order) (p .args .a) (handed p))
 
 most : (c : tie.After-encode-record) → c .encode-record .result ≤ length (c .encode-record .last .1 .1 .0)

@@ -32,7 +32,7 @@ slice-reshare-prefix-write-pruned c =
 slice-aggregate-write-pruned : tie.Need-slice-aggregate-write-pruned
 slice-aggregate-write-pruned c =
     let p = c .before .before .before .before .before .before .before in
-    sym (length-take-le (410 * p .args .state .limit) (p .args .spt .now) (known p .passes .room .spt))
+    sym (length-take-le _ (p .args .spt .now) (known p .passes .room .spt))
 
 slice-reshare-prefix-write-pruned-2 : tie.Need-slice-reshare-prefix-write-pruned-2
 slice-reshare-prefix-write-pruned-2 c =
@@ -54,7 +54,7 @@ slice-relend-prefix-file-in c =
 slice-aggregate-file-in : tie.Need-slice-aggregate-file-in
 slice-aggregate-file-in c =
     let p = c .before .before .before .before .before .before .before .before .before .before .before .before .before in
-    sym (length-take-le (410 * p .args .state .limit) (p .args .spt .now) (known p .passes .room .spt))
+    sym (length-take-le _ (p .args .spt .now) (known p .passes .room .spt))
 
 slice-relend-prefix-file-in-2 : tie.Need-slice-relend-prefix-file-in-2
 slice-relend-prefix-file-in-2 c =
@@ -77,7 +77,7 @@ slice-relend-prefix-file-in-3 c =
 slice-aggregate-file-in-3 : tie.Need-slice-aggregate-file-in-3
 slice-aggregate-file-in-3 c =
     let p = c .before .before .before .before .before .before .before .before .before .before .before .before .before .before .before .before .before .before .before .before in
-    sym (length-take-le (410 * p .args .state .limit) (p .args .tsp .now) (known p .passes .room .tsp))
+    sym (length-take-le _ (p .args .tsp .now) (known p .passes .room .tsp))
 
 slice-relend-prefix-file-in-4 : tie.Need-slice-relend-prefix-file-in-4
 slice-relend-prefix-file-in-4 c =

@@ -47,7 +47,7 @@ slice-aggregate-decide : tie.Need-slice-aggregate-decide
 slice-aggregate-decide c =
     let e = c .before .before in
     let r = known e .passes .room .spt in
-    sym (length-take-le (410 * start e .args .state .limit) (start e .args .spt .now) (omega arith))
+    sym (length-take-le _ (start e .args .spt .now) (omega arith))
 
 slice-aggregate-decide-2 : tie.Need-slice-aggregate-decide-2
 slice-aggregate-decide-2 c =
@@ -77,7 +77,7 @@ slice-aggregate-obsolete-answer : tie.Need-slice-aggregate-obsolete-answer
 slice-aggregate-obsolete-answer c =
     let e = c .before .before .before .before .before .before .before .before in
     let r = known e .passes .room .spt in
-    sym (length-take-le (410 * start e .args .state .limit) (start e .args .spt .now) (omega arith))
+    sym (length-take-le _ (start e .args .spt .now) (omega arith))
 
 slice-aggregate-obsolete-answer-2 : tie.Need-slice-aggregate-obsolete-answer-2
 slice-aggregate-obsolete-answer-2 c =

@@ -1,5 +1,5 @@
 -- `encode_record` meets its contract: the key, and the value in the part behind it. Assumes nothing.
-use Prim.Native.Nat.{_≤_}
+use Prim.Native.Nat.{_≤_, _+_}
 use mathlib.Core.Path.{_≡_}
 use native.Mathlib.Omega.{arith}
 use native.Mathlib.Nat.{le-refl}
@@ -10,6 +10,8 @@ use Rattle.tree.proofs.RecordParts.{key-fits, record-wrote}
 use borrow.Author.Needs.{needs}
 use Rattle.tree.proofs.stored.encode_record.Statement.{statement}
 use Rattle.tree.proofs.stored.encode_record.Tie as tie
+use Rattle.keys.specs.Encode.{keyMost}
+use Rattle.tree.specs.Value.{valueLength}
 
 -- The arrays' lengths.
 digest-long : (c : tie.Start) → length (c .args .a .entry .«payload_digest») ≡ 32
@@ -18,12 +20,12 @@ digest-long c = search needs
 token-long : (c : tie.Start) → length (c .args .a .token) ≡ 64
 token-long c = search needs
 
-long : (c : tie.After-slice-known2) → c .before .before .encode-key .result ≤ 298
+long : (c : tie.After-slice-known2) → c .before .before .encode-key .result ≤ keyMost field
 long c =
     let a = c .before .before .before .before .before .before .before .before .before .before .args in
     omega (arith, c .before .before .encode-key .ensures .0, key-fits (a .order) field (a .a .entry .«subspace_id») (a .a .entry .path) (a .a .entry .timestamp) (c .before .before .before .before .before .before .before .before .before .before .pre .0))
 
-room : (c : tie.After-slice-known2) → 410 ≤ length (c .before .before .encode-key .last .1 .1 .1 .1 .0)
+room : (c : tie.After-slice-known2) → keyMost field + valueLength ≤ length (c .before .before .encode-key .last .1 .1 .1 .1 .0)
 room c = omega (arith, c .before .before .encode-key .kept .1 .1 .1 .1 .0, c .before .before .before .before .before .before .before .before .before .before .pre .1)
 
 encode-key-requires : tie.Need-encode-key-requires

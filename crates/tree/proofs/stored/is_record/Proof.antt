@@ -8,7 +8,7 @@ use lib.Seq.{length-take-le}
 use Rattle.laws.proofs.Truth.{not-true, not-false}
 use Rattle.data_model.specs.Path.{field}
 use Rattle.keys.proofs.Reading.{rest}
-use Rattle.tree.specs.Value.{readValue, isValue}
+use Rattle.tree.specs.Value.{readValue, isValue, valueLength}
 use Rattle.tree.proofs.RecordParts.{record-short, record-keyless, record-keyed}
 use borrow.Author.Needs.{needs}
 use Rattle.tree.proofs.stored.is_record.Statement.{statement}
@@ -23,7 +23,7 @@ sub-n c = search needs
 slice-aggregate-is-key : tie.Need-slice-aggregate-is-key
 slice-aggregate-is-key c =
     let r = c .before .before .before .args .rec .now in
-    sym (length-take-le (length r - 112) r (omega arith))
+    sym (length-take-le (length r - valueLength) r (omega arith))
 
 is-key-requires : tie.Need-is-key-requires
 is-key-requires c κs = search needs
@@ -48,7 +48,7 @@ returns-3 c =
     let a = c .before .before .before .before .before .before .before .args in
     let r = a .rec .now in
     c .is-value .ensures
-    ∙ ap (λ (b : List ℕ). isValue (readValue b)) (rest r (length r - 112))
+    ∙ ap (λ (b : List ℕ). isValue (readValue b)) (rest r (length r - valueLength))
     ∙ record-keyed (a .order) field r (c .before .before .before .before .before .if1 .left) (sym (c .before .before .before .is-key .ensures) ∙ not-false _ (c .before .before .if2 .left))
 
 pub is-record-spec : {M : Type 1} → statement M

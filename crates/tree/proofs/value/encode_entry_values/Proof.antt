@@ -9,6 +9,7 @@ use borrow.Author.Needs.{needs}
 use Rattle.tree.proofs.RecordParts.{value-wrote}
 use Rattle.tree.proofs.value.encode_entry_values.Statement.{statement}
 use Rattle.tree.proofs.value.encode_entry_values.Tie as tie
+use Rattle.tree.specs.Value.{valueLength}
 
 -- The arrays' lengths.
 digest-long : (c : tie.Start) → length (c .args .v .«payload_digest») ≡ 32
@@ -24,7 +25,7 @@ write-front-requires : tie.Need-write-front-requires
 write-front-requires c κs = let p = c .before .before .before .before .before in (digest-long p, omega (arith, p .pre))
 
 -- There is room behind the first half.
-room : (c : tie.After-token2) → 112 ≤ length (c .before .before .before .write-front .last .1 .1 .0)
+room : (c : tie.After-token2) → valueLength ≤ length (c .before .before .before .write-front .last .1 .1 .0)
 room c = omega (arith, c .before .before .before .write-front .kept .1 .1 .0, c .before .before .before .before .before .before .before .before .before .pre)
 
 slice-aggregate-write-back : tie.Need-slice-aggregate-write-back

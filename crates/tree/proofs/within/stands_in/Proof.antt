@@ -12,9 +12,10 @@ use Rattle.tree.proofs.WithinLaws.{at-bytes, formed-recorded, stands}
 use borrow.Author.Needs.{needs}
 use Rattle.tree.proofs.within.stands_in.Statement.{statement}
 use Rattle.tree.proofs.within.stands_in.Tie as tie
+use Rattle.keys.specs.Encode.{keyMost}
 
 -- The key is no longer than the most that one is.
-long : (c : tie.After-encode-key) → c .encode-key .result ≤ 298
+long : (c : tie.After-encode-key) → c .encode-key .result ≤ keyMost field
 long c =
     let a = c .before .before .before .before .before .stored-at in
     omega (arith, c .encode-key .ensures .0, key-fits Tsp field (a .result .entry .«subspace_id») (a .result .entry .path) (a .result .entry .timestamp) (a .ensures .1 .0))

@@ -1,5 +1,5 @@
 -- `includes` meets its contract. Assumes nothing.
-use mathlib.Core.Path.{_≡_, refl, sym, ap, _∙_}
+use mathlib.Core.Path.{sym, ap, _∙_}
 use Rattle.data_model.specs.Area.{areaSubspace}
 use Rattle.data_model.specs.declared.area.AreaSubspace.{AreaSubspace}
 use borrow.Author.Needs.{needs}

@@ -1,7 +1,6 @@
 -- `is_newer_than` meets its contract. Assumes nothing.
-use mathlib.Core.Path.{_≡_, sym, ap, _∙_}
-use Rattle.laws.proofs.Truth.{and-true, not-true, not-false}
-use Rattle.data_model.specs.Path.{field, legal}
+use mathlib.Core.Path.{sym, _∙_}
+use Rattle.laws.proofs.Truth.{not-true, not-false}
 use Rattle.data_model.proofs.Answers.{answer-refused, answer-given}
 use Rattle.data_model.specs.Entry.{entryOf, newer}
 use borrow.Author.Needs.{needs}

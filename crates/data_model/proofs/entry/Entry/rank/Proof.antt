@@ -1,5 +1,5 @@
 -- `rank` meets its contract. Assumes nothing.
-use mathlib.Core.Path.{_≡_, refl, sym, ap, _∙_}
+use mathlib.Core.Path.{refl}
 use Rattle.data_model.specs.Entry.{rankOf}
 use Rattle.data_model.proofs.entry.Entry.rank.Statement.{statement}
 use Rattle.data_model.proofs.entry.Entry.rank.Tie as tie

@@ -1,5 +1,5 @@
 -- `cmp` meets its contract. Assumes nothing.
-use mathlib.Core.Path.{_≡_, sym, ap, _∙_}
+use mathlib.Core.Path.{sym, ap, _∙_}
 use Rattle.laws.proofs.Order.{then-less, then-same, then-greater}
 use Rattle.data_model.specs.Refusal.{ordered}
 use Rattle.data_model.specs.Subspace.{bySubspace}

@@ -1,5 +1,4 @@
 -- `successor` meets its contract. Assumes nothing.
-use mathlib.Core.Path.{_≡_}
 use borrow.Author.Tests.{lt-ltb, le-ltb}
 use Rattle.data_model.specs.Subspace.{nextSubspace}
 use borrow.Author.Needs.{needs}

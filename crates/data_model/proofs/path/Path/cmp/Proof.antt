@@ -1,5 +1,5 @@
 -- `cmp` meets its contract. Assumes nothing.
-use mathlib.Core.Path.{_≡_, sym, _∙_}
+use mathlib.Core.Path.{sym, _∙_}
 use Rattle.laws.proofs.Truth.{and-true, not-true, not-false}
 use Rattle.data_model.specs.Path.{field, legal}
 use Rattle.data_model.proofs.Answers.{compare-refused, compare-less, compare-same, compare-greater, ordered-less, ordered-same, ordered-greater}

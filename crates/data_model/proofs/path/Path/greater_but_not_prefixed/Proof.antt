@@ -1,5 +1,5 @@
 -- `greater_but_not_prefixed` meets its contract. Assumes nothing.
-use mathlib.Core.Path.{_≡_, refl, sym, ap, _∙_}
+use mathlib.Core.Path.{sym, _∙_}
 use Rattle.data_model.specs.Above.{aboveAnswer}
 use borrow.Author.Needs.{needs}
 use Rattle.data_model.proofs.path.Path.greater_but_not_prefixed.Statement.{statement}

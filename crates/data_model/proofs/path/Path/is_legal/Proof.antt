@@ -1,11 +1,10 @@
 -- `is_legal` meets its contract: too many components, or what `legal_ends` says of the ends that count. Assumes nothing.
-use Prim.Native.Nat.{ℕ, _≤_}
-use mathlib.Core.Path.{_≡_, sym, _∙_}
+use mathlib.Core.Path.{_≡_, sym}
 use native.Mathlib.Omega.{arith}
 use borrow.Author.Tests.{le-leb, lt-leb}
-use lib.ListN.{length, take}
+use lib.ListN.{length}
 use lib.Seq.{length-take-le}
-use Rattle.data_model.specs.Path.{legal, legalEnds}
+use Rattle.data_model.specs.Path.{legal}
 use borrow.Author.Needs.{needs}
 use Rattle.data_model.proofs.path.Path.is_legal.Statement.{statement}
 use Rattle.data_model.proofs.path.Path.is_legal.Tie as tie

@@ -1,5 +1,5 @@
 -- `new_empty` meets its contract. Assumes nothing.
-use mathlib.Core.Path.{_≡_, refl, sym, ap, _∙_}
+use mathlib.Core.Path.{refl}
 use Rattle.data_model.specs.Path.{valueOf, pathOf, joined, endsFrom}
 use Rattle.data_model.proofs.path.Path.new_empty.Statement.{statement}
 use Rattle.data_model.proofs.path.Path.new_empty.Tie as tie

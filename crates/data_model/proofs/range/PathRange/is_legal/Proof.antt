@@ -1,5 +1,5 @@
 -- `is_legal` meets its contract. Assumes nothing.
-use mathlib.Core.Path.{_≡_, refl, sym, ap, _∙_}
+use mathlib.Core.Path.{sym, _∙_}
 use Rattle.laws.proofs.Truth.{not-true, not-false}
 use Rattle.data_model.specs.Range.{legalRange}
 use borrow.Author.Needs.{needs}

@@ -1,5 +1,5 @@
 -- `is_legal_with` meets its contract. Assumes nothing.
-use mathlib.Core.Path.{_≡_, refl, sym, ap, _∙_}
+use mathlib.Core.Path.{sym, _∙_}
 use borrow.Author.Needs.{needs}
 use Rattle.data_model.proofs.range.PathRange.is_legal_with.Statement.{statement}
 use Rattle.data_model.proofs.range.PathRange.is_legal_with.Tie as tie

@@ -1,8 +1,7 @@
 -- `includes` meets its contract. Assumes nothing.
-use mathlib.Core.Path.{_≡_, refl, sym, ap, _∙_}
+use mathlib.Core.Path.{sym, ap, _∙_}
 use Rattle.laws.specs.Order.{isLess}
-use Rattle.data_model.specs.Path.{components}
-use Rattle.data_model.specs.Range.{closed, open-end, subspacesEnd, subspacesInclude}
+use Rattle.data_model.specs.Range.{subspacesEnd, subspacesInclude}
 use Rattle.data_model.proofs.Answers.{order-is}
 use Rattle.data_model.proofs.RangeLaws.{includes-not, includes-open, includes-closed}
 use borrow.Author.Needs.{needs}

@@ -1,7 +1,7 @@
 -- `includes` meets its contract. Assumes nothing.
-use mathlib.Core.Path.{_≡_, refl, sym, ap, _∙_}
+use mathlib.Core.Path.{sym, ap, _∙_}
 use borrow.Author.Tests.{lt-ltb, le-ltb}
-use Rattle.data_model.specs.Range.{closed, open-end, timesEnd, timesInclude}
+use Rattle.data_model.specs.Range.{timesEnd, timesInclude}
 use Rattle.data_model.proofs.RangeLaws.{includes-not, includes-open, includes-closed, number-below}
 use borrow.Author.Needs.{needs}
 use Rattle.data_model.proofs.range.TimesRange.includes.Statement.{statement}

@@ -1,5 +1,5 @@
 -- `from` meets its contract. Assumes nothing.
-use mathlib.Core.Path.{_≡_, refl, sym, ap, _∙_}
+use mathlib.Core.Path.{sym, _∙_}
 use Rattle.data_model.specs.Area.{areaRange, areaRangeAnswer}
 use borrow.Author.Needs.{needs}
 use Rattle.data_model.proofs.range_3d.Range3d.from.Statement.{statement}

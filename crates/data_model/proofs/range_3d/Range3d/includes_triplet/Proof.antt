@@ -1,5 +1,5 @@
 -- `includes_triplet` meets its contract. Assumes nothing.
-use mathlib.Core.Path.{_≡_, sym, ap, _∙_}
+use mathlib.Core.Path.{sym, _∙_}
 use Rattle.laws.proofs.Truth.{and-true, not-true, not-false}
 use Rattle.data_model.specs.Path.{field, legal}
 use Rattle.data_model.proofs.Answers.{answer-refused, answer-given}
