@@ -25,7 +25,7 @@ use Rattle.tree.specs.declared.stored.KeyOrder.the-variants.{Spt}
 use Rattle.store.specs.Store.{Store, dirRoom, held, Held, heldBy}
 use Rattle.store.specs.Refusal.{unless, _orElse_, storeRefusal}
 use Rattle.store.specs.Ingest.{sptLess, filing, stays, filedIn, filed, Decision, refuse, obsolete, take-it, decidedOf, decided, ingestRefusal, judged, carried, ingested}
-use Rattle.convergence.specs.History.{Call, ingest, forget-entry, forget-area, answer, after, history, receipt, received, Ingestions, EntryIsValue, IsValue, AreValues}
+use Rattle.convergence.specs.History.{Call, ingest, forget-entry, forget-area, answer, after, history, receipt, received, Ingestions, EntryIsValue, IsValue, AreValues, historyOf}
 use Rattle.convergence.specs.Demand.{Opening, opens, NotRefused, leaves, receives, Keeps, Plain, Within, SameBytes}
 use Rattle.convergence.specs.Examination.{Willing, AllWilling, handed, Place, placeOf, Placed}
 use Rattle.store.proofs.Counted.{insert-length, Differ, differ-length}
@@ -108,7 +108,7 @@ module _ (f : Figures) (s : Store) (v : Stands f s) (prune : List ℕ) (e : Entr
 -- A list of them.
 all-received : (f : Figures) (o : Opening) (places : List Place) → length places ≤ o .limit → (s : Store) (cs : List Call) → Stands f s → Keeps f o s → AreValues f cs
     → AllWilling f (o .namespace) (o .limit) cs → Placed places (held f Spt s) → Placed places (handed cs) → received (history f s cs) ≡ handed cs
-unfolding received history handed AreValues AllWilling
+unfolding received historyOf handed AreValues AllWilling
 all-received f o places few s [] v k b w p q = refl
 all-received f o places few s (ingest prune e token prevent ∷ cs) v k b w p q =
     let c : Call = ingest prune e token prevent in

@@ -13,10 +13,10 @@ use Rattle.tree.specs.declared.stored.KeyOrder.the-variants.{Spt, Tsp}
 use Rattle.store.specs.Store.{Store, storeOf, held, Held, heldBy, holding}
 use Rattle.store.specs.Open.{nothing}
 use Rattle.store.specs.Ingest.{tspLess, filedIn, filed, Decision, take-it, judged, carried, ingested}
-use Rattle.convergence.specs.History.{after, AreValues}
-use Rattle.convergence.specs.Demand.{Sound}
+use Rattle.convergence.specs.History.{after, leftBy, AreValues}
+use Rattle.convergence.specs.Demand.{Sound, Demand3}
 use Rattle.convergence.specs.Examples.{Line, namespace, valueIn, tokenIn, callOf, calls, filedAs, atLimit, one, later}
-use Rattle.convergence.specs.WrongStores.{leftBy, Meets, halfFiled, halfPruned, one-tree-pruned}
+use Rattle.convergence.specs.WrongStores.{halfFiled, halfPruned, one-tree-pruned}
 use Rattle.convergence.proofs.Stands.{Stands, opens-stands}
 use Rattle.convergence.proofs.Meant.{decision, judged-so}
 use Rattle.convergence.proofs.Computing.{computing, reading}
@@ -84,11 +84,11 @@ one-not-later : filedAs one ≡ filedAs later → ⊥
 unfolding rankOf entryOf
 one-not-later e = let z : _≡_ {A = ℕ} 5 9 = ap (λ (x : Stored). x .entry .rank .timestamp) e in omega arith
 
-pub pruning-one-tree : Meets field one-tree-pruned → ⊥
+pub pruning-one-tree : Demand3 field one-tree-pruned → ⊥
 unfolding leftBy
 pruning-one-tree v =
     let q : Sound field s2 = subst (Sound field) (ap (λ (t : Store). halfPruned field t (callOf 2 later)) half-first ∙ half-second)
-    (v .clauses .sound (atLimit 2) (shows-one .opened) (calls 2 (one ∷ later ∷ [])) ghost-values) in
+    (v .sound (atLimit 2) (shows-one .opened) (calls 2 (one ∷ later ∷ [])) ghost-values) in
     let m : filedAs one ∈ held field Tsp s2 = rw (haunted-tsp (s1 .state .count) (s1 .spt) (s1 .sptDir) (s1 .tsp) (s1 .tspDir)) (here refl) in
     let n : filedAs one ∈ filedAs later ∷ [] = rw (haunted-spt (s1 .state .count) (s1 .spt) (s1 .sptDir) (s1 .tsp) (s1 .tspDir)) at (q .same (filedAs one) .1 m) in
     one-not-later (only n)

@@ -12,7 +12,7 @@ pub mod Meant
 pub mod Lines
 pub mod Computing
 pub mod Shown
-pub mod Meets
+pub mod RightAnswers
 pub mod OneEntry
 pub mod Ghosts
 pub mod Silent

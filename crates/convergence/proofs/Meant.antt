@@ -16,7 +16,7 @@ use Rattle.store.specs.Open.{nothing}
 use Rattle.store.specs.Ingest.{filing, filed, Decision, refuse, obsolete, take-it, decided, judged, carried, ingested}
 use Rattle.store.specs.declared.ingest.IngestVerdict.{IngestVerdict}
 use Rattle.store.specs.declared.ingest.IngestVerdict.the-variants as verdict
-use Rattle.convergence.specs.History.{Call, ingest, forget-entry, forget-area, of-ingest, answer, after, history, left, receipt, received, IsValue, AreValues}
+use Rattle.convergence.specs.History.{Call, ingest, forget-entry, forget-area, of-ingest, answer, after, history, left, receipt, received, IsValue, AreValues, historyOf, leftBy}
 use Rattle.convergence.specs.Demand.{Opening, opens, NotRefused}
 use Rattle.convergence.specs.Examples.{verdictIn, verdictsIn}
 use Rattle.convergence.proofs.Judged.{when-decided, judged-taken}
@@ -107,7 +107,7 @@ pub record Meant (f : Figures) (s : Store) (cs : List Call) (limit : ℕ) (h : H
 
 meant : (f : Figures) (s : Store) (cs : List Call) → Stands f s → AreValues f cs → AllWilling f (s .state .«namespace_id») (s .state .limit) cs
     → Meant f s cs (s .state .limit) (heldBy f s)
-unfolding left history received verdictsIn handed holds verdicts receipts AreValues AllWilling
+unfolding leftBy historyOf received verdictsIn handed holds verdicts receipts AreValues AllWilling
 meant f s [] v b w = record { holds-so = refl; verdicts-so = refl; receives-so = refl }
 meant f s (ingest prune e token prevent ∷ cs) v b w =
     let c : Call = ingest prune e token prevent in

@@ -6,10 +6,9 @@ use lib.ListN.{length, drop}
 use Rattle.data_model.specs.Path.{field}
 use Rattle.store.specs.Store.{Store, Held, heldBy}
 use Rattle.store.specs.declared.ingest.IngestVerdict.the-variants.{Success}
-use Rattle.convergence.specs.History.{Call, Answer, answer, after, history, left, AreValues, IsValue}
-use Rattle.convergence.specs.Demand.{opens, RefusedRight}
+use Rattle.convergence.specs.History.{Call, Answer, answer, after, Steps, historyOf, leftBy, AreValues, IsValue}
+use Rattle.convergence.specs.Demand.{opens, RefusedRight, Demand3}
 use Rattle.convergence.specs.Examples.{namespace, callOf, calls, filedAs, atLimit, verdictIn, verdictsIn, one, two, Shows}
-use Rattle.convergence.specs.WrongStores.{Steps, historyOf, Meets}
 use Rattle.convergence.proofs.Stands.{Stands, opens-stands}
 use Rattle.convergence.proofs.Proved.{demand-3}
 use Rattle.convergence.proofs.Computing.{computing}
@@ -35,22 +34,22 @@ unfolding heldBy
 count-0 = let v = opens-stands field (atLimit 2) (shows-one .opened) in v .stands .bears .count ∙ ap (λ (h : Held). length (h .spt)) (v .empty)
 
 pub count-1 : s1 .state .count ≡ 1
-unfolding left
+unfolding leftBy
 count-1 = shows-one .count
 
 pub first-answer : verdictIn (answer field s0 (callOf 2 one)) ≡ Success 0 ∷ []
-unfolding history verdictsIn verdictIn answer
+unfolding historyOf verdictsIn verdictIn answer
 first-answer = shows-one .verdicts
 
 pub second-answer : verdictIn (answer field s1 (callOf 2 two)) ≡ Success 0 ∷ []
-unfolding history verdictsIn verdictIn answer
+unfolding historyOf verdictsIn verdictIn answer
 second-answer = ap (drop 1) (shows-two .verdicts)
 
 -- What demand 3 says of the first call, and of the second after a first that is as ours.
-module _ (m : Steps) (v : Meets field m) where
+module _ (m : Steps) (v : Demand3 field m) where
   pub first-right : (c : Call) → IsValue field c → RefusedRight field (atLimit 2) (record { before = s0; call = c; answered = m .answers s0 c })
   unfolding historyOf AreValues
-  first-right c w = v .clauses .refused-right (atLimit 2) (shows-one .opened) (c ∷ []) (w, tt) _ (here refl)
+  first-right c w = v .refused-right (atLimit 2) (shows-one .opened) (c ∷ []) (w, tt) _ (here refl)
 
   pub second-right : (a : Answer) → m .leaves s0 (callOf 2 one) ≡ s1 → m .answers s1 (callOf 2 two) ≡ a
       → RefusedRight field (atLimit 2) (record { before = s1; call = callOf 2 two; answered = a })
@@ -58,22 +57,22 @@ module _ (m : Steps) (v : Meets field m) where
   second-right a l q =
       subst (λ (a : Answer). RefusedRight field (atLimit 2) (record { before = s1; call = callOf 2 two; answered = a })) q
       (subst (λ (t : Store). RefusedRight field (atLimit 2) (record { before = t; call = callOf 2 two; answered = m .answers t (callOf 2 two) })) l
-      (v .clauses .refused-right (atLimit 2) (shows-two .opened) (calls 2 (one ∷ two ∷ [])) (shows-two .values) _ (there (here refl))))
+      (v .refused-right (atLimit 2) (shows-two .opened) (calls 2 (one ∷ two ∷ [])) (shows-two .values) _ (there (here refl))))
 
 pub s1-stands : Stands field s1
-unfolding left computing
+unfolding leftBy computing
 s1-stands = lines-stand 2 refl (one ∷ []) refl
 
 pub s1-holds : heldBy field s1 ≡ record { spt = filedAs one ∷ []; tsp = filedAs one ∷ [] }
-unfolding left computing
+unfolding leftBy computing
 s1-holds = holds-lines 2 refl (one ∷ []) refl
 
 pub s1-limit : s1 .state .limit ≡ 2
-unfolding left
+unfolding leftBy
 s1-limit = demand-3 field .keeps (atLimit 2) (shows-one .opened) (callOf 2 one ∷ []) (shows-one .values) .limit
 
 pub s1-namespace : s1 .state .«namespace_id» ≡ namespace
-unfolding left
+unfolding leftBy
 s1-namespace = demand-3 field .keeps (atLimit 2) (shows-one .opened) (callOf 2 one ∷ []) (shows-one .values) .namespace
 
 pub first-value : IsValue field (callOf 2 one)

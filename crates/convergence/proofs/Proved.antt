@@ -14,7 +14,7 @@ use Rattle.tree.specs.declared.stored.KeyOrder.{KeyOrder}
 use Rattle.tree.specs.declared.stored.KeyOrder.the-variants.{Spt, Tsp}
 use Rattle.store.specs.Store.{Store, treeRoom, treeOf, held, heldBy}
 use Rattle.store.specs.Ingest.{sptLess, tspLess}
-use Rattle.convergence.specs.History.{Call, Ingestions, AreValues}
+use Rattle.convergence.specs.History.{Call, ours, Ingestions, AreValues}
 use Rattle.convergence.specs.Demand.{Opening, opens, NotRefused, leaves, receives, Keeps, Plain, Current, Contents, Within, SameBytes, Sound, Demand3}
 use Rattle.store.proofs.Meaning.{spt-linear, tsp-linear, before-irrefl, before-trans}
 use Rattle.convergence.proofs.Settled.{plain-part, Settled, settled-nothing, settled-current, within-same, current-same}
@@ -102,7 +102,7 @@ module _ (f : Figures) where
   unfolding heldBy
   sound s v = record { apart = v .fit .sound .apart; same = v .fit .sound .both; well-formed = stands-well f s v }
 
-  pub demand-3 : Demand3 f
+  pub demand-3 : Demand3 f (ours f)
   demand-3 = record {
     contents = contents;
     agree = agree;
@@ -114,5 +114,5 @@ module _ (f : Figures) where
   }
 
 -- With the figures of the field.
-pub demand-3-field : Demand3 field
+pub demand-3-field : Demand3 field (ours field)
 demand-3-field = demand-3 field

@@ -15,7 +15,7 @@ use Rattle.tree.specs.Stored.{Stored}
 use Rattle.tree.specs.Matching.{outdates}
 use Rattle.store.specs.Store.{Store, heldBy}
 use Rattle.store.specs.Ingest.{filing, Decision, refuse, obsolete, take-it, judged, carried, ingested}
-use Rattle.convergence.specs.History.{Call, ingest, forget-entry, forget-area, of-ingest, answer, after, Event, history, left, receipt, received, Ingestions, EntryIsValue, IsValue, AreValues}
+use Rattle.convergence.specs.History.{Call, ingest, forget-entry, forget-area, of-ingest, answer, after, Event, history, left, receipt, received, Ingestions, EntryIsValue, IsValue, AreValues, historyOf, leftBy}
 use Rattle.convergence.specs.Demand.{Opening, Keeps, Plain, RefusedRight}
 use Rattle.convergence.proofs.Settled.{plain-part, Settled, settled-same, settled-filed, settled-obsolete, shuffle}
 use Rattle.convergence.proofs.Judged.{judged-obsolete, judged-taken}
@@ -23,18 +23,18 @@ use Rattle.convergence.proofs.Refused.{refused-so}
 use Rattle.convergence.proofs.Stands.{Stands, stands-well, held-taken, stands-after, keeps-after}
 
 pub left-stands : (f : Figures) (s : Store) (cs : List Call) → Stands f s → AreValues f cs → Stands f (left f s cs)
-unfolding left AreValues
+unfolding leftBy AreValues
 left-stands f s [] v w = v
 left-stands f s (c ∷ cs) v w = left-stands f (after f s c) cs (stands-after f s v c (w .0)) (w .1)
 
 pub left-keeps : (f : Figures) (o : Opening) (s : Store) (cs : List Call) → Stands f s → Keeps f o s → AreValues f cs → Keeps f o (left f s cs)
-unfolding left AreValues
+unfolding leftBy AreValues
 left-keeps f o s [] v k w = k
 left-keeps f o s (c ∷ cs) v k w = left-keeps f o (after f s c) cs (stands-after f s v c (w .0)) (keeps-after f s v o k c (w .0)) (w .1)
 
 pub history-right : (f : Figures) (o : Opening) (s : Store) (cs : List Call) → Stands f s → Keeps f o s → AreValues f cs
     → (e : Event) → e ∈ history f s cs → RefusedRight f o e
-unfolding history AreValues
+unfolding historyOf AreValues
 history-right f o s [] v k w e m = absurd (none-in m)
 history-right f o s (c ∷ cs) v k w e m = ⊎-elim
     (λ q. subst (RefusedRight f o) (sym q) (refused-so f s o k (v .limit) (v .room) (stands-well f s v) c))
@@ -64,7 +64,7 @@ module _ (f : Figures) (s : Store) (v : Stands f s) (R : List Stored) (k : Settl
 -- A list of ingestions, after R was received.
 pub settled-left : (f : Figures) (s : Store) (cs : List Call) (R : List Stored) → Stands f s → AreValues f cs → Ingestions cs
     → Plain (received (history f s cs) ++ R) → Settled (heldBy f s) R → Settled (heldBy f (left f s cs)) (received (history f s cs) ++ R)
-unfolding left history received AreValues Ingestions IsValue
+unfolding leftBy historyOf received AreValues Ingestions IsValue
 settled-left f s [] R v w i p k = k
 settled-left f s (ingest prune e token prevent ∷ cs) R v w i p k =
     let c : Call = ingest prune e token prevent in

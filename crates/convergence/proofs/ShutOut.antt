@@ -24,22 +24,22 @@ use Rattle.store.specs.Ingest.{verdictNumber, refuse, ingestRefusal, judged, ca
 use Rattle.store.specs.Forget.{forgetAreaRefusal, areaForgotten}
 use Rattle.store.specs.declared.ingest.IngestVerdict.{IngestVerdict}
 use Rattle.store.specs.declared.ingest.IngestVerdict.the-variants.{Obsolete, Refused}
-use Rattle.convergence.specs.History.{Call, ingest, forget-area, Answer, of-ingest, of-entry, of-area, answer, Event, history, left, received, refusalIn, IsValue}
-use Rattle.convergence.specs.Demand.{Opening, opens, Plain, Current, RefusedRight}
+use Rattle.convergence.specs.History.{Call, ingest, forget-area, Answer, of-ingest, of-entry, of-area, answer, Event, historyOf, leftBy, received, refusalIn, IsValue}
+use Rattle.convergence.specs.Demand.{Opening, opens, Plain, Current, RefusedRight, Demand3}
 use Rattle.convergence.specs.Examples.{valueIn, tokenIn, callOf, calls, filedAs, atLimit, one, two}
-use Rattle.convergence.specs.WrongStores.{historyOf, leftBy, Meets, AnswersRight, files-nothing, saying, first-only, full-at-1, one-verdict, refuses-all, countMade, made-up-count, ShutOut}
+use Rattle.convergence.specs.WrongStores.{AnswersRight, files-nothing, saying, first-only, full-at-1, one-verdict, refuses-all, countMade, made-up-count, ShutOut}
 use Rattle.convergence.proofs.Stands.{Stands, stands-well, opens-stands}
 use Rattle.convergence.proofs.Computing.{computing}
 use Rattle.convergence.proofs.Shown.{only}
 use Rattle.convergence.proofs.Lines.{line-value, lines-received, lines-stand}
-use Rattle.convergence.proofs.Meets.{right-number, right-obsolete, success-number, success-current}
+use Rattle.convergence.proofs.RightAnswers.{right-number, right-obsolete, success-number, success-current}
 use Rattle.convergence.proofs.OneEntry.{s0, s1, shows-one, count-0, count-1, first-answer, second-answer, first-value, first-right, second-right}
 use Rattle.convergence.proofs.Silent.{refusing-without-a-number}
 use Rattle.convergence.proofs.Ghosts.{pruning-one-tree}
 
 -- It files nothing: what is received is not there.
 one-received : received (historyOf files-nothing s0 (calls 2 (one ∷ []))) ≡ filedAs one ∷ []
-unfolding historyOf history computing
+unfolding historyOf computing
 one-received = lines-received 2 refl (one ∷ []) refl
 
 none-of : {A : Type 0} {x : A} (l : List A) → length l ≡ 0 → x ∈ l → ⊥
@@ -55,15 +55,15 @@ one-plain = record {
   no-tie = λ a b m n t. t .properly (ap (λ (x : Stored). x .entry .path) (only m ∙ sym (only n)));
 }
 
-filing-nothing : Meets field files-nothing → ⊥
+filing-nothing : Demand3 field files-nothing → ⊥
 unfolding leftBy
 filing-nothing v =
-    let c = v .clauses .contents (atLimit 2) (shows-one .opened) (calls 2 (one ∷ [])) (shows-one .values) (shows-one .ingestions) (subst Plain (sym one-received) one-plain) Spt in
+    let c = v .contents (atLimit 2) (shows-one .opened) (calls 2 (one ∷ [])) (shows-one .values) (shows-one .ingestions) (subst Plain (sym one-received) one-plain) Spt in
     let m = c .exactly (filedAs one) .1 (subst (λ (R : List Stored). Current R (filedAs one)) (sym one-received) one-current) in
     none-of (c .entries) (sym (c .count) ∙ count-0) m
 
 -- It files its first entry and calls the rest obsolete: the second is not.
-filing-the-first : Meets field first-only → ⊥
+filing-the-first : Demand3 field first-only → ⊥
 unfolding saying
 filing-the-first v =
     let e : Event = record { before = s1; call = callOf 2 two; answered = saying Obsolete s1 (callOf 2 two) } in
@@ -71,7 +71,7 @@ filing-the-first v =
     success-current (answer field s1 (callOf 2 two)) 0 second-answer (right-obsolete field e r refl)
 
 -- Full below the limit.
-full-below-the-limit : Meets field full-at-1 → ⊥
+full-below-the-limit : Demand3 field full-at-1 → ⊥
 unfolding saying refusalIn verdictNumber
 full-below-the-limit v =
     let e : Event = record { before = s1; call = callOf 2 two; answered = saying (Refused 8) s1 (callOf 2 two) } in
@@ -104,7 +104,7 @@ one-number n e g =
     let b : n ≡ 2 = g ∙ careless-number in
     omega arith
 
-one-verdict-for-all : (w : IngestVerdict) (does : Store → Call → Store) → Meets field (one-verdict w does) → ⊥
+one-verdict-for-all : (w : IngestVerdict) (does : Store → Call → Store) → Demand3 field (one-verdict w does) → ⊥
 unfolding saying
 one-verdict-for-all w does v = one-number (refusalIn (saying w s0 (callOf 2 one)))
     (right-number field _ (first-right (one-verdict w does) v (callOf 2 one) first-value))
@@ -144,7 +144,7 @@ forgotten-0 =
     forgotten-so s0 (v .stands) ∙ ap (λ (h : Held). length (keep (isForgotten everything false everything) (h .spt))) (v .empty)
 
 forgotten-1 : forgottenIn (answer field s1 forget-all) ≡ 1
-unfolding left computing isForgotten inArea areaIncludes areaSubspace timesInclude includes beforeEnd timesEnd
+unfolding leftBy computing isForgotten inArea areaIncludes areaSubspace timesInclude includes beforeEnd timesEnd
 forgotten-1 = forgotten-so s1 (lines-stand 2 refl (one ∷ []) refl) ∙ ap (λ (l : List Stored). length (keep (isForgotten everything false everything) l)) (shows-one .listed)
 
 a-made-up-count : (n : ℕ) → AnswersRight field (made-up-count n) → ⊥
@@ -154,7 +154,7 @@ a-made-up-count n v =
     omega arith
 
 -- It refuses everybody.
-refusing-everybody : (n : ℕ) → Meets field (refuses-all n) → ⊥
+refusing-everybody : (n : ℕ) → Demand3 field (refuses-all n) → ⊥
 refusing-everybody n = one-verdict-for-all (Refused n) (λ s c. s)
 
 refusing-every-opening : (n : ℕ) → (n ≡ 0 → ⊥) → ((o : Opening) → opens field o .answer .refusal ≡ n) → ⊥

@@ -1,4 +1,4 @@
--- Demand 3: one statement about lists of calls, of whatever length, after an opening that was not refused. `demand-3` proves it.
+-- Demand 3: one statement about lists of calls, of whatever length, after an opening that was not refused. `demand-3` proves it of ours.
 use Prim.Native.Nat.{ℕ}
 use mathlib.Core.Path.{_≡_}
 use mathlib.Core.Logic.{_⊎_, _↔_}
@@ -14,7 +14,7 @@ use Rattle.tree.specs.declared.stored.KeyOrder.{KeyOrder}
 use Rattle.tree.specs.declared.stored.KeyOrder.the-variants.{Spt, Tsp}
 use Rattle.store.specs.Store.{Lent, Store, treeRoom, dirRoom, treeOf, dirOf, held, wellFormedStore}
 use Rattle.store.specs.Open.{OpenOutcome, opening}
-use Rattle.convergence.specs.History.{Call, answer, after, Event, history, left, received, refusalIn, IsRefused, stateIn, IsObsolete, Ingestions, AreValues}
+use Rattle.convergence.specs.History.{Call, Event, Steps, ours, historyOf, leftBy, received, refusalIn, IsRefused, stateIn, IsObsolete, Ingestions, AreValues}
 use Rattle.convergence.specs.Conditions.{Reason, limit-outside, short-buffer, not-well-formed, number, First, ShortPrune, ObsoleteWhere}
 
 -- An opening: whatever namespace, limit and buffers.
@@ -32,12 +32,18 @@ opens f o = opening f (o .namespace) (o .limit) (o .spt) (o .sptDir) (o .tsp) (o
 abbrev pub NotRefused : Figures → Opening → Type 0
 NotRefused f o = opens f o .answer .refusal ≡ 0
 
--- What a list of calls after it leaves, and what it received.
+-- What a list of calls after it leaves, and what it received: of any store that answers these calls, and of ours.
+abbrev pub leavesBy : Figures → Steps → Opening → List Call → Store
+leavesBy f m o cs = leftBy m (opens f o .store) cs
+
+abbrev pub receivesBy : Figures → Steps → Opening → List Call → List Stored
+receivesBy f m o cs = received (historyOf m (opens f o .store) cs)
+
 abbrev pub leaves : Figures → Opening → List Call → Store
-leaves f o cs = left f (opens f o .store) cs
+leaves f = leavesBy f (ours f)
 
 abbrev pub receives : Figures → Opening → List Call → List Stored
-receives f o cs = received (history f (opens f o .store) cs)
+receives f = receivesBy f (ours f)
 
 -- A store keeps what it was opened with.
 pub record Keeps (f : Figures) (o : Opening) (s : Store) : Type 0 where
@@ -103,19 +109,19 @@ pub record Sound (f : Figures) (s : Store) : Type 0 where
   pub same : (x : Stored) → x ∈ held f Spt s ↔ x ∈ held f Tsp s
   pub well-formed : wellFormedStore f s ≡ true
 
-pub record Demand3 (f : Figures) : Type 0 where
+pub record Demand3 (f : Figures) (m : Steps) : Type 0 where
   -- Each tree holds exactly the received entries that no received entry prunes.
-  pub contents : (o : Opening) → NotRefused f o → (cs : List Call) → AreValues f cs → Ingestions cs → Plain (receives f o cs)
-      → (k : KeyOrder) → Contents f k (leaves f o cs) (receives f o cs)
+  pub contents : (o : Opening) → NotRefused f o → (cs : List Call) → AreValues f cs → Ingestions cs → Plain (receivesBy f m o cs)
+      → (k : KeyOrder) → Contents f k (leavesBy f m o cs) (receivesBy f m o cs)
   -- Two stores opened with one namespace and limit that received the same entries hold the same bytes in both trees.
   pub agree : (o p : Opening) → NotRefused f o → NotRefused f p → o .namespace ≡ p .namespace → o .limit ≡ p .limit
-      → (cs ds : List Call) → AreValues f cs → AreValues f ds → Ingestions cs → Ingestions ds → Plain (receives f o cs ++ receives f p ds)
-      → Within (receives f o cs) (receives f p ds) → Within (receives f p ds) (receives f o cs)
-      → SameBytes f (leaves f o cs) (leaves f p ds)
+      → (cs ds : List Call) → AreValues f cs → AreValues f ds → Ingestions cs → Ingestions ds → Plain (receivesBy f m o cs ++ receivesBy f m p ds)
+      → Within (receivesBy f m o cs) (receivesBy f m p ds) → Within (receivesBy f m p ds) (receivesBy f m o cs)
+      → SameBytes f (leavesBy f m o cs) (leavesBy f m p ds)
   -- Without the premises, with forgetting anywhere.
-  pub refused-right : (o : Opening) → NotRefused f o → (cs : List Call) → AreValues f cs → (e : Event) → e ∈ history f (opens f o .store) cs → RefusedRight f o e
-  pub keeps : (o : Opening) → NotRefused f o → (cs : List Call) → AreValues f cs → Keeps f o (leaves f o cs)
-  pub sound : (o : Opening) → NotRefused f o → (cs : List Call) → AreValues f cs → Sound f (leaves f o cs)
+  pub refused-right : (o : Opening) → NotRefused f o → (cs : List Call) → AreValues f cs → (e : Event) → e ∈ historyOf m (opens f o .store) cs → RefusedRight f o e
+  pub keeps : (o : Opening) → NotRefused f o → (cs : List Call) → AreValues f cs → Keeps f o (leavesBy f m o cs)
+  pub sound : (o : Opening) → NotRefused f o → (cs : List Call) → AreValues f cs → Sound f (leavesBy f m o cs)
   -- Every answer tells the state of the store that is left.
   pub opening-told : (o : Opening) → opens f o .answer .state ≡ opens f o .store .state
-  pub told : (s : Store) (c : Call) → stateIn (answer f s c) ≡ after f s c .state
+  pub told : (s : Store) (c : Call) → stateIn (m .answers s c) ≡ m .leaves s c .state

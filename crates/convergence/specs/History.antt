@@ -50,13 +50,27 @@ pub record Event : Type 0 where
   pub call : Call
   pub answered : Answer
 
-unfoldable pub history : Figures → Store → List Call → List Event
-history f s [] = []
-history f s (c ∷ cs) = record { before = s; call = c; answered = answer f s c } ∷ history f (after f s c) cs
+-- A store, by what it answers to a call and what the call leaves; and ours.
+pub record Steps : Type 0 where
+  pub answers : Store → Call → Answer
+  pub leaves : Store → Call → Store
 
-unfoldable pub left : Figures → Store → List Call → Store
-left f s [] = s
-left f s (c ∷ cs) = left f (after f s c) cs
+abbrev pub ours : Figures → Steps
+ours f = record { answers = answer f; leaves = after f }
+
+unfoldable pub historyOf : Steps → Store → List Call → List Event
+historyOf m s [] = []
+historyOf m s (c ∷ cs) = record { before = s; call = c; answered = m .answers s c } ∷ historyOf m (m .leaves s c) cs
+
+unfoldable pub leftBy : Steps → Store → List Call → Store
+leftBy m s [] = s
+leftBy m s (c ∷ cs) = leftBy m (m .leaves s c) cs
+
+abbrev pub history : Figures → Store → List Call → List Event
+history f = historyOf (ours f)
+
+abbrev pub left : Figures → Store → List Call → Store
+left f = leftBy (ours f)
 
 -- Received: the entries handed to ingestions that were not refused, obsolete ones too, with the token that each came with.
 unfoldable pub receipt : Call → Answer → List Stored

@@ -1,58 +1,19 @@
--- Demand 3 of any store that answers these calls, and the wrong stores of 01's marking rule c: `meets` proves it of ours, `shut-out` refutes
--- it of each of these.
+-- The wrong stores of 01's marking rule c: `shut-out` refutes demand 3 of each, and `demand-3` proves it of ours.
 use Prim.Native.Nat.{ℕ}
 use mathlib.Core.Path.{_≡_}
-use mathlib.Core.List.{List, [], _∷_, _++_}
 use mathlib.Core.Bool.{cond}
 use lib.Dec.{leb, eqb}
-use Rattle.laws.specs.Sorted.{_∈_, insert}
+use Rattle.laws.specs.Sorted.{insert}
 use Rattle.data_model.specs.Path.{Figures, field}
 use Rattle.data_model.specs.Entry.{entryOf}
 use Rattle.tree.specs.Stored.{Stored}
-use Rattle.tree.specs.declared.stored.KeyOrder.{KeyOrder}
 use Rattle.tree.specs.declared.stored.KeyOrder.the-variants.{Spt, Tsp}
 use Rattle.store.specs.Store.{Store, held, holding}
 use Rattle.store.specs.Ingest.{tspLess, filing, filedIn, Decision, refuse, obsolete, take-it, judged, plainAnswer}
 use Rattle.store.specs.declared.ingest.IngestVerdict.{IngestVerdict}
 use Rattle.store.specs.declared.ingest.IngestVerdict.the-variants.{Success, Obsolete, Refused}
-use Rattle.convergence.specs.History.{Call, ingest, forget-entry, forget-area, Answer, of-ingest, of-entry, of-area, answer, after, Event, received, Ingestions, AreValues}
-use Rattle.convergence.specs.Demand.{Opening, opens, NotRefused, Plain, Contents, Within, SameBytes, RefusedRight, Sound}
-use Rattle.convergence.specs.Examples.{verdictIn}
-
--- A store, by what it answers to a call and what the call leaves.
-pub record Steps : Type 0 where
-  pub answers : Store → Call → Answer
-  pub leaves : Store → Call → Store
-
-abbrev pub ours : Figures → Steps
-ours f = record { answers = answer f; leaves = after f }
-
-unfoldable pub historyOf : Steps → Store → List Call → List Event
-historyOf m s [] = []
-historyOf m s (c ∷ cs) = record { before = s; call = c; answered = m .answers s c } ∷ historyOf m (m .leaves s c) cs
-
-unfoldable pub leftBy : Steps → Store → List Call → Store
-leftBy m s [] = s
-leftBy m s (c ∷ cs) = leftBy m (m .leaves s c) cs
-
--- The clauses of `Demand3` on contents, agreement, refusals and soundness, of such a store.
-pub record Clauses (f : Figures) (m : Steps) : Type 0 where
-  pub contents : (o : Opening) → NotRefused f o → (cs : List Call) → AreValues f cs → Ingestions cs → Plain (received (historyOf m (opens f o .store) cs))
-      → (k : KeyOrder) → Contents f k (leftBy m (opens f o .store) cs) (received (historyOf m (opens f o .store) cs))
-  pub agree : (o p : Opening) → NotRefused f o → NotRefused f p → o .namespace ≡ p .namespace → o .limit ≡ p .limit
-      → (cs ds : List Call) → AreValues f cs → AreValues f ds → Ingestions cs → Ingestions ds
-      → Plain (received (historyOf m (opens f o .store) cs) ++ received (historyOf m (opens f p .store) ds))
-      → Within (received (historyOf m (opens f o .store) cs)) (received (historyOf m (opens f p .store) ds))
-      → Within (received (historyOf m (opens f p .store) ds)) (received (historyOf m (opens f o .store) cs))
-      → SameBytes f (leftBy m (opens f o .store) cs) (leftBy m (opens f p .store) ds)
-  pub refused-right : (o : Opening) → NotRefused f o → (cs : List Call) → AreValues f cs → (e : Event) → e ∈ historyOf m (opens f o .store) cs → RefusedRight f o e
-  pub sound : (o : Opening) → NotRefused f o → (cs : List Call) → AreValues f cs → Sound f (leftBy m (opens f o .store) cs)
-
--- And a refusal has one of 01's numbers: there is no refusal 0.
-pub record Meets (f : Figures) (m : Steps) : Type 0 where
-  pub clauses : Clauses f m
-  pub no-refusal-0 : (o : Opening) → NotRefused f o → (cs : List Call) → AreValues f cs → (e : Event) → e ∈ historyOf m (opens f o .store) cs
-      → verdictIn (e .answered) ≡ Refused 0 ∷ [] → ⊥
+use Rattle.convergence.specs.History.{Call, ingest, forget-entry, forget-area, Answer, of-ingest, of-entry, of-area, answer, after, Steps}
+use Rattle.convergence.specs.Demand.{Opening, opens, Demand3}
 
 -- Demand 2 of the answers: the definitions that the contracts cite.
 abbrev pub AnswersRight : Figures → Steps → Type 0
@@ -128,13 +89,13 @@ made-up-count n = record { answers = λ s c. countMade n (answer field s c); lea
 
 -- None of them is let through.
 pub record ShutOut : Type 0 where
-  pub filing-nothing : Meets field files-nothing → ⊥
-  pub filing-the-first : Meets field first-only → ⊥
-  pub full-below-the-limit : Meets field full-at-1 → ⊥
-  pub refusing-everybody : (n : ℕ) → Meets field (refuses-all n) → ⊥
+  pub filing-nothing : Demand3 field files-nothing → ⊥
+  pub filing-the-first : Demand3 field first-only → ⊥
+  pub full-below-the-limit : Demand3 field full-at-1 → ⊥
+  pub refusing-everybody : (n : ℕ) → Demand3 field (refuses-all n) → ⊥
   pub refusing-every-opening : (n : ℕ) → (n ≡ 0 → ⊥) → ((o : Opening) → opens field o .answer .refusal ≡ n) → ⊥
-  pub refusing-without-a-number : Meets field silent → ⊥
-  pub pruning-one-tree : Meets field one-tree-pruned → ⊥
+  pub refusing-without-a-number : Demand3 field silent → ⊥
+  pub pruning-one-tree : Demand3 field one-tree-pruned → ⊥
   pub a-made-up-count : (n : ℕ) → AnswersRight field (made-up-count n) → ⊥
-  pub one-verdict-for-all : (v : IngestVerdict) (does : Store → Call → Store) → Meets field (one-verdict v does) → ⊥
+  pub one-verdict-for-all : (v : IngestVerdict) (does : Store → Call → Store) → Demand3 field (one-verdict v does) → ⊥
   pub one-answer-for-all : (v : IngestVerdict) (does : Store → Call → Store) → AnswersRight field (one-verdict v does) → ⊥
