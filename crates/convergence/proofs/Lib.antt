@@ -8,6 +8,7 @@ pub mod Reached
 pub mod Proved
 pub mod AnyOrder
 pub mod Kept
+pub mod Resent
 pub mod Meant
 pub mod Lines
 pub mod Computing

@@ -4,3 +4,4 @@ pub mod Demand
 pub mod Examination
 pub mod Examples
 pub mod WrongStores
+pub mod Resend
