@@ -1,7 +1,7 @@
 // The store: two trees of the same entries in lent buffers, one in subspace-first and one in time-first order. The public entries are
-// `open::open`, `ingest::ingest_entry_numbers`, `forget::forget_entry` and `forget::forget_area`: they have no `requires`. `check` and
-// `change` are for them, and for the crates above.
-pub mod change;
+// `open::open`, `ingest::ingest_entry_numbers`, `forget::forget_entry` and `forget::forget_area`: they have no `requires`. `check` is for
+// them and for the calls that only read; `change` is the store's own.
+mod change;
 pub mod check;
 pub mod forget;
 pub mod ingest;

@@ -2,7 +2,7 @@
 -- Assumes nothing.
 use mathlib.Core.Path.{_≡_, sym, ap, _∙_}
 use mathlib.Core.Bool.{Bool, true, false, not, _&&_}
-use lib.Dec.{eqb}
+use lib.Dec.{eqb, ltb}
 use Rattle.laws.specs.Prefix.{sameNumber, sameList}
 use Rattle.laws.proofs.Truth.{not-true, not-false}
 use Rattle.data_model.specs.Path.{components, isPrefix, samePath}
@@ -66,11 +66,11 @@ module _ (s : Subspace) (p : Path) (a : LengthyAuthorisedEntry) (q : Bool) (h : 
 
 -- Let through: payloads that are not all there, empty ones.
 module _ (g : QueryIgnoreParams) (a : LengthyAuthorisedEntry) where
-  pub through-short : (g .«ignore_incomplete_payloads» && not (eqb (a .available) (a .entry .«payload_length»))) ≡ true → false ≡ letThrough g (storedOf a)
+  pub through-short : (g .«ignore_incomplete_payloads» && ltb (a .available) (a .entry .«payload_length»)) ≡ true → false ≡ letThrough g (storedOf a)
   unfolding letThrough storedOf entryOf rankOf sameNumber
   through-short t = rw t
 
-  pub through-rest : (g .«ignore_incomplete_payloads» && not (eqb (a .available) (a .entry .«payload_length»))) ≡ false
+  pub through-rest : (g .«ignore_incomplete_payloads» && ltb (a .available) (a .entry .«payload_length»)) ≡ false
       → not (g .«ignore_empty_payloads» && eqb (a .entry .«payload_length») 0) ≡ letThrough g (storedOf a)
   unfolding letThrough storedOf entryOf rankOf sameNumber
   through-rest f = rw f

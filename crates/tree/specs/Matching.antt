@@ -1,6 +1,7 @@
 -- What is asked of a stored entry: is it newer than an entry below it, is it removed by one, does it stand at a place, in an area or a
 -- range, and do the ignore flags let it through.
 use mathlib.Core.Bool.{Bool, false, not, cond, _&&_}
+use lib.Dec.{ltb}
 use Rattle.laws.specs.Prefix.{sameNumber}
 use Rattle.data_model.specs.Path.{Components, samePath}
 use Rattle.data_model.specs.Subspace.{sameSubspace}
@@ -37,7 +38,7 @@ isForgotten a protects p x = inArea a x && not (cond protects (inArea p x) false
 -- Ignored: with less of its payload available than there is, if the first flag says so; of an empty payload, if the second does.
 unfoldable pub letThrough : QueryIgnoreParams → Stored → Bool
 letThrough g x =
-    not (g .«ignore_incomplete_payloads» && not (sameNumber (x .available) (x .entry .rank .«payload_length»))) &&
+    not (g .«ignore_incomplete_payloads» && ltb (x .available) (x .entry .rank .«payload_length»)) &&
     not (g .«ignore_empty_payloads» && sameNumber (x .entry .rank .«payload_length») 0)
 
 unfoldable pub listedInArea : Area → QueryIgnoreParams → Stored → Bool

@@ -85,7 +85,7 @@ pub fn let_through(ignore: QueryIgnoreParams, a: LengthyAuthorisedEntry) -> bool
 {
     let x = a.entry;
     let n = x.payload_length;
-    if ignore.ignore_incomplete_payloads & (a.available != n) {
+    if ignore.ignore_incomplete_payloads & (a.available < n) {
         return false;
     }
     !(ignore.ignore_empty_payloads & (n == 0))

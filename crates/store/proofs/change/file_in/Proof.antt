@@ -12,6 +12,8 @@ use Rattle.key_laws.specs.Bytes.{Bytes}
 use Rattle.tree.specs.Stored.{storedOf, tripleOf}
 use Rattle.store.proofs.ChangeLaws.{Handed, written-least, written-most, front-written, front-key, filing-formed, filing-numbers, filing-many, filing-bytes, filing-place, filing-done}
 use Rattle.tree.specs.Value.{valueLength}
+use Rattle.store.specs.Store.{recordMost}
+use Rattle.data_model.specs.Path.{field}
 
 handed : (c : tie.Start) → Handed (storedOf (c .args .a))
 unfolding tripleOf storedOf entryOf rankOf
@@ -27,7 +29,7 @@ least c = let p = c .before .before .before .before .before .before .before .bef
 most : (c : tie.After-encode-record) → c .encode-record .result ≤ length (c .encode-record .last .1 .1 .0)
 most c =
     let p = c .before .before .before .before .before .before .before .before .before .before .before .before .before .before .before .before .before .before in
-    omega (arith, c .encode-record .ensures .0, written-most (p .args .order) (p .args .a) (handed p) (p .pre .path), c .encode-record .kept .1 .1 .0, length-replicate {A = ℕ} 410 0)
+    omega (arith, c .encode-record .ensures .0, written-most (p .args .order) (p .args .a) (handed p) (p .pre .path), c .encode-record .kept .1 .1 .0, length-replicate {A = ℕ} (recordMost field) 0)
 
 slice-aggregate-mark-removed : tie.Need-slice-aggregate-mark-removed
 slice-aggregate-mark-removed c = search needs

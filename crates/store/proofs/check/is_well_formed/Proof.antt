@@ -32,7 +32,7 @@ slice-aggregate-well-formed-trees-4 : tie.Need-slice-aggregate-well-formed-trees
 slice-aggregate-well-formed-trees-4 c = let r = rooms field (storeOf (c .before .before .before .before .before .before .before .before .before .before .args .state) (c .before .before .before .before .before .before .before .before .before .before .args .spt .now) (c .before .before .before .before .before .before .before .before .before .before .args .«spt-dir» .now) (c .before .before .before .before .before .before .before .before .before .before .args .tsp .now) (c .before .before .before .before .before .before .before .before .before .before .args .«tsp-dir» .now)) (c .before .before .before .before .before .before .before .before .before .before .pre .1) in sym (length-take-le _ _ (r .tspDir))
 
 well-formed-trees-requires : tie.Need-well-formed-trees-requires
-well-formed-trees-requires c κs = let m = limit-most _ (c .before .before .before .before .before .before .before .before .before .before .pre .0) in let r = rooms field (storeOf (c .before .before .before .before .before .before .before .before .before .before .args .state) (c .before .before .before .before .before .before .before .before .before .before .args .spt .now) (c .before .before .before .before .before .before .before .before .before .before .args .«spt-dir» .now) (c .before .before .before .before .before .before .before .before .before .before .args .tsp .now) (c .before .before .before .before .before .before .before .before .before .before .args .«tsp-dir» .now)) (c .before .before .before .before .before .before .before .before .before .before .pre .1) in let l = r .spt in let k = r .tsp in (omega (arith, length-take-le (410 * c .before .before .before .before .before .before .before .before .before .before .args .state .limit) (c .before .before .before .before .before .before .before .before .before .before .args .spt .now) l), omega (arith, length-take-le (410 * c .before .before .before .before .before .before .before .before .before .before .args .state .limit) (c .before .before .before .before .before .before .before .before .before .before .args .tsp .now) k))
+well-formed-trees-requires c κs = let m = limit-most _ (c .before .before .before .before .before .before .before .before .before .before .pre .0) in let r = rooms field (storeOf (c .before .before .before .before .before .before .before .before .before .before .args .state) (c .before .before .before .before .before .before .before .before .before .before .args .spt .now) (c .before .before .before .before .before .before .before .before .before .before .args .«spt-dir» .now) (c .before .before .before .before .before .before .before .before .before .before .args .tsp .now) (c .before .before .before .before .before .before .before .before .before .before .args .«tsp-dir» .now)) (c .before .before .before .before .before .before .before .before .before .before .pre .1) in let l = r .spt in let k = r .tsp in (omega (arith, length-take-le _ (c .before .before .before .before .before .before .before .before .before .before .args .spt .now) l), omega (arith, length-take-le _ (c .before .before .before .before .before .before .before .before .before .before .args .tsp .now) k))
 
 returns-2 : tie.Need-returns-2
 unfolding treeOf dirOf

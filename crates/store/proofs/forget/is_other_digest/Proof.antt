@@ -10,6 +10,7 @@ use lib.Seq.{length-take-le}
 use Rattle.data_model.specs.Path.{components}
 use Rattle.tree.proofs.FormedLaws.{formed-bounds}
 use Rattle.store.proofs.ForgetLaws.{digest-absent, digest-there, digest-long}
+use Rattle.store.specs.Store.{limitMost}
 
 expected-long : (c : tie.Start) → length (c .args .t7) ≡ 32
 expected-long c = search needs
@@ -24,7 +25,7 @@ array-share-prefix-marks : tie.Need-array-share-prefix-marks
 array-share-prefix-marks c = search needs
 
 slice-aggregate-first-marked : tie.Need-slice-aggregate-first-marked
-slice-aggregate-first-marked c = let p = (c .before .before .before .before .before .before) in let g = c .before .before .mark-at in sym (length-take-le (p .args .count) (g .last .1 .1 .1 .1 .1 .1 .1 .0) (omega (arith, p .pre .1, g .kept .1 .1 .1 .1 .1 .1 .1 .0, length-replicate {A = ℕ} 1024 0)))
+slice-aggregate-first-marked c = let p = (c .before .before .before .before .before .before) in let g = c .before .before .mark-at in sym (length-take-le (p .args .count) (g .last .1 .1 .1 .1 .1 .1 .1 .0) (omega (arith, p .pre .1, g .kept .1 .1 .1 .1 .1 .1 .1 .0, length-replicate {A = ℕ} limitMost 0)))
 
 first-marked-requires : tie.Need-first-marked-requires
 first-marked-requires c κs = search needs

@@ -8,6 +8,7 @@ use Rattle.store.proofs.DecideLaws.{marks-few, decided-old, decided-pre
 use borrow.Author.Needs.{needs}
 use Rattle.store.proofs.ingest.decide.Statement.{statement}
 use Rattle.store.proofs.ingest.decide.Tie as tie
+use Rattle.store.specs.Store.{limitMost}
 
 slice-aggregate-mark-outdating : tie.Need-slice-aggregate-mark-outdating
 slice-aggregate-mark-outdating c = search needs
@@ -21,7 +22,7 @@ array-share-prefix-marks c = search needs
 slice-aggregate-first-marked : tie.Need-slice-aggregate-first-marked
 slice-aggregate-first-marked c =
     let g = c .before .before .mark-outdating in
-    sym (length-take-le (c .before .before .before .before .before .before .args .count) (g .last .1 .1 .1 .1 .1 .1 .0) (omega (arith, c .before .before .before .before .before .before .pre .1, g .kept .1 .1 .1 .1 .1 .1 .0, length-replicate {A = ℕ} 1024 0)))
+    sym (length-take-le (c .before .before .before .before .before .before .args .count) (g .last .1 .1 .1 .1 .1 .1 .0) (omega (arith, c .before .before .before .before .before .before .pre .1, g .kept .1 .1 .1 .1 .1 .1 .0, length-replicate {A = ℕ} limitMost 0)))
 
 first-marked-requires : tie.Need-first-marked-requires
 first-marked-requires c κs = search needs
@@ -45,7 +46,7 @@ array-share-prefix-removed c = search needs
 slice-aggregate-count-marked : tie.Need-slice-aggregate-count-marked
 slice-aggregate-count-marked c =
     let g = c .before .before .mark-removed in
-    sym (length-take-le (c .before .before .before .before .before .before .before .before .before .before .before .before .args .count) (g .last .1 .1 .1 .1 .1 .1 .0) (omega (arith, c .before .before .before .before .before .before .before .before .before .before .before .before .pre .1, g .kept .1 .1 .1 .1 .1 .1 .0, length-replicate {A = ℕ} 1024 0)))
+    sym (length-take-le (c .before .before .before .before .before .before .before .before .before .before .before .before .args .count) (g .last .1 .1 .1 .1 .1 .1 .0) (omega (arith, c .before .before .before .before .before .before .before .before .before .before .before .before .pre .1, g .kept .1 .1 .1 .1 .1 .1 .0, length-replicate {A = ℕ} limitMost 0)))
 
 count-marked-requires : tie.Need-count-marked-requires
 count-marked-requires c κs = search needs
@@ -67,7 +68,7 @@ sub-if3 : tie.Need-sub-if3
 sub-if3 c =
     let p = c .before .before .before .before .before .before .before .before .before .before .before .before .before .before .before in
     let r = c .before .before .before .before .before .mark-removed in
-    omega (arith, p .pre .1, c .before .before .count-marked .ensures, marks-few (p .args .count) (r .last .1 .1 .1 .1 .1 .1 .0) (omega (arith, p .pre .1, r .kept .1 .1 .1 .1 .1 .1 .0, length-replicate {A = ℕ} 1024 0)))
+    omega (arith, p .pre .1, c .before .before .count-marked .ensures, marks-few (p .args .count) (r .last .1 .1 .1 .1 .1 .1 .0) (omega (arith, p .pre .1, r .kept .1 .1 .1 .1 .1 .1 .0, length-replicate {A = ℕ} limitMost 0)))
 
 returns-3 : tie.Need-returns-3
 returns-3 c =

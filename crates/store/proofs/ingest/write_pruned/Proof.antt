@@ -9,6 +9,7 @@ use Rattle.store.proofs.DecideLaws.{marks-few, pruned-pairs}
 use borrow.Author.Needs.{needs}
 use Rattle.store.proofs.ingest.write_pruned.Statement.{statement}
 use Rattle.store.proofs.ingest.write_pruned.Tie as tie
+use Rattle.store.specs.Store.{limitMost}
 
 slice-aggregate-mark-removed : tie.Need-slice-aggregate-mark-removed
 slice-aggregate-mark-removed c = search needs
@@ -22,13 +23,13 @@ array-share-prefix-marks c = search needs
 slice-aggregate-write-pairs : tie.Need-slice-aggregate-write-pairs
 slice-aggregate-write-pairs c =
     let g = c .before .before .mark-removed in
-    sym (length-take-le (c .before .before .before .before .before .before .before .args .count) (g .last .1 .1 .1 .1 .1 .1 .0) (omega (arith, c .before .before .before .before .before .before .before .pre .1, g .kept .1 .1 .1 .1 .1 .1 .0, length-replicate {A = ℕ} 1024 0)))
+    sym (length-take-le (c .before .before .before .before .before .before .before .args .count) (g .last .1 .1 .1 .1 .1 .1 .0) (omega (arith, c .before .before .before .before .before .before .before .pre .1, g .kept .1 .1 .1 .1 .1 .1 .0, length-replicate {A = ℕ} limitMost 0)))
 
 write-pairs-requires : tie.Need-write-pairs-requires
 write-pairs-requires c κs =
     let p = c .before .before .before .before .before .before .before .before in
     let g = c .before .before .before .mark-removed in
-    let h : p .args .count ≤ length (g .last .1 .1 .1 .1 .1 .1 .0) = omega (arith, p .pre .1, g .kept .1 .1 .1 .1 .1 .1 .0, length-replicate {A = ℕ} 1024 0) in
+    let h : p .args .count ≤ length (g .last .1 .1 .1 .1 .1 .1 .0) = omega (arith, p .pre .1, g .kept .1 .1 .1 .1 .1 .1 .0, length-replicate {A = ℕ} limitMost 0) in
     let n = length-take-le (p .args .count) (g .last .1 .1 .1 .1 .1 .1 .0) h in
     let f = p .pre .0 .few in
     let r = p .pre .3 in

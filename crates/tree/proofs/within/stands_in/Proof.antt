@@ -35,7 +35,7 @@ array-share-prefix-key c = omega (arith, long (c .before))
 slice-aggregate-has-record : tie.Need-slice-aggregate-has-record
 slice-aggregate-has-record c =
     let g = c .before .before .encode-key in
-    sym (length-take-le (g .result) (g .last .1 .1 .1 .1 .0) (omega (arith, long (c .before .before), g .kept .1 .1 .1 .1 .0, length-replicate {A = ℕ} 298 0)))
+    sym (length-take-le (g .result) (g .last .1 .1 .1 .1 .0) (omega (arith, long (c .before .before), g .kept .1 .1 .1 .1 .0, length-replicate {A = ℕ} (keyMost field) 0)))
 
 value-at-requires : tie.Need-value-at-requires
 value-at-requires c κs = formed-bounds (c .before .before .before .before .before .before .before .before .before .before .before .before .pre .0) (c .before .before .before .before .before .before .before .before .before .before .before .before .args .k) (c .before .before .before .before .before .before .before .before .before .before .before .before .pre .2)
