@@ -25,8 +25,8 @@ use Rattle.tree.specs.declared.stored.KeyOrder.the-variants.{Spt}
 use Rattle.store.specs.Store.{Store, dirRoom, held, Held, heldBy}
 use Rattle.store.specs.Refusal.{unless, _orElse_, storeRefusal}
 use Rattle.store.specs.Ingest.{sptLess, filing, stays, filedIn, filed, Decision, refuse, obsolete, take-it, decidedOf, decided, ingestRefusal, judged, carried, ingested}
-use Rattle.convergence.specs.History.{Call, ingest, forget-entry, forget-area, answer, after, history, receipt, received, Ingestions, EntryIsValue, IsValue, AreValues, historyOf}
-use Rattle.convergence.specs.Demand.{Opening, opens, NotRefused, leaves, receives, Keeps, Plain, Within, SameBytes}
+use Rattle.convergence.specs.History.{Opening, opens, Call, ingest, forget-entry, forget-area, answer, after, history, receipt, received, Ingestions, EntryIsValue, IsValue, AreValues, historyOf}
+use Rattle.convergence.specs.Demand.{NotRefused, leaves, receives, Keeps, Plain, Within, SameBytes}
 use Rattle.convergence.specs.Examination.{Willing, AllWilling, handed, Place, placeOf, Placed}
 use Rattle.store.proofs.Counted.{insert-length, Differ, differ-length}
 use Rattle.store.proofs.Meaning.{SoundHeld, never-beside, sound-filed}

@@ -4,6 +4,7 @@ pub mod Reasons
 pub mod Judged
 pub mod Refused
 pub mod Stands
+pub mod Openings
 pub mod Reached
 pub mod Proved
 pub mod AnyOrder

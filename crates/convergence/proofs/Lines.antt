@@ -20,8 +20,8 @@ use Rattle.store.specs.Store.{Store, treeRoom, dirRoom, treeOf, Held, heldBy}
 use Rattle.store.specs.Refusal.{unless, _orElse_, limitOk, roomy}
 use Rattle.store.specs.Open.{nothing, openRefusal, openAnswer, opened}
 use Rattle.store.specs.declared.ingest.IngestVerdict.{IngestVerdict}
-use Rattle.convergence.specs.History.{Ingestions, IsValue, AreValues}
-use Rattle.convergence.specs.Demand.{opens, NotRefused, leaves, receives}
+use Rattle.convergence.specs.History.{opens, Ingestions, IsValue, AreValues}
+use Rattle.convergence.specs.Demand.{NotRefused, leaves, receives}
 use Rattle.convergence.specs.Examples.{Line, namespace, valueIn, callOf, calls, filedAs, atLimit, Shows}
 use Rattle.store.proofs.Lifted.{listOf}
 use Rattle.convergence.proofs.Stands.{Stands, opens-stands}

@@ -16,8 +16,8 @@ use Rattle.store.specs.Open.{nothing}
 use Rattle.store.specs.Ingest.{filing, filed, Decision, refuse, obsolete, take-it, decided, judged, carried, ingested}
 use Rattle.store.specs.declared.ingest.IngestVerdict.{IngestVerdict}
 use Rattle.store.specs.declared.ingest.IngestVerdict.the-variants as verdict
-use Rattle.convergence.specs.History.{Call, ingest, forget-entry, forget-area, of-ingest, answer, after, history, left, receipt, received, IsValue, AreValues, historyOf, leftBy}
-use Rattle.convergence.specs.Demand.{Opening, opens, NotRefused}
+use Rattle.convergence.specs.History.{Opening, opens, Call, ingest, forget-entry, forget-area, of-ingest, answer, after, history, left, receipt, received, IsValue, AreValues, historyOf, leftBy}
+use Rattle.convergence.specs.Demand.{NotRefused}
 use Rattle.convergence.specs.Examples.{verdictIn, verdictsIn}
 use Rattle.convergence.proofs.Judged.{when-decided, judged-taken}
 use Rattle.convergence.proofs.Stands.{Stands, held-taken, stands-after, keeps-after, asOpened, keeps-self, opens-stands}

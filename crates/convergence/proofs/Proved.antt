@@ -14,13 +14,14 @@ use Rattle.tree.specs.declared.stored.KeyOrder.{KeyOrder}
 use Rattle.tree.specs.declared.stored.KeyOrder.the-variants.{Spt, Tsp}
 use Rattle.store.specs.Store.{Store, treeRoom, treeOf, held, heldBy}
 use Rattle.store.specs.Ingest.{sptLess, tspLess}
-use Rattle.convergence.specs.History.{Call, ours, Ingestions, AreValues}
-use Rattle.convergence.specs.Demand.{Opening, opens, NotRefused, leaves, receives, Keeps, Plain, Current, Contents, Within, SameBytes, Sound, Demand3}
+use Rattle.convergence.specs.History.{Opening, opens, Call, ours, Ingestions, AreValues}
+use Rattle.convergence.specs.Demand.{NotRefused, leaves, receives, Keeps, Plain, Current, Contents, Within, SameBytes, Sound, Demand3}
 use Rattle.store.proofs.Meaning.{spt-linear, tsp-linear, before-irrefl, before-trans}
 use Rattle.convergence.proofs.Settled.{plain-part, Settled, settled-nothing, settled-current, within-same, current-same}
 use Rattle.store.proofs.Lifted.{held-in, fit-length, fit-ascends}
-use Rattle.convergence.proofs.Refused.{state-told}
-use Rattle.convergence.proofs.Stands.{Stands, stands-well, opens-stands, opens-told}
+use Rattle.convergence.proofs.Refused.{state-told, own-kind}
+use Rattle.convergence.proofs.Stands.{Stands, stands-well, opens-stands}
+use Rattle.convergence.proofs.Openings.{opens-right}
 use Rattle.convergence.proofs.Reached.{left-stands, left-keeps, history-right, settled-left}
 
 module _ (f : Figures) where
@@ -109,7 +110,8 @@ module _ (f : Figures) where
     refused-right = λ o h cs w e m. let v = opens-stands f o h in history-right f o (opens f o .store) cs (v .stands) (v .keeps) w e m;
     keeps = kept;
     sound = λ o h cs w. sound (leaves f o cs) (reached o h cs w);
-    opening-told = opens-told f;
+    opening-right = opens-right f;
+    answers-to = own-kind f;
     told = state-told f;
   }
 

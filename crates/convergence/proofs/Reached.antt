@@ -15,8 +15,8 @@ use Rattle.tree.specs.Stored.{Stored}
 use Rattle.tree.specs.Matching.{outdates}
 use Rattle.store.specs.Store.{Store, heldBy}
 use Rattle.store.specs.Ingest.{filing, Decision, refuse, obsolete, take-it, judged, carried, ingested}
-use Rattle.convergence.specs.History.{Call, ingest, forget-entry, forget-area, of-ingest, answer, after, Event, history, left, receipt, received, Ingestions, EntryIsValue, IsValue, AreValues, historyOf, leftBy}
-use Rattle.convergence.specs.Demand.{Opening, Keeps, Plain, RefusedRight}
+use Rattle.convergence.specs.History.{Opening, Call, ingest, forget-entry, forget-area, of-ingest, answer, after, Event, history, left, receipt, received, Ingestions, EntryIsValue, IsValue, AreValues, historyOf, leftBy}
+use Rattle.convergence.specs.Demand.{Keeps, Plain, RefusedRight}
 use Rattle.convergence.proofs.Settled.{plain-part, Settled, settled-same, settled-filed, settled-obsolete, shuffle}
 use Rattle.convergence.proofs.Judged.{judged-obsolete, judged-taken}
 use Rattle.convergence.proofs.Refused.{refused-so}

@@ -71,7 +71,7 @@ either p q = (λ h. ⊎-elim (λ a. inl (p .0 a)) (λ b. inr (q .0 b)) h, λ h. 
 through : {A B C : Type 0} → (A ↔ B) → (B ↔ C) → A ↔ C
 through p q = (λ a. q .0 (p .0 a), λ c. p .1 (q .1 c))
 
-limit-test : (n : ℕ) → (not (limitOk n) ≡ true) ↔ ((n < 1) ⊎ (limitMost < n))
+pub limit-test : (n : ℕ) → (not (limitOk n) ≡ true) ↔ ((n < 1) ⊎ (limitMost < n))
 unfolding limitOk
 limit-test n = through (not-and (leb 1 n) (leb n limitMost)) (either (short 1 n) (short n limitMost))
 

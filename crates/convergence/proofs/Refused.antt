@@ -14,9 +14,9 @@ use Rattle.store.specs.Store.{Store, wellFormedStore}
 use Rattle.store.specs.Refusal.{limitOk, roomy}
 use Rattle.store.specs.Ingest.{Decision, refuse, obsolete, take-it, judged, carried, ingested}
 use Rattle.store.specs.Forget.{forgetEntryRefusal, entryForgotten, forgetAreaRefusal, areaForgotten}
-use Rattle.convergence.specs.History.{Call, ingest, forget-entry, forget-area, answer, after, refusalIn, IsRefused, stateIn, IsObsolete}
+use Rattle.convergence.specs.History.{Opening, Call, ingest, forget-entry, forget-area, answer, after, refusalIn, IsRefused, stateIn, IsObsolete, AnswersTo}
 use Rattle.convergence.specs.Conditions.{Reason, limit-outside, short-buffer, not-well-formed, number, Condition, First, ShortPrune, ObsoleteWhere}
-use Rattle.convergence.specs.Demand.{Opening, Keeps, RefusedRight}
+use Rattle.convergence.specs.Demand.{Keeps, RefusedRight}
 use Rattle.convergence.proofs.Firsts.{later, upTo6, firstOf, number-positive, listed-early, early-listed, first-some, first-holds, first-is, first-none, first-zero}
 use Rattle.convergence.proofs.Reasons.{reasonTest, room-test, condition, outdated-test}
 use Rattle.convergence.proofs.Judged.{early-number, ingest-number, ingest-refused, obsolete-exactly, entry-number, area-number}
@@ -58,6 +58,12 @@ module _ (f : Figures) (s : Store) where
   )
 
   -- The state that is told is the one that is left.
+  pub own-kind : (c : Call) → AnswersTo c (answer f s c)
+  unfolding answer
+  own-kind (ingest prune e token prevent) = tt
+  own-kind (forget-entry subspace path expects digest) = tt
+  own-kind (forget-area area protects protected) = tt
+
   pub state-told : (c : Call) → stateIn (answer f s c) ≡ after f s c .state
   unfolding answer after ingested
   state-told (ingest prune e token prevent) = go (judged f s prune e prevent)

@@ -7,9 +7,9 @@ use native.Mathlib.Omega.{arith}
 use Rattle.data_model.specs.Path.{Figures}
 use Rattle.store.specs.Ingest.{verdictNumber, obsolete}
 use Rattle.store.specs.declared.ingest.IngestVerdict.the-variants.{Success}
-use Rattle.convergence.specs.History.{Answer, of-ingest, of-entry, of-area, answer, Event, refusalIn, IsObsolete}
+use Rattle.convergence.specs.History.{Opening, Answer, of-ingest, of-entry, of-area, answer, Event, refusalIn, IsObsolete}
 use Rattle.convergence.specs.Conditions.{Reason, number}
-use Rattle.convergence.specs.Demand.{Opening, RefusedRight}
+use Rattle.convergence.specs.Demand.{RefusedRight}
 use Rattle.convergence.specs.Examples.{verdictIn}
 use Rattle.convergence.proofs.Firsts.{first-some}
 use Rattle.convergence.proofs.Reasons.{reasonTest}

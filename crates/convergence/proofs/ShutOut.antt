@@ -1,14 +1,20 @@
 -- Each wrong store is refuted on a small history, by a clause of demand 3 or by the definition of the answer. Assumes nothing.
-use Prim.Native.Nat.{ℕ}
+use Rattle.laws.proofs.Truth.{split, clash, and-true}
+use Rattle.layout.specs.Layout.{records}
+use Rattle.tree.proofs.WellFormedLaws.{well-formed}
+use Rattle.tree.proofs.RecordLaws.{contents-length}
+use Rattle.store.proofs.CheckLaws.{or-none, unless-none}
+use mathlib.Core.Logic.{⊎-elim}
+use Prim.Native.Nat.{ℕ, _+_}
 use mathlib.Core.Path.{_≡_, refl, sym, ap, subst, _∙_}
-use mathlib.Core.Bool.{false}
+use mathlib.Core.Bool.{false, Bool, true, not}
 use mathlib.Core.List.{List, [], _∷_, List·Memᴰ·head as here, List·Memᴰ·not-nil as none-in}
 use native.Mathlib.Omega.{arith}
 use lib.ListN.{length}
-use lib.Dec.{leb}
-use borrow.Author.Tests.{eq-eqb, lt-leb}
+use lib.Dec.{leb, eqb}
+use borrow.Author.Tests.{eq-eqb, lt-leb, eqb-true}
 use Rattle.laws.specs.Sorted.{_∈_, keep}
-use Rattle.data_model.specs.Path.{field, legalEnds, legal, joined, endsFrom, valueOf, pathOf}
+use Rattle.data_model.specs.Path.{field, legalEnds, legal, joined, endsFrom, valueOf, pathOf, Figures}
 use Rattle.data_model.specs.Range.{includes, beforeEnd, timesEnd, timesInclude}
 use Rattle.data_model.specs.Area.{areaSubspace, areaIncludes}
 use Rattle.data_model.specs.declared.range.RangeEnd.the-variants as times
@@ -18,21 +24,23 @@ use Rattle.key_laws.proofs.EntryLaws.{prunes-irrefl}
 use Rattle.tree.specs.Stored.{Stored}
 use Rattle.tree.specs.Matching.{inArea, isForgotten}
 use Rattle.tree.specs.declared.stored.KeyOrder.the-variants.{Spt}
-use Rattle.store.specs.Store.{Store, dirRoom, held, Held, heldBy}
+use Rattle.store.specs.Store.{Store, dirRoom, held, Held, heldBy, wellFormedStore, wellFormedTree, treeOf, dirOf, holding}
 use Rattle.store.specs.Refusal.{unless, _orElse_, storeRefusal}
 use Rattle.store.specs.Ingest.{verdictNumber, refuse, ingestRefusal, judged, carried, ingested}
-use Rattle.store.specs.Forget.{forgetAreaRefusal, areaForgotten}
+use Rattle.store.specs.Forget.{forgetAreaRefusal, areaForgotten, without}
 use Rattle.store.specs.declared.ingest.IngestVerdict.{IngestVerdict}
 use Rattle.store.specs.declared.ingest.IngestVerdict.the-variants.{Obsolete, Refused}
-use Rattle.convergence.specs.History.{Call, ingest, forget-area, Answer, of-ingest, of-entry, of-area, answer, Event, historyOf, leftBy, received, refusalIn, IsValue}
-use Rattle.convergence.specs.Demand.{Opening, opens, Plain, Current, RefusedRight, Demand3}
+use Rattle.convergence.specs.History.{Opening, opens, Call, ingest, forget-area, answer, Event, historyOf, leftBy, received, refusalIn, IsValue, Steps, ours, after}
+use Rattle.convergence.specs.Conditions.{number}
+use Rattle.convergence.specs.Demand.{OpenedBy, Plain, Current, RefusedRight, Demand3}
 use Rattle.convergence.specs.Examples.{valueIn, tokenIn, callOf, calls, filedAs, atLimit, one, two}
-use Rattle.convergence.specs.WrongStores.{AnswersRight, files-nothing, saying, first-only, full-at-1, one-verdict, refuses-all, countMade, made-up-count, ShutOut}
+use Rattle.convergence.specs.WrongStores.{forgottenIn, CountsRight, files-nothing, turned, other-kind, saying, first-only, full-at-1, one-verdict, refuses-all, countMade, made-up-count, ShutOut}
 use Rattle.convergence.proofs.Stands.{Stands, stands-well, opens-stands}
 use Rattle.convergence.proofs.Computing.{computing}
 use Rattle.convergence.proofs.Shown.{only}
 use Rattle.convergence.proofs.Lines.{line-value, lines-received, lines-stand}
 use Rattle.convergence.proofs.RightAnswers.{right-number, right-obsolete, success-number, success-current}
+use Rattle.convergence.proofs.Openings.{opens-right}
 use Rattle.convergence.proofs.OneEntry.{s0, s1, shows-one, count-0, count-1, first-answer, second-answer, first-value, first-right, second-right}
 use Rattle.convergence.proofs.Silent.{refusing-without-a-number}
 use Rattle.convergence.proofs.Ghosts.{pruning-one-tree}
@@ -67,7 +75,7 @@ filing-the-first : Demand3 field first-only → ⊥
 unfolding saying
 filing-the-first v =
     let e : Event = record { before = s1; call = callOf 2 two; answered = saying Obsolete s1 (callOf 2 two) } in
-    let r : RefusedRight field (atLimit 2) e = second-right first-only v (saying Obsolete s1 (callOf 2 two)) (rw count-0) (rw count-1) in
+    let r : RefusedRight field (atLimit 2) e = second-right first-only v refl (saying Obsolete s1 (callOf 2 two)) (rw count-0) (rw count-1) in
     success-current (answer field s1 (callOf 2 two)) 0 second-answer (right-obsolete field e r refl)
 
 -- Full below the limit.
@@ -75,7 +83,7 @@ full-below-the-limit : Demand3 field full-at-1 → ⊥
 unfolding saying refusalIn verdictNumber
 full-below-the-limit v =
     let e : Event = record { before = s1; call = callOf 2 two; answered = saying (Refused 8) s1 (callOf 2 two) } in
-    let r : RefusedRight field (atLimit 2) e = second-right full-at-1 v (saying (Refused 8) s1 (callOf 2 two)) (rw count-0) (rw count-1) in
+    let r : RefusedRight field (atLimit 2) e = second-right full-at-1 v refl (saying (Refused 8) s1 (callOf 2 two)) (rw count-0) (rw count-1) in
     let z : _≡_ {A = ℕ} 8 0 = right-number field e r ∙ success-number (answer field s1 (callOf 2 two)) 0 second-answer in
     omega arith
 
@@ -107,12 +115,8 @@ one-number n e g =
 one-verdict-for-all : (w : IngestVerdict) (does : Store → Call → Store) → Demand3 field (one-verdict w does) → ⊥
 unfolding saying
 one-verdict-for-all w does v = one-number (refusalIn (saying w s0 (callOf 2 one)))
-    (right-number field _ (first-right (one-verdict w does) v (callOf 2 one) first-value))
-    (right-number field _ (first-right (one-verdict w does) v careless careless-value))
-
-one-answer-for-all : (w : IngestVerdict) (does : Store → Call → Store) → AnswersRight field (one-verdict w does) → ⊥
-unfolding saying
-one-answer-for-all w does v = one-number (refusalIn (saying w s0 (callOf 2 one))) (ap refusalIn (v s0 (callOf 2 one))) (ap refusalIn (v s0 careless))
+    (right-number field _ (first-right (one-verdict w does) v refl (callOf 2 one) first-value))
+    (right-number field _ (first-right (one-verdict w does) v refl careless careless-value))
 
 -- A made-up count: nothing is forgotten of the empty store, one entry of the next.
 abbrev everything : Area
@@ -121,21 +125,21 @@ everything = record { subspace = Any; path = pathOf []; times = record { start =
 abbrev forget-all : Call
 forget-all = forget-area everything false everything
 
-unfoldable forgottenIn : Answer → ℕ
-forgottenIn (of-ingest r) = 0
-forgottenIn (of-entry r) = 0
-forgottenIn (of-area r) = r .forgotten
-
 forgotten-made : (n : ℕ) (s : Store) → forgottenIn (countMade n (answer field s forget-all)) ≡ n
 unfolding forgottenIn countMade answer
 forgotten-made n s = refl
 
+all-legal : (s : Store) → Stands field s → forgetAreaRefusal field s everything false everything ≡ 0
+unfolding forgetAreaRefusal storeRefusal unless _orElse_ legalEnds legal joined endsFrom valueOf pathOf
+all-legal s v = rw (v .limit, v .room, stands-well field s v)
+
+all-done : (s : Store) → Stands field s → refusalIn (answer field s forget-all) ≡ 0
+unfolding refusalIn answer areaForgotten
+all-done s v = rw (eq-eqb (forgetAreaRefusal field s everything false everything) 0 (all-legal s v))
+
 forgotten-so : (s : Store) → Stands field s → forgottenIn (answer field s forget-all) ≡ length (keep (isForgotten everything false everything) (held field Spt s))
 unfolding forgottenIn answer areaForgotten
-forgotten-so s v = rw (eq-eqb (forgetAreaRefusal field s everything false everything) 0 right)
-  where
-    right : forgetAreaRefusal field s everything false everything ≡ 0
-    right = unfold forgetAreaRefusal storeRefusal unless _orElse_ legalEnds legal joined endsFrom valueOf pathOf in rw (v .limit, v .room, stands-well field s v)
+forgotten-so s v = rw (eq-eqb (forgetAreaRefusal field s everything false everything) 0 (all-legal s v))
 
 forgotten-0 : forgottenIn (answer field s0 forget-all) ≡ 0
 unfolding heldBy keep
@@ -147,21 +151,76 @@ forgotten-1 : forgottenIn (answer field s1 forget-all) ≡ 1
 unfolding leftBy computing isForgotten inArea areaIncludes areaSubspace timesInclude includes beforeEnd timesEnd
 forgotten-1 = forgotten-so s1 (lines-stand 2 refl (one ∷ []) refl) ∙ ap (λ (l : List Stored). length (keep (isForgotten everything false everything) l)) (shows-one .listed)
 
-a-made-up-count : (n : ℕ) → AnswersRight field (made-up-count n) → ⊥
+-- What is forgotten and what is left make up what there was.
+keep-both : {A : Type 0} (p : A → Bool) (l : List A) → length (keep p l) + length (keep (λ (x : A). not (p x)) l) ≡ length l
+unfolding keep
+keep-both p [] = refl
+keep-both p (a ∷ l) = let h = keep-both p l in split (p a) (λ q. rw q (omega arith)) (λ q. rw q (omega arith))
+
+well-count : (f : Figures) (s : Store) → wellFormedStore f s ≡ true → s .state .count ≡ length (held f Spt s)
+unfolding wellFormedStore wellFormedTree held
+well-count f s w =
+    let rs = records (s .state .count) (dirOf Spt s) (treeOf f Spt s) in
+    let k = and-true (leb (s .state .count) (s .state .limit)) _ w in
+    let t = and-true (wellFormedTree f Spt s) _ (k .1) .0 in
+    sym (contents-length Spt f (s .state .«namespace_id») rs ∙ well-formed Spt f (s .state .count) (dirOf Spt s) (treeOf f Spt s) .0 t .many)
+
+area-well : (f : Figures) (s : Store) (area : Area) (protects : Bool) (protected : Area) → forgetAreaRefusal f s area protects protected ≡ 0 → wellFormedStore f s ≡ true
+unfolding forgetAreaRefusal storeRefusal
+area-well f s area protects protected e =
+    let a = or-none (storeRefusal f s true) _ e .0 in
+    let b = or-none _ _ a .1 in
+    unless-none (wellFormedStore f s) 3 (omega arith) (or-none _ _ b .1)
+
+counts-right : (f : Figures) → CountsRight (ours f)
+unfolding answer after areaForgotten refusalIn forgottenIn holding without heldBy
+counts-right f s area protects protected = split (eqb (forgetAreaRefusal f s area protects protected) 0)
+    (λ q. rw q λ z. keep-both (isForgotten area protects protected) (held f Spt s) ∙ sym (well-count f s (area-well f s area protects protected (eqb-true (forgetAreaRefusal f s area protects protected) 0 q))))
+    (λ q. rw q λ z. clash (eq-eqb (forgetAreaRefusal f s area protects protected) 0 z) q)
+
+made-up-done : (n : ℕ) (s : Store) → refusalIn (countMade n (answer field s forget-all)) ≡ refusalIn (answer field s forget-all)
+unfolding refusalIn countMade answer
+made-up-done n s = refl
+
+-- The count that is said is the one that ours says.
+count-said : (n : ℕ) → CountsRight (made-up-count n) → (s : Store) → Stands field s → n ≡ forgottenIn (answer field s forget-all)
+count-said n v s k =
+    let a = v s everything false everything (made-up-done n s ∙ all-done s k) in
+    let b = counts-right field s everything false everything (all-done s k) in
+    let c = forgotten-made n s in
+    omega arith
+
+a-made-up-count : (n : ℕ) → CountsRight (made-up-count n) → ⊥
+unfolding leftBy computing
 a-made-up-count n v =
-    let a : n ≡ 0 = sym (forgotten-made n s0) ∙ ap forgottenIn (v s0 forget-all) ∙ forgotten-0 in
-    let b : n ≡ 1 = sym (forgotten-made n s1) ∙ ap forgottenIn (v s1 forget-all) ∙ forgotten-1 in
+    let a = count-said n v s0 (opens-stands field (atLimit 2) (shows-one .opened) .stands) ∙ forgotten-0 in
+    let b = count-said n v s1 (lines-stand 2 refl (one ∷ []) refl) ∙ forgotten-1 in
     omega arith
 
 -- It refuses everybody.
 refusing-everybody : (n : ℕ) → Demand3 field (refuses-all n) → ⊥
 refusing-everybody n = one-verdict-for-all (Refused n) (λ s c. s)
 
-refusing-every-opening : (n : ℕ) → (n ≡ 0 → ⊥) → ((o : Opening) → opens field o .answer .refusal ≡ n) → ⊥
-refusing-every-opening n h v = h (sym (v (atLimit 2)) ∙ shows-one .opened)
+-- It opens nothing: an opening with a limit and room for it is not refused.
+refusing-every-opening : (m : Steps) → ((o : Opening) → OpenedBy m o → ⊥) → Demand3 field m → ⊥
+unfolding number
+refusing-every-opening m never v =
+    let r = v .opening-right (atLimit 2) in
+    let q = opens-right field (atLimit 2) in
+    let z = shows-one .opened in
+    ⊎-elim (never (atLimit 2)) (λ h. ⊎-elim
+    (λ e. let k : opens field (atLimit 2) .answer .refusal ≡ 1 = q .refused-1 .1 (r .refused-1 .0 e) in omega (arith, z, k))
+    (λ e. let k : opens field (atLimit 2) .answer .refusal ≡ 2 = q .refused-2 .1 (r .refused-2 .0 e) in omega (arith, z, k))
+    h) (r .no-other)
+
+-- It answers an ingestion as a forgetting.
+answering-in-another-kind : Demand3 field other-kind → ⊥
+unfolding turned
+answering-in-another-kind v = v .answers-to s0 (callOf 2 one)
 
 pub shut-out : ShutOut
 shut-out = record {
+  counts-right = counts-right;
   filing-nothing = filing-nothing;
   filing-the-first = filing-the-first;
   full-below-the-limit = full-below-the-limit;
@@ -171,5 +230,5 @@ shut-out = record {
   pruning-one-tree = pruning-one-tree;
   a-made-up-count = a-made-up-count;
   one-verdict-for-all = one-verdict-for-all;
-  one-answer-for-all = one-answer-for-all;
+  answering-in-another-kind = answering-in-another-kind;
 }

@@ -28,8 +28,8 @@ use Rattle.store.specs.Refusal.{unless, _orElse_, limitOk, roomy}
 use Rattle.store.specs.Open.{nothing, emptyState, openRefusal, openAnswer, opened}
 use Rattle.store.specs.Ingest.{sptLess, filing, stays, filedIn, filed, Decision, refuse, obsolete, take-it, judged, carried, ingested}
 use Rattle.store.specs.Forget.{without, forgetEntryRefusal, entryForgotten, forgetAreaRefusal, areaForgotten}
-use Rattle.convergence.specs.History.{Call, ingest, forget-entry, forget-area, after, EntryIsValue, IsValue}
-use Rattle.convergence.specs.Demand.{Opening, opens, NotRefused, Keeps}
+use Rattle.convergence.specs.History.{Opening, opens, Call, ingest, forget-entry, forget-area, after, EntryIsValue, IsValue}
+use Rattle.convergence.specs.Demand.{NotRefused, Keeps}
 use Rattle.store.proofs.Counted.{keep-length, insert-length}
 use Rattle.store.proofs.Meaning.{sound-nothing, sound-without, sound-filed}
 use Rattle.convergence.proofs.Judged.{Taken, judged-taken}

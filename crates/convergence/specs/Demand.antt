@@ -1,8 +1,7 @@
 -- Demand 3: one statement about lists of calls, of whatever length, after an opening that was not refused. `demand-3` proves it of ours.
-use Prim.Native.Nat.{ℕ}
 use mathlib.Core.Path.{_≡_}
 use mathlib.Core.Logic.{_⊎_, _↔_}
-use mathlib.Core.List.{List, _++_, map}
+use mathlib.Core.List.{List, [], _++_, map}
 use mathlib.Core.Bool.{true, false}
 use lib.ListN.{length}
 use Rattle.laws.specs.Sorted.{_∈_, Ascends}
@@ -12,38 +11,29 @@ use Rattle.data_model.specs.Entry.{Entry, prunes}
 use Rattle.tree.specs.Stored.{Stored, recordOf, keyBelow}
 use Rattle.tree.specs.declared.stored.KeyOrder.{KeyOrder}
 use Rattle.tree.specs.declared.stored.KeyOrder.the-variants.{Spt, Tsp}
-use Rattle.store.specs.Store.{Lent, Store, treeRoom, dirRoom, treeOf, dirOf, held, wellFormedStore}
-use Rattle.store.specs.Open.{OpenOutcome, opening}
-use Rattle.convergence.specs.History.{Call, Event, Steps, ours, historyOf, leftBy, received, refusalIn, IsRefused, stateIn, IsObsolete, Ingestions, AreValues}
-use Rattle.convergence.specs.Conditions.{Reason, limit-outside, short-buffer, not-well-formed, number, First, ShortPrune, ObsoleteWhere}
+use Rattle.store.specs.Store.{Lent, Store, storeOf, treeRoom, dirRoom, treeOf, dirOf, held, wellFormedStore}
+use Rattle.store.specs.Open.{OpenOutcome, emptyState, noState}
+use Rattle.convergence.specs.History.{Opening, Call, AnswersTo, Event, Steps, ours, historyOf, leftBy, received, refusalIn, IsRefused, stateIn, IsObsolete, Ingestions, AreValues}
+use Rattle.convergence.specs.Conditions.{LimitOutside, ShortBuffer, Reason, limit-outside, short-buffer, not-well-formed, number, First, ShortPrune, ObsoleteWhere}
 
--- An opening: whatever namespace, limit and buffers.
-pub record Opening : Type 0 where
-  pub namespace : List ℕ
-  pub limit : ℕ
-  pub spt : List ℕ
-  pub sptDir : List ℕ
-  pub tsp : List ℕ
-  pub tspDir : List ℕ
-
-unfoldable pub opens : Figures → Opening → OpenOutcome
-opens f o = opening f (o .namespace) (o .limit) (o .spt) (o .sptDir) (o .tsp) (o .tspDir)
+abbrev pub OpenedBy : Steps → Opening → Type 0
+OpenedBy m o = m .opening o .answer .refusal ≡ 0
 
 abbrev pub NotRefused : Figures → Opening → Type 0
-NotRefused f o = opens f o .answer .refusal ≡ 0
+NotRefused f = OpenedBy (ours f)
 
 -- What a list of calls after it leaves, and what it received: of any store that answers these calls, and of ours.
-abbrev pub leavesBy : Figures → Steps → Opening → List Call → Store
-leavesBy f m o cs = leftBy m (opens f o .store) cs
+abbrev pub leavesBy : Steps → Opening → List Call → Store
+leavesBy m o cs = leftBy m (m .opening o .store) cs
 
-abbrev pub receivesBy : Figures → Steps → Opening → List Call → List Stored
-receivesBy f m o cs = received (historyOf m (opens f o .store) cs)
+abbrev pub receivesBy : Steps → Opening → List Call → List Stored
+receivesBy m o cs = received (historyOf m (m .opening o .store) cs)
 
 abbrev pub leaves : Figures → Opening → List Call → Store
-leaves f = leavesBy f (ours f)
+leaves f = leavesBy (ours f)
 
 abbrev pub receives : Figures → Opening → List Call → List Stored
-receives f = receivesBy f (ours f)
+receives f = receivesBy (ours f)
 
 -- A store keeps what it was opened with.
 pub record Keeps (f : Figures) (o : Opening) (s : Store) : Type 0 where
@@ -109,19 +99,37 @@ pub record Sound (f : Figures) (s : Store) : Type 0 where
   pub same : (x : Stored) → x ∈ held f Spt s ↔ x ∈ held f Tsp s
   pub well-formed : wellFormedStore f s ≡ true
 
+-- What an opening asks for: the buffers, with the state that it would have.
+abbrev pub asked : Opening → Store
+asked o = storeOf (emptyState (o .namespace) (o .limit)) (o .spt) (o .sptDir) (o .tsp) (o .tspDir)
+
+-- An opening is refused with 1 or 2, exactly where 01 says so, and then its state is all 0 and the buffers are as they were lent. Else the store
+-- is well-formed, keeps what it was opened with, and holds nothing.
+pub record OpeningRight (f : Figures) (o : Opening) (r : OpenOutcome) : Type 0 where
+  pub refused-1 : (r .answer .refusal ≡ number limit-outside) ↔ LimitOutside (asked o)
+  pub refused-2 : (r .answer .refusal ≡ number short-buffer) ↔ ((LimitOutside (asked o) → ⊥) × ShortBuffer f (asked o))
+  pub no-other : (r .answer .refusal ≡ 0) ⊎ ((r .answer .refusal ≡ number limit-outside) ⊎ (r .answer .refusal ≡ number short-buffer))
+  pub refused : (r .answer .refusal ≡ 0 → ⊥) → r .store ≡ storeOf noState (o .spt) (o .sptDir) (o .tsp) (o .tspDir)
+  pub keeps : r .answer .refusal ≡ 0 → Keeps f o (r .store)
+  pub empty : r .answer .refusal ≡ 0 → (k : KeyOrder) → held f k (r .store) ≡ []
+  pub well-formed : r .answer .refusal ≡ 0 → wellFormedStore f (r .store) ≡ true
+  pub told : r .answer .state ≡ r .store .state
+
 pub record Demand3 (f : Figures) (m : Steps) : Type 0 where
   -- Each tree holds exactly the received entries that no received entry prunes.
-  pub contents : (o : Opening) → NotRefused f o → (cs : List Call) → AreValues f cs → Ingestions cs → Plain (receivesBy f m o cs)
-      → (k : KeyOrder) → Contents f k (leavesBy f m o cs) (receivesBy f m o cs)
+  pub contents : (o : Opening) → OpenedBy m o → (cs : List Call) → AreValues f cs → Ingestions cs → Plain (receivesBy m o cs)
+      → (k : KeyOrder) → Contents f k (leavesBy m o cs) (receivesBy m o cs)
   -- Two stores opened with one namespace and limit that received the same entries hold the same bytes in both trees.
-  pub agree : (o p : Opening) → NotRefused f o → NotRefused f p → o .namespace ≡ p .namespace → o .limit ≡ p .limit
-      → (cs ds : List Call) → AreValues f cs → AreValues f ds → Ingestions cs → Ingestions ds → Plain (receivesBy f m o cs ++ receivesBy f m p ds)
-      → Within (receivesBy f m o cs) (receivesBy f m p ds) → Within (receivesBy f m p ds) (receivesBy f m o cs)
-      → SameBytes f (leavesBy f m o cs) (leavesBy f m p ds)
+  pub agree : (o p : Opening) → OpenedBy m o → OpenedBy m p → o .namespace ≡ p .namespace → o .limit ≡ p .limit
+      → (cs ds : List Call) → AreValues f cs → AreValues f ds → Ingestions cs → Ingestions ds → Plain (receivesBy m o cs ++ receivesBy m p ds)
+      → Within (receivesBy m o cs) (receivesBy m p ds) → Within (receivesBy m p ds) (receivesBy m o cs)
+      → SameBytes f (leavesBy m o cs) (leavesBy m p ds)
   -- Without the premises, with forgetting anywhere.
-  pub refused-right : (o : Opening) → NotRefused f o → (cs : List Call) → AreValues f cs → (e : Event) → e ∈ historyOf m (opens f o .store) cs → RefusedRight f o e
-  pub keeps : (o : Opening) → NotRefused f o → (cs : List Call) → AreValues f cs → Keeps f o (leavesBy f m o cs)
-  pub sound : (o : Opening) → NotRefused f o → (cs : List Call) → AreValues f cs → Sound f (leavesBy f m o cs)
-  -- Every answer tells the state of the store that is left.
-  pub opening-told : (o : Opening) → opens f o .answer .state ≡ opens f o .store .state
+  pub refused-right : (o : Opening) → OpenedBy m o → (cs : List Call) → AreValues f cs → (e : Event) → e ∈ historyOf m (m .opening o .store) cs → RefusedRight f o e
+  pub keeps : (o : Opening) → OpenedBy m o → (cs : List Call) → AreValues f cs → Keeps f o (leavesBy m o cs)
+  pub sound : (o : Opening) → OpenedBy m o → (cs : List Call) → AreValues f cs → Sound f (leavesBy m o cs)
+  -- An opening is refused exactly where 01 says so, and else leaves a store that holds nothing.
+  pub opening-right : (o : Opening) → OpeningRight f o (m .opening o)
+  -- Every call is answered in its kind, and every answer tells the state of the store that is left.
+  pub answers-to : (s : Store) (c : Call) → AnswersTo c (m .answers s c)
   pub told : (s : Store) (c : Call) → stateIn (m .answers s c) ≡ m .leaves s c .state

@@ -16,8 +16,8 @@ use Rattle.store.specs.Store.{treeRoom, dirRoom, held}
 use Rattle.store.specs.Ingest.{filing}
 use Rattle.store.specs.declared.ingest.IngestVerdict.{IngestVerdict}
 use Rattle.store.specs.declared.ingest.IngestVerdict.the-variants.{Success, Obsolete, Refused}
-use Rattle.convergence.specs.History.{Call, ingest, Answer, of-ingest, of-entry, of-area, Event, history, Ingestions, AreValues}
-use Rattle.convergence.specs.Demand.{Opening, opens, NotRefused, leaves, receives, Tied, Plain, Contents, Within, SameBytes}
+use Rattle.convergence.specs.History.{Opening, opens, Call, ingest, Answer, of-ingest, of-entry, of-area, Event, history, Ingestions, AreValues}
+use Rattle.convergence.specs.Demand.{NotRefused, leaves, receives, Tied, Plain, Contents, Within, SameBytes}
 
 -- A line of the listing program, `in S P T L D`, and the byte that fills the token.
 pub record Line : Type 0 where

@@ -14,6 +14,7 @@ use Rattle.key_laws.specs.Bytes.{Bytes}
 use Rattle.tree.specs.Stored.{Stored}
 use Rattle.store.specs.Store.{Store}
 use Rattle.store.specs.Ingest.{verdictNumber, filing, ingested}
+use Rattle.store.specs.Open.{OpenOutcome, opening}
 use Rattle.store.specs.Forget.{entryForgotten, areaForgotten}
 use Rattle.store.specs.declared.state.State.{State}
 use Rattle.store.specs.declared.ingest.IngestVerdict.{IngestVerdict}
@@ -21,6 +22,18 @@ use Rattle.store.specs.declared.ingest.IngestVerdict.the-variants as verdict
 use Rattle.store.specs.declared.ingest.Ingested.{Ingested}
 use Rattle.store.specs.declared.forget.EntryForgotten.{EntryForgotten}
 use Rattle.store.specs.declared.forget.AreaForgotten.{AreaForgotten}
+
+-- An opening: whatever namespace, limit and buffers.
+pub record Opening : Type 0 where
+  pub namespace : List ℕ
+  pub limit : ℕ
+  pub spt : List ℕ
+  pub sptDir : List ℕ
+  pub tsp : List ℕ
+  pub tspDir : List ℕ
+
+unfoldable pub opens : Figures → Opening → OpenOutcome
+opens f o = opening f (o .namespace) (o .limit) (o .spt) (o .sptDir) (o .tsp) (o .tspDir)
 
 -- The calls that change a store, with all that is free in them: a prune list, an entry, a token, ...
 pub data Call : Type 0 where
@@ -44,19 +57,32 @@ after f s (ingest prune e token prevent) = ingested f s prune e token prevent .s
 after f s (forget-entry subspace path expects digest) = entryForgotten f s subspace path expects digest .store
 after f s (forget-area area protects protected) = areaForgotten f s area protects protected .store
 
+-- An answer of the call's own kind.
+abbrev pub AnswersTo : Call → Answer → Type 0
+AnswersTo (ingest prune e token prevent) (of-ingest r) = Unit
+AnswersTo (ingest prune e token prevent) (of-entry r) = ⊥
+AnswersTo (ingest prune e token prevent) (of-area r) = ⊥
+AnswersTo (forget-entry subspace path expects digest) (of-ingest r) = ⊥
+AnswersTo (forget-entry subspace path expects digest) (of-entry r) = Unit
+AnswersTo (forget-entry subspace path expects digest) (of-area r) = ⊥
+AnswersTo (forget-area area protects protected) (of-ingest r) = ⊥
+AnswersTo (forget-area area protects protected) (of-entry r) = ⊥
+AnswersTo (forget-area area protects protected) (of-area r) = Unit
+
 -- A call with the store that it was made on and its answer.
 pub record Event : Type 0 where
   pub before : Store
   pub call : Call
   pub answered : Answer
 
--- A store, by what it answers to a call and what the call leaves; and ours.
+-- A store, by how it opens, what it answers to a call and what the call leaves; and ours.
 pub record Steps : Type 0 where
+  pub opening : Opening → OpenOutcome
   pub answers : Store → Call → Answer
   pub leaves : Store → Call → Store
 
 abbrev pub ours : Figures → Steps
-ours f = record { answers = answer f; leaves = after f }
+ours f = record { opening = opens f; answers = answer f; leaves = after f }
 
 unfoldable pub historyOf : Steps → Store → List Call → List Event
 historyOf m s [] = []

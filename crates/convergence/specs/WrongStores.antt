@@ -1,27 +1,42 @@
 -- The wrong stores of 01's marking rule c: `shut-out` refutes demand 3 of each, and `demand-3` proves it of ours.
-use Prim.Native.Nat.{ℕ}
+use Prim.Native.Nat.{ℕ, _+_}
 use mathlib.Core.Path.{_≡_}
-use mathlib.Core.Bool.{cond}
+use mathlib.Core.Bool.{Bool, cond}
 use lib.Dec.{leb, eqb}
 use Rattle.laws.specs.Sorted.{insert}
 use Rattle.data_model.specs.Path.{Figures, field}
 use Rattle.data_model.specs.Entry.{entryOf}
+use Rattle.data_model.specs.declared.area.Area.{Area}
 use Rattle.tree.specs.Stored.{Stored}
 use Rattle.tree.specs.declared.stored.KeyOrder.the-variants.{Spt, Tsp}
 use Rattle.store.specs.Store.{Store, held, holding}
 use Rattle.store.specs.Ingest.{tspLess, filing, filedIn, Decision, refuse, obsolete, take-it, judged, plainAnswer}
+use Rattle.store.specs.declared.state.State.{State}
 use Rattle.store.specs.declared.ingest.IngestVerdict.{IngestVerdict}
 use Rattle.store.specs.declared.ingest.IngestVerdict.the-variants.{Success, Obsolete, Refused}
-use Rattle.convergence.specs.History.{Call, ingest, forget-entry, forget-area, Answer, of-ingest, of-entry, of-area, answer, after, Steps}
-use Rattle.convergence.specs.Demand.{Opening, opens, Demand3}
+use Rattle.convergence.specs.History.{Call, ingest, forget-entry, forget-area, Answer, of-ingest, of-entry, of-area, answer, after, Steps, ours, Opening, opens, refusalIn}
+use Rattle.convergence.specs.Demand.{OpenedBy, Demand3}
 
--- Demand 2 of the answers: the definitions that the contracts cite.
-abbrev pub AnswersRight : Figures → Steps → Type 0
-AnswersRight f m = (s : Store) (c : Call) → m .answers s c ≡ answer f s c
+-- Demand 2 of a forgotten count: as many as the store then holds less.
+unfoldable pub forgottenIn : Answer → ℕ
+forgottenIn (of-ingest r) = 0
+forgottenIn (of-entry r) = 0
+forgottenIn (of-area r) = r .forgotten
+
+abbrev pub CountsRight : Steps → Type 0
+CountsRight m = (s : Store) (area : Area) (protects : Bool) (protected : Area) → refusalIn (m .answers s (forget-area area protects protected)) ≡ 0
+    → forgottenIn (m .answers s (forget-area area protects protected)) + m .leaves s (forget-area area protects protected) .state .count ≡ s .state .count
 
 -- It answers as ours, and files nothing.
 abbrev pub files-nothing : Steps
-files-nothing = record { answers = answer field; leaves = λ s c. s }
+files-nothing = record { opening = opens field; answers = answer field; leaves = λ s c. s }
+
+-- It answers an ingestion as if it were a forgetting, and files nothing.
+unfoldable pub turned : State → ℕ → Answer
+turned s n = of-entry (record { refusal = n; state = s })
+
+abbrev pub other-kind : Steps
+other-kind = record { opening = opens field; answers = λ s c. turned (s .state) (refusalIn (answer field s c)); leaves = λ s c. s }
 
 -- An answer with this verdict, to ingestions; forgetting as ours.
 unfoldable pub saying : IngestVerdict → Store → Call → Answer
@@ -32,6 +47,7 @@ saying v s (forget-area area protects protected) = answer field s (forget-area a
 -- It files its first entry and calls the rest obsolete.
 abbrev pub first-only : Steps
 first-only = record {
+  opening = opens field;
   answers = λ s c. cond (eqb (s .state .count) 0) (answer field s c) (saying Obsolete s c);
   leaves = λ s c. cond (eqb (s .state .count) 0) (after field s c) s;
 }
@@ -39,13 +55,14 @@ first-only = record {
 -- It is full with one entry, whatever the limit.
 abbrev pub full-at-1 : Steps
 full-at-1 = record {
+  opening = opens field;
   answers = λ s c. cond (leb 1 (s .state .count)) (saying (Refused 8) s c) (answer field s c);
   leaves = λ s c. cond (leb 1 (s .state .count)) s (after field s c);
 }
 
 -- It gives one verdict to all, whatever it does: refusing everybody is one of these.
 abbrev pub one-verdict : IngestVerdict → (Store → Call → Store) → Steps
-one-verdict v does = record { answers = saying v; leaves = does }
+one-verdict v does = record { opening = opens field; answers = saying v; leaves = does }
 
 abbrev pub refuses-all : ℕ → Steps
 refuses-all n = one-verdict (Refused n) (λ s c. s)
@@ -62,7 +79,7 @@ hushed (of-entry r) = of-entry r
 hushed (of-area r) = of-area r
 
 abbrev pub silent : Steps
-silent = record { answers = λ s c. hushed (answer field s c); leaves = λ s c. s }
+silent = record { opening = opens field; answers = λ s c. hushed (answer field s c); leaves = λ s c. s }
 
 -- It prunes the subspace-first tree only: the other one keeps ghosts.
 unfoldable pub halfFiled : Figures → Store → Stored → Decision → Store
@@ -76,7 +93,7 @@ halfPruned f s (forget-entry subspace path expects digest) = after f s (forget-e
 halfPruned f s (forget-area area protects protected) = after f s (forget-area area protects protected)
 
 abbrev pub one-tree-pruned : Steps
-one-tree-pruned = record { answers = answer field; leaves = halfPruned field }
+one-tree-pruned = record { opening = opens field; answers = answer field; leaves = halfPruned field }
 
 -- It says that it has forgotten so many, whatever it forgot.
 unfoldable pub countMade : ℕ → Answer → Answer
@@ -85,7 +102,7 @@ countMade n (of-entry r) = of-entry r
 countMade n (of-area r) = of-area (record { refusal = r .refusal; state = r .state; forgotten = n })
 
 abbrev pub made-up-count : ℕ → Steps
-made-up-count n = record { answers = λ s c. countMade n (answer field s c); leaves = after field }
+made-up-count n = record { opening = opens field; answers = λ s c. countMade n (answer field s c); leaves = after field }
 
 -- None of them is let through.
 pub record ShutOut : Type 0 where
@@ -93,9 +110,10 @@ pub record ShutOut : Type 0 where
   pub filing-the-first : Demand3 field first-only → ⊥
   pub full-below-the-limit : Demand3 field full-at-1 → ⊥
   pub refusing-everybody : (n : ℕ) → Demand3 field (refuses-all n) → ⊥
-  pub refusing-every-opening : (n : ℕ) → (n ≡ 0 → ⊥) → ((o : Opening) → opens field o .answer .refusal ≡ n) → ⊥
+  pub refusing-every-opening : (m : Steps) → ((o : Opening) → OpenedBy m o → ⊥) → Demand3 field m → ⊥
+  pub answering-in-another-kind : Demand3 field other-kind → ⊥
   pub refusing-without-a-number : Demand3 field silent → ⊥
   pub pruning-one-tree : Demand3 field one-tree-pruned → ⊥
-  pub a-made-up-count : (n : ℕ) → AnswersRight field (made-up-count n) → ⊥
+  pub counts-right : (f : Figures) → CountsRight (ours f)
+  pub a-made-up-count : (n : ℕ) → CountsRight (made-up-count n) → ⊥
   pub one-verdict-for-all : (v : IngestVerdict) (does : Store → Call → Store) → Demand3 field (one-verdict v does) → ⊥
-  pub one-answer-for-all : (v : IngestVerdict) (does : Store → Call → Store) → AnswersRight field (one-verdict v does) → ⊥
