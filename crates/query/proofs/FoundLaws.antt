@@ -29,7 +29,7 @@ use Rattle.store.specs.Ingest.{firstThat}
 use Rattle.store.proofs.DecideLaws.{marks-first}
 use Rattle.store.proofs.IngestLaws.{first-absent, first-at, stands-at}
 use Rattle.query.specs.Reading.{readRefusal}
-use Rattle.query.specs.Listing.{listed, part, HasPart, RecordThere}
+use Rattle.query.specs.Listing.{listed, part, partOf, HasPart, RecordThere}
 use Rattle.query.specs.Lookup.{notFound, foundOf, foundIn}
 use Rattle.query.specs.declared.answer.EntryFound.{EntryFound}
 use Rattle.query.specs.declared.answer.Listed.{Listed}
@@ -108,3 +108,7 @@ module _ (limit : ℕ) (dir tree : List ℕ) (l : Listed) where
   pub part-refused : (n : ℕ) → l ≡ Refused n → [] ≡ part field limit dir tree l
   unfolding part
   part-refused n e = sym (ap (part field limit dir tree) e)
+
+pub part-listed : (s : Store) (l l′ : Listed) → l ≡ l′ → (r : List ℕ) → r ≡ part field (s .state .limit) (s .sptDir) (s .spt) l → r ≡ partOf field s l′
+unfolding partOf
+part-listed s l l′ e r er = er ∙ ap (part field (s .state .limit) (s .sptDir) (s .spt)) e
