@@ -8,19 +8,17 @@ use mathlib.Core.Bool.{Bool, true, cond, _&&_}
 use lib.ListN.{length}
 use lib.Dec.{leb}
 use Rattle.laws.specs.Sorted.{_∈_, keep}
-use Rattle.laws.proofs.Truth.{split}
 use Rattle.layout.specs.Layout.{records}
 use Rattle.data_model.specs.Path.{Figures, Components, field, legal, components, isPath, pathOf}
 use Rattle.data_model.specs.Above.{above}
 use Rattle.data_model.specs.Range.{legalRange}
 use Rattle.data_model.specs.Area.{pathsUpTo, areaRange}
 use Rattle.data_model.specs.declared.area.Area.{Area}
-use Rattle.data_model.specs.declared.«range_3d».Range3d.{Range3d}
 use Rattle.key_laws.specs.Bytes.{Bytes}
 use Rattle.key_laws.proofs.Fits.{legal-fits, legal-of}
 use Rattle.key_laws.proofs.OnValues.{above-legal}
 use Rattle.key_laws.proofs.AreaLaws.{AreaWords, area-range}
-use Rattle.tree.specs.Stored.{Stored, stored, tripleOf, Lawful}
+use Rattle.tree.specs.Stored.{Stored, tripleOf, Lawful}
 use Rattle.tree.specs.Matching.{inArea, inRange, letThrough, listedInArea, listedInRange}
 use Rattle.tree.specs.declared.matching.QueryIgnoreParams.{QueryIgnoreParams}
 use Rattle.tree.specs.declared.stored.KeyOrder.{KeyOrder}

@@ -1,18 +1,19 @@
 -- The theorems about the calls' definitions, over any store that is not refused: a walk over a listing gives exactly the matching records;
 -- a count is the length of the listing without flags; what is found is the entry that stands there. Assumes nothing.
-use Prim.Native.Nat.{ℕ, suc, _+_, _-_, _≤_, _<_}
+use Prim.Native.Nat.{ℕ, suc, _+_, _-_, _≤_}
 use mathlib.Core.Path.{_≡_, refl, sym, ap, _∙_}
-use mathlib.Core.Option.{some, none}
+use mathlib.Core.Option.{some}
 use mathlib.Core.List.{List, [], _∷_, List·Memᴰ·head as here, List·Memᴰ·tail as there}
-use mathlib.Core.Bool.{Bool, true, false, cond}
+use mathlib.Core.Bool.{Bool, true, false, cond, _&&_}
 use native.Mathlib.Omega.{arith}
 use native.Mathlib.Numerals.{add-one}
 use lib.ListN.{length, drop, length-drop, getD}
 use lib.Seq.{drop-cons}
-use borrow.Author.Tests.{le-leb, eq-eqb}
-use Rattle.laws.specs.Sorted.{_∈_, any, keep, Ascends}
+use lib.Dec.{leb, eqb}
+use borrow.Author.Tests.{le-leb, eq-eqb, eqb-true}
+use Rattle.laws.specs.Sorted.{_∈_, any, keep}
 use Rattle.laws.proofs.Truth.{split, clash}
-use Rattle.laws.proofs.Sorted.{keep-ascends, any-make, any-none}
+use Rattle.laws.proofs.Sorted.{keep-ascends, any-make}
 use Rattle.layout.specs.Layout.{records, recordAt}
 use Rattle.layout.proofs.LaidLaws.{records-many, records-at}
 use Rattle.data_model.specs.Path.{field, legal, components}
@@ -27,13 +28,13 @@ use Rattle.tree.specs.declared.matching.QueryIgnoreParams.{QueryIgnoreParams}
 use Rattle.tree.specs.declared.stored.KeyOrder.the-variants.{Spt}
 use Rattle.tree.proofs.FormedLaws.{formed-ascends}
 use Rattle.tree.proofs.RecordLaws.{contents-length}
-use Rattle.store.specs.Store.{Store, treeRoom, dirRoom, treeOf, dirOf, held}
+use Rattle.store.specs.Store.{Store, treeOf, dirOf, held}
 use Rattle.store.specs.Ingest.{firstThat}
 use Rattle.store.proofs.CheckLaws.{Passed}
 use Rattle.store.proofs.IngestLaws.{first-absent}
 use Rattle.store.proofs.ForgetLaws.{only-one}
 use Rattle.query.specs.Reading.{readRefusal, areaRefusal, rangeRefusal, noFlags}
-use Rattle.query.specs.Listing.{next, listed, areaListed, rangeListed, part, partOf, areaPart, rangePart}
+use Rattle.query.specs.Listing.{listedNumber, next, listed, areaListed, rangeListed, part, partOf, areaPart, rangePart}
 use Rattle.query.specs.Count.{counted, areaCounted, summarised}
 use Rattle.query.specs.Lookup.{notFound, foundOf, entryFound}
 use Rattle.query.specs.Walk.{Walks, matching, Lists, Finds}
@@ -42,6 +43,18 @@ use Rattle.query.specs.declared.answer.Listed.{Listed}
 use Rattle.query.specs.declared.answer.Listed.the-variants.{Match, Finished, Refused}
 use Rattle.query.proofs.Tested.{read-tested, formed-spt}
 use Rattle.query.proofs.NextLaws.{next-drop, keep-same, unflagged-area, unflagged-range}
+
+-- The number of what a listing answers is the refusal, 0 for none.
+next-number : {A : Type 0} (test : A → Bool) (place : ℕ) (l : List A) (at : ℕ) → listedNumber (next test place at l) ≡ 0
+unfolding listedNumber next
+next-number test place [] at = refl
+next-number test place (x ∷ l) at = let i = next-number test place l (suc at) in split (leb place at && test x) (λ q. rw q) (λ q. rw q i)
+
+pub listed-number : (s : Store) (refusal : ℕ) (test : Stored → Bool) (place : ℕ) → listedNumber (listed field s refusal test place) ≡ refusal
+unfolding listed listedNumber
+listed-number s refusal test place = split (eqb refusal 0)
+    (λ q. rw q (next-number test place (held field Spt s) 0 ∙ sym (eqb-true refusal 0 q)))
+    (λ q. rw q)
 
 -- Once its places are reached the place that was asked for plays no part.
 next-reached : {A : Type 0} (test : A → Bool) (place place′ : ℕ) (l : List A) (at : ℕ) → place ≤ at → place′ ≤ at → next test place at l ≡ next test place′ at l
@@ -178,10 +191,10 @@ pub range-lists : (s : Store) (range : Range3d) (ignore : QueryIgnoreParams) →
 range-lists s range ignore z = lists s (legalRange field (range .paths)) (listedInRange range ignore) z
 
 pub area-counts : (s : Store) (area : Area) → areaRefusal field s area ≡ 0 → areaCounted field s area .count ≡ length (matching field s (listedInArea area noFlags))
-area-counts s area z = counts s (legal field (area .path)) (listedInArea area noFlags) z (inArea area) (unflagged-area area)
+area-counts s area z = counts s (legal field (area .path)) (listedInArea area noFlags) z (inArea area) (unflagged-area noFlags refl area)
 
 pub range-counts : (s : Store) (range : Range3d) → rangeRefusal field s range ≡ 0 → summarised field s range .count ≡ length (matching field s (listedInRange range noFlags))
-range-counts s range z = counts s (legalRange field (range .paths)) (listedInRange range noFlags) z (inRange range) (unflagged-range range)
+range-counts s range z = counts s (legalRange field (range .paths)) (listedInRange range noFlags) z (inRange range) (unflagged-range noFlags refl range)
 
 -- (d) What is found.
 first-view : {A : Type 0} (p : A → Bool) (l : List A) → any p l ≡ true → (x : A) × x ∈ l × (p x ≡ true) × (firstThat p l ≡ some x)

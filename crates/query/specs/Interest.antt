@@ -7,7 +7,6 @@ use lib.Dec.{eqb}
 use Rattle.laws.specs.Sorted.{keep}
 use Rattle.data_model.specs.Path.{Figures}
 use Rattle.data_model.specs.Area.{areaRange, emptyRange}
-use Rattle.data_model.specs.declared.area.Area.{Area}
 use Rattle.data_model.specs.declared.«area_of_interest».AreaOfInterest.{AreaOfInterest}
 use Rattle.data_model.specs.declared.«range_3d».Range3d.{Range3d}
 use Rattle.tree.specs.Stored.{Stored}
