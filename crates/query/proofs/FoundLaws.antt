@@ -26,6 +26,7 @@ use Rattle.tree.proofs.FormedContents.{formed-many}
 use Rattle.store.specs.Store.{Store, treeRoom, dirRoom, treeOf, dirOf, held}
 use Rattle.store.specs.Change.{inTree}
 use Rattle.store.specs.Ingest.{firstThat}
+use Rattle.store.proofs.CheckLaws.{Passed}
 use Rattle.store.proofs.DecideLaws.{marks-first}
 use Rattle.store.proofs.IngestLaws.{first-absent, first-at, stands-at}
 use Rattle.query.specs.Reading.{readRefusal}
@@ -72,20 +73,19 @@ module _ {count : ℕ} {dir tree : List ℕ} (v : Formed Spt count dir tree) (ns
 
 -- The record of what a listing answers is there.
 module _ (s : Store) (b : Bool) (test : Stored → Bool) (place : ℕ) where
-  match-there : (k : ℕ) → listed field s (readRefusal field s b) test place ≡ Match k → RecordThere (s .state .limit) (s .sptDir) (s .spt) k
+  pub match-below : (k : ℕ) → listed field s (readRefusal field s b) test place ≡ Match k → Passed s × (k < s .state .count)
   unfolding listed held treeOf dirOf
-  match-there k e = split (eqb (readRefusal field s b) 0)
+  match-below k e = split (eqb (readRefusal field s b) 0)
       (λ q.
       let p = read-tested s b (eqb-true (readRefusal field s b) 0 q) .0 in
-      let v = formed-spt s p in
       let h = next-below test place (heldSpt s) 0 k (rw q at e) in
-      record {
-        most = p .most;
-        numbers = p .room .sptDir;
-        bytes = p .room .spt;
-        bounds = formed-bounds v k (omega (arith, formed-many v (s .state .«namespace_id»)));
-      })
+      (p, omega (arith, formed-many (formed-spt s p) (s .state .«namespace_id»))))
       (λ q. absurd (let w : Refused (readRefusal field s b) ≡ Match k = rw q at e in let z : _≡_ {A = ℕ} 0 1 = cc in omega arith))
+
+  match-there : (k : ℕ) → listed field s (readRefusal field s b) test place ≡ Match k → RecordThere (s .state .limit) (s .sptDir) (s .spt) k
+  match-there k e =
+      let p = match-below k e .0 in
+      record { most = p .most; numbers = p .room .sptDir; bytes = p .room .spt; bounds = formed-bounds (formed-spt s p) k (match-below k e .1) }
 
   pub has-part : (r : Listed) → r ≡ listed field s (readRefusal field s b) test place → HasPart (s .state .limit) (s .sptDir) (s .spt) r
   has-part (Match k) e = match-there k (sym e)

@@ -23,10 +23,11 @@ use Rattle.data_model.specs.declared.parameters.Subspace.{Subspace}
 use Rattle.data_model.specs.declared.area.Area.{Area}
 use Rattle.data_model.specs.declared.«range_3d».Range3d.{Range3d}
 use Rattle.tree.specs.Stored.{Stored, stored, contents, lengthy, keyBelow}
+use Rattle.tree.specs.Value.{valueLength}
 use Rattle.tree.specs.Matching.{standsAt, letThrough, inArea, inRange, listedInArea, listedInRange}
 use Rattle.tree.specs.declared.matching.QueryIgnoreParams.{QueryIgnoreParams}
 use Rattle.tree.specs.declared.stored.KeyOrder.the-variants.{Spt}
-use Rattle.tree.proofs.FormedLaws.{formed-ascends}
+use Rattle.tree.proofs.FormedLaws.{record-long, formed-record, formed-ascends}
 use Rattle.tree.proofs.RecordLaws.{contents-length}
 use Rattle.store.specs.Store.{Store, treeOf, dirOf, held}
 use Rattle.store.specs.Ingest.{firstThat}
@@ -42,6 +43,7 @@ use Rattle.query.specs.declared.answer.EntryFound.{EntryFound}
 use Rattle.query.specs.declared.answer.Listed.{Listed}
 use Rattle.query.specs.declared.answer.Listed.the-variants.{Match, Finished, Refused}
 use Rattle.query.proofs.Tested.{read-tested, formed-spt}
+use Rattle.query.proofs.FoundLaws.{match-below}
 use Rattle.query.proofs.NextLaws.{next-drop, keep-same, unflagged-area, unflagged-range}
 
 -- The number of what a listing answers is the refusal, 0 for none.
@@ -55,6 +57,14 @@ unfolding listed listedNumber
 listed-number s refusal test place = split (eqb refusal 0)
     (λ q. rw q (next-number test place (held field Spt s) 0 ∙ sym (eqb-true refusal 0 q)))
     (λ q. rw q)
+
+-- The part of a match is a record, and so is not empty: it is empty exactly where the listing is finished or refused.
+pub match-long : (s : Store) (b : Bool) (test : Stored → Bool) (place k : ℕ) → listed field s (readRefusal field s b) test place ≡ Match k
+    → valueLength ≤ length (partOf field s (listed field s (readRefusal field s b) test place))
+unfolding partOf part
+match-long s b test place k e =
+    let m = match-below s b test place k e in
+    rw e (record-long Spt field _ (formed-record (formed-spt s (m .0)) k (m .1)))
 
 -- Once its places are reached the place that was asked for plays no part.
 next-reached : {A : Type 0} (test : A → Bool) (place place′ : ℕ) (l : List A) (at : ℕ) → place ≤ at → place′ ≤ at → next test place at l ≡ next test place′ at l
