@@ -1,3 +1,4 @@
+pub mod WellFormedFacts
 pub mod Settled
 pub mod Firsts
 pub mod Reasons

@@ -24,6 +24,7 @@ use Rattle.store.specs.Refusal.{limitOk, roomy}
 use Rattle.store.specs.Ingest.{stays}
 use Rattle.store.specs.Forget.{unexpected}
 use Rattle.convergence.specs.History.{Call, ingest, forget-entry, forget-area}
+use Rattle.convergence.proofs.WellFormedFacts.{well-formed-store}
 use Rattle.convergence.specs.Conditions.{ShortBuffer, Outdated, Removes, OtherDigest, Reason, limit-outside, short-buffer, not-well-formed, illegal-path, no-key, other-namespace, pruning-prevented, store-full, other-digest, Condition}
 use Rattle.store.proofs.Meaning.{removes-view, removes-make}
 
@@ -54,6 +55,10 @@ reasonTest f s (forget-area area protects protected) other-digest = false
 not-holds : (b : Bool) → (not b ≡ true) ↔ (b ≡ false)
 not-holds true = (λ e. sym e, λ e. sym e)
 not-holds false = (λ e. refl, λ e. refl)
+
+not-words : {W : Type 0} (b : Bool) → (b ≡ true) ↔ W → (not b ≡ true) ↔ (W → ⊥)
+not-words true h = (λ e. clash e refl, λ k. absurd (k (h .0 refl)))
+not-words false h = (λ e. λ w. clash (h .1 w) refl, λ k. refl)
 
 never : (false ≡ true) ↔ ⊥
 never = (λ e. clash e refl, λ e. absurd e)
@@ -185,7 +190,7 @@ condition f s (ingest prune e token prevent) short-buffer =
     through (rooms-test f s (leb (dirRoom (s .state .limit)) (length prune))) (either (λ x. x, λ x. x) (short (dirRoom (s .state .limit)) (length prune)))
 condition f s (forget-entry subspace path expects digest) short-buffer = buffers-test f s
 condition f s (forget-area area protects protected) short-buffer = buffers-test f s
-condition f s c not-well-formed = not-holds (wellFormedStore f s)
+condition f s c not-well-formed = not-words (wellFormedStore f s) (well-formed-store f s)
 condition f s (ingest prune e token prevent) illegal-path = not-holds (legal f (e .path))
 condition f s (forget-entry subspace path expects digest) illegal-path = not-holds (legal f path)
 condition f s (forget-area area protects protected) illegal-path = areas-test (legal f (area .path)) protects (legal f (protected .path))

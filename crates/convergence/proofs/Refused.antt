@@ -18,6 +18,7 @@ use Rattle.convergence.specs.History.{Opening, Call, ingest, forget-entr
 use Rattle.convergence.specs.Conditions.{Reason, limit-outside, short-buffer, not-well-formed, number, Condition, First, ShortPrune, ObsoleteWhere}
 use Rattle.convergence.specs.Demand.{Keeps, RefusedRight}
 use Rattle.convergence.proofs.Firsts.{later, upTo6, firstOf, number-positive, listed-early, early-listed, first-some, first-holds, first-is, first-none, first-zero}
+use Rattle.convergence.proofs.WellFormedFacts.{well-formed-store}
 use Rattle.convergence.proofs.Reasons.{reasonTest, room-test, condition, outdated-test}
 use Rattle.convergence.proofs.Judged.{early-number, ingest-number, ingest-refused, obsolete-exactly, entry-number, area-number}
 
@@ -116,5 +117,5 @@ module _ (f : Figures) (s : Store) where
     obsolete = obsolete-where c;
     never-1 = λ e. limit-inside ok c (refused-exactly c limit-outside .0 e .holds);
     only-prune-2 = λ e. subst (λ (n : ℕ). ShortPrune n c) (keeps .limit) (short-prune room c (refused-exactly c short-buffer .0 e .holds));
-    never-3 = λ e. clash w (refused-exactly c not-well-formed .0 e .holds);
+    never-3 = λ e. refused-exactly c not-well-formed .0 e .holds (well-formed-store f s .0 w);
   }

@@ -11,8 +11,9 @@ use Rattle.data_model.specs.Entry.{Entry, entryOf, newer, covers}
 use Rattle.tree.specs.Stored.{Stored}
 use Rattle.tree.specs.declared.stored.KeyOrder.the-variants.{Spt}
 use Rattle.data_model.specs.declared.parameters.Subspace.{Subspace}
-use Rattle.store.specs.Store.{Store, limitMost, treeRoom, dirRoom, held, wellFormedStore}
+use Rattle.store.specs.Store.{Store, limitMost, treeRoom, dirRoom, held}
 use Rattle.store.specs.Ingest.{stays}
+use Rattle.convergence.specs.WellFormed.{WellFormedStore}
 use Rattle.convergence.specs.History.{Call, ingest, forget-entry, forget-area}
 
 -- An entry is stored if a tree has its record.
@@ -63,7 +64,7 @@ Condition f s c limit-outside = LimitOutside s
 Condition f s (ingest prune e token prevent) short-buffer = ShortBuffer f s ⊎ (length prune < dirRoom (s .state .limit))
 Condition f s (forget-entry subspace path expects digest) short-buffer = ShortBuffer f s
 Condition f s (forget-area area protects protected) short-buffer = ShortBuffer f s
-Condition f s c not-well-formed = wellFormedStore f s ≡ false
+Condition f s c not-well-formed = WellFormedStore f s → ⊥
 Condition f s (ingest prune e token prevent) illegal-path = legal f (e .path) ≡ false
 Condition f s (forget-entry subspace path expects digest) illegal-path = legal f path ≡ false
 Condition f s (forget-area area protects protected) illegal-path = (legal f (area .path) ≡ false) ⊎ ((protects ≡ true) × (legal f (protected .path) ≡ false))

@@ -1,4 +1,5 @@
 pub mod History
+pub mod WellFormed
 pub mod Conditions
 pub mod Demand
 pub mod Examination

@@ -1,0 +1,107 @@
+-- The test of a well-formed store says what 01 says in words. Assumes nothing.
+use mathlib.Core.Path.{_≡_, refl, sym, ap, _∙_}
+use mathlib.Core.Logic.{_↔_}
+use mathlib.Core.List.{List, [], _∷_}
+use mathlib.Core.Bool.{true, false, not, _&&_}
+use lib.Dec.{leb}
+use borrow.Author.Tests.{leb-true, le-leb}
+use Rattle.laws.specs.Sorted.{_∈_, all}
+use Rattle.laws.proofs.Truth.{clash, refute, and-true, not-true}
+use Rattle.laws.proofs.Sorted.{all-view, all-make}
+use Rattle.data_model.specs.Path.{Figures, samePath}
+use Rattle.data_model.specs.Subspace.{sameSubspace}
+use Rattle.data_model.specs.Entry.{Entry, prunes}
+use Rattle.data_model.proofs.Orders.{path-equality, subspace-equality}
+use Rattle.tree.specs.Stored.{Stored}
+use Rattle.tree.specs.Tree.{WellFormed, within}
+use Rattle.tree.specs.Apart.{samePlace, noPlaceTwice, nonePrunes}
+use Rattle.tree.specs.declared.stored.KeyOrder.{KeyOrder}
+use Rattle.tree.specs.declared.stored.KeyOrder.the-variants.{Spt, Tsp}
+use Rattle.tree.proofs.WellFormedLaws.{well-formed}
+use Rattle.tree.proofs.AgreeLaws.{within-view, within-make}
+use Rattle.store.specs.Store.{Store, treeOf, dirOf, held, wellFormedTree, sameEntries, wellFormedStore}
+use Rattle.convergence.specs.WellFormed.{NoTwice, WellFormedStore}
+
+-- Places.
+place-same : (a b : Entry) → a .subspace ≡ b .subspace → a .path ≡ b .path → samePlace a b ≡ true
+unfolding samePlace
+place-same a b s p = cc (ap (sameSubspace (a .subspace)) (sym s) ∙ subspace-equality .self (a .subspace), ap (samePath (a .path)) (sym p) ∙ path-equality .self (a .path))
+
+same-place : (a b : Entry) → samePlace a b ≡ true → (a .subspace ≡ b .subspace) × (a .path ≡ b .path)
+unfolding samePlace
+same-place a b e =
+    let k = and-true (sameSubspace (a .subspace) (b .subspace)) (samePath (a .path) (b .path)) e in
+    (subspace-equality .equal (a .subspace) (b .subspace) (k .0), path-equality .equal (a .path) (b .path) (k .1))
+
+twice-view : (l : List Stored) → noPlaceTwice l ≡ true → NoTwice l
+unfolding noPlaceTwice
+twice-view [] e = tt
+twice-view (a ∷ l) e =
+    let k = and-true (all (λ (b : Stored). not (samePlace (a .entry) (b .entry))) l) (noPlaceTwice l) e in (
+      λ b m s p. clash (place-same (a .entry) (b .entry) s p) (not-true _ (all-view (λ (b : Stored). not (samePlace (a .entry) (b .entry))) l (k .0) m)),
+      twice-view l (k .1),
+    )
+
+twice-make : (l : List Stored) → NoTwice l → noPlaceTwice l ≡ true
+unfolding noPlaceTwice
+twice-make [] h = refl
+twice-make (a ∷ l) h = cc (
+  all-make (λ (b : Stored). not (samePlace (a .entry) (b .entry))) l (λ b m. ap not (refute _ λ e. let k = same-place (a .entry) (b .entry) e in h .0 b m (k .0) (k .1))),
+  twice-make l (h .1),
+)
+
+prunes-view : (l : List Stored) → nonePrunes l ≡ true → (x y : Stored) → x ∈ l → y ∈ l → prunes (x .entry) (y .entry) ≡ false
+unfolding nonePrunes
+prunes-view l e x y m n =
+    not-true (prunes (x .entry) (y .entry))
+    (all-view (λ (b : Stored). not (prunes (x .entry) (b .entry))) l (all-view (λ (a : Stored). all (λ (b : Stored). not (prunes (a .entry) (b .entry))) l) l e m) n)
+
+prunes-make : (l : List Stored) → ((x y : Stored) → x ∈ l → y ∈ l → prunes (x .entry) (y .entry) ≡ false) → nonePrunes l ≡ true
+unfolding nonePrunes
+prunes-make l h = all-make _ l λ x m. all-make (λ (b : Stored). not (prunes (x .entry) (b .entry))) l λ y n. ap not (h x y m n)
+
+module _ (f : Figures) (s : Store) where
+  tree-facts : (o : KeyOrder) → (wellFormedTree f o s ≡ true) ↔ WellFormed o f (s .state .count) (dirOf o s) (treeOf f o s)
+  unfolding wellFormedTree
+  tree-facts o = well-formed o f (s .state .count) (dirOf o s) (treeOf f o s)
+
+  forth : wellFormedStore f s ≡ true → WellFormedStore f s
+  unfolding wellFormedStore sameEntries
+  forth w =
+      let A = wellFormedTree f Spt s in
+      let B = wellFormedTree f Tsp s in
+      let C = sameEntries (held f Spt s) (held f Tsp s) in
+      let D = noPlaceTwice (held f Spt s) in
+      let E = nonePrunes (held f Spt s) in
+      let a = and-true (leb (s .state .count) (s .state .limit)) (A && (B && (C && (D && E)))) w in
+      let b = and-true A (B && (C && (D && E))) (a .1) in
+      let c = and-true B (C && (D && E)) (b .1) in
+      let d = and-true C (D && E) (c .1) in
+      let e = and-true D E (d .1) in
+      let w = and-true (within (held f Spt s) (held f Tsp s)) (within (held f Tsp s) (held f Spt s)) (d .0) in
+      record {
+        few = leb-true (s .state .count) (s .state .limit) (a .0);
+        each = each (b .0) (c .0);
+        same = λ x. (within-view (held f Spt s) (held f Tsp s) (w .0) x, within-view (held f Tsp s) (held f Spt s) (w .1) x);
+        no-twice = twice-view (held f Spt s) (e .0);
+        apart = prunes-view (held f Spt s) (e .1);
+      }
+    where
+      each : wellFormedTree f Spt s ≡ true → wellFormedTree f Tsp s ≡ true → (o : KeyOrder) → WellFormed o f (s .state .count) (dirOf o s) (treeOf f o s)
+      each p q Spt = tree-facts Spt .0 p
+      each p q Tsp = tree-facts Tsp .0 q
+
+  back : WellFormedStore f s → wellFormedStore f s ≡ true
+  unfolding wellFormedStore sameEntries
+  back h = cc (
+    le-leb (s .state .count) (s .state .limit) (h .few),
+    tree-facts Spt .1 (h .each Spt),
+    tree-facts Tsp .1 (h .each Tsp),
+    within-make (held f Spt s) (held f Tsp s) (λ x. h .same x .0),
+    within-make (held f Tsp s) (held f Spt s) (λ x. h .same x .1),
+    twice-make (held f Spt s) (h .no-twice),
+    prunes-make (held f Spt s) (h .apart),
+  )
+
+  pub well-formed-store : (wellFormedStore f s ≡ true) ↔ WellFormedStore f s
+  well-formed-store = (forth, back)
