@@ -1,12 +1,13 @@
 -- Laws of a line of the listing program: how its reading ends, and how long what is written can be. Assumes nothing.
 use Prim.Native.Nat.{ℕ, zero, suc, _+_, _-_, _*_, _/_, _≤_, _<_}
-use mathlib.Core.Path.{_≡_, refl, sym, ap, _∙_}
+use mathlib.Core.Path.{_≡_, sym, ap, _∙_}
 use mathlib.Core.List.{List, [], _∷_, _++_, append-assoc}
 use mathlib.Core.Bool.{true, false, _&&_}
 use native.Mathlib.Omega.{arith}
 use lib.Dec.{ltb, leb}
-use borrow.Author.Tests.{eq-eqb, ne-eqb, le-leb, lt-leb, leb-true}
-use lib.ListN.{length, take, drop, length-append, length-take}
+use borrow.Author.Tests.{eq-eqb, ne-eqb, le-leb, lt-leb, leb-true, leb-false}
+use lib.ListN.{length, take, length-append, length-take}
+use lib.Seq.{take-all}
 use Rattle.laws.specs.Prefix.{sameNumber, sameList}
 use Rattle.laws.specs.Lists.{piece}
 use Rattle.laws.proofs.Truth.{split, and-true}
@@ -49,6 +50,15 @@ module _ (s : List ℕ) where
       → entryRead (byteRead (fieldAt 1 s)) (pathField (fieldAt 2 s)) (numberRead (fieldAt 3 s)) (numberRead (fieldAt 4 s)) (byteRead (fieldAt 5 s)) ≡ lineRead s
   unfolding lineRead
   line-in h = rw h
+
+-- A line may be cut where it is too long: what stands behind is not needed to tell what it says.
+pub line-cut : (s : List ℕ) (n : ℕ) → lineMost < n → lineRead (take n s) ≡ lineRead s
+line-cut s n h =
+    split (leb (length s) lineMost)
+    (λ e. ap lineRead (take-all n s (omega (arith, leb-true (length s) lineMost e))))
+    (λ e.
+    let l : lineMost < length s = leb-false (length s) lineMost e in
+    sym (line-other (take n s) (sym (in-long (take n s) (omega (arith, length-take n s))))) ∙ line-other s (sym (in-long s l)))
 
 -- What five fields say: the first that is of another form; or what the path is.
 module _ (s d : ByteRead) (p : PathField) (t l : NumberRead) where
