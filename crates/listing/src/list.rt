@@ -27,7 +27,8 @@ fn everything() -> Area {
     }
 }
 
-// The place after a match. A match stands at or after the place that was asked for, and before the count: the tests only save a proof.
+// The place after a match. A match stands at or after the place that was asked for, and before the store's count: the two tests stand in
+// for the proof of that.
 fn after(place: usize, k: usize, count: usize) -> usize
     requires { ⌜ place < count ⌝ }
     ensures { λ r. ⌜ (place < r) × (r ≤ count) ⌝ }
@@ -48,8 +49,8 @@ pub fn say_list(state: State, spt: &[u8], spt_dir: &[u32], tsp: &[u8], tsp_dir: 
         ignore_empty_payloads: false,
     };
     let counted = count_area(state, spt, spt_dir, tsp, tsp_dir, area);
-    let count = counted.count;
-    say_number(b"list ", count as u64);
+    say_number(b"list ", counted.count as u64);
+    let count = state.count;
     let mut place: usize = 0;
     while place < count {
         let l = query_area_place(state, spt, spt_dir, tsp, tsp_dir, area, ignore, place);
