@@ -8,3 +8,5 @@ pub mod PathLaws
 pub mod ValueLaws
 pub mod RoundTrip
 pub mod PathTrip
+pub mod LineLaws
+pub mod LineTrip

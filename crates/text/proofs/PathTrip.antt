@@ -21,18 +21,18 @@ use Rattle.text.proofs.FormLaws.{only-not, component-dot, component-hex
 use Rattle.text.proofs.RoundTrip.{hex-back}
 
 -- A field in which the byte that parts fields does not stand.
-abbrev other : ℕ → ℕ → Bool
+abbrev pub other : ℕ → ℕ → Bool
 other sep b = not (eqb b sep)
 
 module _ (sep : ℕ) where
-  fields-alone : (f : List ℕ) → all (other sep) f ≡ true → fields sep f ≡ f ∷ []
+  pub fields-alone : (f : List ℕ) → all (other sep) f ≡ true → fields sep f ≡ f ∷ []
   unfolding all fields
   fields-alone [] h = refl
   fields-alone (b ∷ f) h =
       let k = and-true (other sep b) (all (other sep) f) h in
       rw (not-true (eqb b sep) (k .0)) (ap (onFirst b) (fields-alone f (k .1)))
 
-  fields-join : (f r : List ℕ) → all (other sep) f ≡ true → fields sep (f ++ sep ∷ r) ≡ f ∷ fields sep r
+  pub fields-join : (f r : List ℕ) → all (other sep) f ≡ true → fields sep (f ++ sep ∷ r) ≡ f ∷ fields sep r
   unfolding all fields
   fields-join [] r h = rw (eq-eqb sep sep refl)
   fields-join (b ∷ f) r h =
@@ -40,7 +40,7 @@ module _ (sep : ℕ) where
       rw (not-true (eqb b sep) (k .0)) (ap (onFirst b) (fields-join f r (k .1)))
 
 -- Digits are above `/`, and `.` is another byte.
-digit-high : (n : ℕ) → 48 ≤ hexDigit n
+pub digit-high : (n : ℕ) → 48 ≤ hexDigit n
 unfolding hexDigit
 digit-high n = split (ltb n 10) (λ e. rw e (omega arith)) (λ e. rw e (omega arith))
 

@@ -4,3 +4,4 @@ pub mod Fields
 pub mod PathField
 pub mod PathText
 pub mod Value
+pub mod EntryLine

@@ -2,6 +2,7 @@
 // The readers have no `requires`: what is not of the form is answered so. A writer writes at the front of the buffer that it
 // is lent, and answers how many bytes.
 pub mod decimal;
+pub mod entry_line;
 pub mod hex;
 pub mod line;
 pub mod path;

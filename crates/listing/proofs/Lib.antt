@@ -1,0 +1,3 @@
+pub mod CarryLaws
+pub mod InputLaws
+pub mod SayLaws

@@ -1,0 +1,26 @@
+-- What a record says, as it is handed out. Assumes nothing.
+use Prim.Native.Nat.{ℕ, _-_}
+use mathlib.Core.Path.{_≡_, ap, ap₂, _∙_}
+use mathlib.Core.List.{List}
+use mathlib.Core.Bool.{true}
+use lib.ListN.{length}
+use Rattle.data_model.specs.Path.{field, legal}
+use Rattle.data_model.specs.Entry.{entryOf}
+use Rattle.key_laws.specs.Bytes.{Bytes}
+use Rattle.key_laws.proofs.Fits.{bytes-take, legal-of}
+use Rattle.tree.specs.Value.{valueLength, readValue}
+use Rattle.tree.specs.Stored.{Stored, keyOf, valuePart, readIn, tripleRead, storedFrom, stored, storedOf, lengthy}
+use Rattle.tree.specs.declared.stored.KeyOrder.the-variants.{Spt}
+use Rattle.tree.specs.declared.stored.LengthyAuthorisedEntry.{LengthyAuthorisedEntry}
+use Rattle.tree.proofs.RecordParts.{read-path, stored-of}
+
+pub record-says : (ns rec key value : List ℕ) (r : LengthyAuthorisedEntry) → Bytes rec → key ≡ keyOf rec → value ≡ valuePart rec
+    → r ≡ lengthy (storedFrom ns (tripleRead (readIn Spt field key)) (readValue value))
+    → (legal field (r .entry .path) ≡ true) × (entryOf (r .entry) ≡ stored Spt field ns rec .entry)
+unfolding stored lengthy storedFrom storedOf
+record-says ns rec key value r bytes ek ev e =
+    let b : Bytes (keyOf rec) = bytes-take (length rec - valueLength) rec bytes in
+    let q : r ≡ lengthy (stored Spt field ns rec) = e ∙ ap₂ (λ (x y : List ℕ). lengthy (storedFrom ns (tripleRead (readIn Spt field x)) (readValue y))) ek ev in (
+      ap (λ (a : LengthyAuthorisedEntry). legal field (a .entry .path)) q ∙ legal-of field (tripleRead (readIn Spt field (keyOf rec)) .path) (read-path Spt field (keyOf rec) b),
+      ap (λ (a : LengthyAuthorisedEntry). storedOf a .entry) q ∙ ap (λ (x : Stored). x .entry) (stored-of (stored Spt field ns rec)),
+    )

@@ -1,0 +1,62 @@
+-- A line carried out on a store: the answer that is printed, and what the store and the prune list are afterwards.
+use Prim.Native.Nat.{ℕ}
+use mathlib.Core.List.{List}
+use mathlib.Core.Bool.{false}
+use lib.ListN.{replicate}
+use Rattle.data_model.specs.Path.{Figures}
+use Rattle.data_model.specs.Refusal.{illegalPath}
+use Rattle.data_model.specs.declared.entry.Entry.{Entry as EntryValue}
+use Rattle.store.specs.Store.{Store, storeOf}
+use Rattle.store.specs.Ingest.{IngestOutcome, ingested}
+use Rattle.store.specs.declared.ingest.IngestVerdict.{IngestVerdict}
+use Rattle.store.specs.declared.ingest.IngestVerdict.the-variants as verdict
+use Rattle.text.specs.EntryLine.{lineRead}
+use Rattle.text.specs.declared.path.Outcome.{Outcome}
+use Rattle.text.specs.declared.path.Outcome.the-variants as outcome
+use Rattle.text.specs.declared.entry_line.EntryLine.{EntryLine}
+use Rattle.listing.specs.declared.carry.Answer.{Answer}
+use Rattle.listing.specs.declared.carry.Answer.the-variants as answer
+use Rattle.listing.specs.declared.carry.Carried.{Carried}
+
+-- The entry of a line: namespace 0, the rest of the subspace 0, a byte that fills the digest.
+abbrev pub entryOfLine : EntryLine → EntryValue
+entryOfLine e = record {
+  «namespace_id» = replicate 16 0;
+  «subspace_id» = record { high = 0; low = e .subspace };
+  path = e .path;
+  timestamp = e .timestamp;
+  «payload_length» = e .«payload_length»;
+  «payload_digest» = replicate 32 (e .digest);
+}
+
+-- `ok`, `obsolete`, or `refused` and the number.
+unfoldable pub answerOf : IngestVerdict → Answer
+answerOf (verdict.Success n) = answer.Ok
+answerOf verdict.Obsolete = answer.Obsolete
+answerOf (verdict.Refused n) = answer.Refused n
+
+-- The answer to a line that says no entry.
+unfoldable pub answerWithout : Outcome → Answer
+answerWithout outcome.Good = answer.Bad
+answerWithout outcome.Illegal = answer.Refused illegalPath
+answerWithout outcome.Bad = answer.Bad
+
+pub record LineOutcome : Type 0 where
+  pub answer : Answer
+  pub store : Store
+  pub prune : List ℕ
+
+abbrev pub lineOutcome : Carried → List ℕ → List ℕ → List ℕ → List ℕ → List ℕ → LineOutcome
+lineOutcome r a b c d prune = record { answer = r .answer; store = storeOf (r .state) a b c d; prune = prune }
+
+abbrev pub afterIngest : IngestOutcome → LineOutcome
+afterIngest o = record { answer = answerOf (o .answer .verdict); store = o .store; prune = o .prune }
+
+-- `bad` and `refused 4` leave all as it is. Tokens are 0, and pruning is never prevented.
+unfoldable pub carriedBy : Figures → Store → (prune : List ℕ) → EntryLine → Outcome → LineOutcome
+carriedBy f s prune e outcome.Good = afterIngest (ingested f s prune (entryOfLine e) (replicate 64 0) false)
+carriedBy f s prune e outcome.Illegal = record { answer = answerWithout outcome.Illegal; store = s; prune = prune }
+carriedBy f s prune e outcome.Bad = record { answer = answerWithout outcome.Bad; store = s; prune = prune }
+
+unfoldable pub lineCarried : Figures → Store → (prune line : List ℕ) → LineOutcome
+lineCarried f s prune line = carriedBy f s prune (lineRead line) (lineRead line .outcome)

@@ -1,0 +1,86 @@
+// Standard input, line by line. A line ends at a newline, which is no part of it; the last may lack one.
+use text::line::field_end;
+use text::line::write_bytes;
+ghost use mathlib.Core.Path.{_≡_};
+ghost use Prim.Native.Nat.{_+_, _≤_};
+ghost use lib.ListN.{length, take};
+ghost use Rattle.listing.specs.Input.{partAt, extended};
+
+// A line that was found: its bytes are in the line's buffer, cut to what that holds. Bytes from `at` to `end` of the input's buffer are
+// not looked at yet.
+pub struct Line {
+    pub found: bool,
+    pub length: usize,
+    pub at: usize,
+    pub end: usize,
+}
+
+// Where a part of a line stops, and how long the line is with it.
+pub struct Part {
+    pub stop: usize,
+    pub length: usize,
+}
+
+// Adds bytes to the first n of a line, as far as there is room.
+fn append(line: &mut [u8], n: usize, bytes: &[u8]) -> usize
+    requires { ⌜ n ≤ length (now line) ⌝ }
+    ensures { λ r. ⌜ (r ≤ length (now (line .entry))) × (take r (now (line .exit)) ≡ extended (now (line .entry)) n (now (bytes .entry))) ⌝ }
+{
+    let room = line.len() - n;
+    if room < bytes.len() {
+        return n + write_bytes(&bytes[..room], &mut line[n..]);
+    }
+    n + write_bytes(bytes, &mut line[n..])
+}
+
+// Adds what stands of a line from a place on: up to its newline, or all that is there.
+fn take_part(bytes: &[u8], at: usize, line: &mut [u8], n: usize) -> Part
+    requires { ⌜ (at ≤ length (now bytes)) × (n ≤ length (now line)) ⌝ }
+    ensures { λ r. ⌜ (r .stop ≡ at + length (partAt at (now (bytes .entry)))) × (r .stop ≤ length (now (bytes .entry))) × (r .length ≤ length (now (line .entry))) × (take (r .length) (now (line .exit)) ≡ extended (now (line .entry)) n (partAt at (now (bytes .entry)))) ⌝ }
+{
+    let stop = field_end(bytes, b'\n', at);
+    let length = append(line, n, &bytes[at..stop]);
+    Part { stop, length }
+}
+
+// At the input's end: the last line, if it has bytes.
+fn last_line(n: usize) -> Line
+    ensures { λ r. ⌜ (r .at ≡ 0) × (r .end ≡ 0) × (r .length ≡ n) ⌝ }
+{
+    Line {
+        found: 0 < n,
+        length: n,
+        at: 0,
+        end: 0,
+    }
+}
+
+// The next line, read on where the input's buffer does not have all of it.
+pub fn next_line(input: &mut [u8], at: usize, end: usize, line: &mut [u8]) -> Line
+    requires { ⌜ (at ≤ end) × (end ≤ length (now input)) ⌝ }
+    ensures { λ r. ⌜ (r .at ≤ r .end) × (r .end ≤ length (now (input .entry))) × (r .length ≤ length (now (line .entry))) ⌝ }
+{
+    let mut a = at;
+    let mut e = end;
+    let mut n: usize = 0;
+    let mut turns: u64 = 0xffff_ffff_ffff_ffff;
+    while 0 < turns {
+        let p = take_part(&input[..e], a, line, n);
+        n = p.length;
+        if p.stop < e {
+            return Line {
+                found: true,
+                length: n,
+                at: p.stop + 1,
+                end: e,
+            };
+        }
+        a = 0;
+        e = io::read_full(0, input);
+        if e == 0 {
+            return last_line(n);
+        }
+        turns -= 1;
+    }
+    last_line(0)
+}

@@ -1,0 +1,103 @@
+// The listing program: lines `in S P T L D` from standard input, each answered on a line; then what the store holds, in key order.
+use crate::carry::carry_out;
+use crate::input::next_line;
+use crate::list::say_list;
+use crate::say::say_answer;
+use store::open::open;
+use store::state::RECORD_MOST;
+use store::state::State;
+use text::entry_line::LINE_MOST;
+ghost use mathlib.Core.Path.{_≡_};
+ghost use lib.ListN.{length};
+
+mod carry;
+mod input;
+mod list;
+mod say;
+
+const LIMIT: usize = 64;
+
+const TREE: usize = RECORD_MOST * LIMIT;
+
+const NUMBERS: usize = 2 * LIMIT;
+
+fn tree_bytes() -> [u8; TREE]
+    ensures { λ r. ⌜ length r ≡ 26240 ⌝ }
+{
+    [0; TREE]
+}
+
+fn numbers() -> [u32; NUMBERS]
+    ensures { λ r. ⌜ length r ≡ 128 ⌝ }
+{
+    [0; NUMBERS]
+}
+
+// Answers every line of the input, and returns the state after the last.
+fn answer_lines(
+    opened: State,
+    spt: &mut [u8],
+    spt_dir: &mut [u32],
+    tsp: &mut [u8],
+    tsp_dir: &mut [u32],
+    prune: &mut [u32],
+    input: &mut [u8],
+    line: &mut [u8],
+) -> State {
+    let mut state = opened;
+    let mut at: usize = 0;
+    let mut end: usize = 0;
+    let mut turns: u64 = 0xffff_ffff_ffff_ffff;
+    while 0 < turns {
+        let l = next_line(input, at, end, line);
+        if !l.found {
+            return state;
+        }
+        at = l.at;
+        end = l.end;
+        let n = l.length;
+        let a = carry_out(&line[..n], state, spt, spt_dir, tsp, tsp_dir, prune);
+        let answer = a.answer;
+        say_answer(answer);
+        let after = a.state;
+        state = after;
+        turns -= 1;
+    }
+    state
+}
+
+// The program over its buffers: the store's, the prune list, the input's and the line's.
+fn run(
+    spt: &mut [u8],
+    spt_dir: &mut [u32],
+    tsp: &mut [u8],
+    tsp_dir: &mut [u32],
+    prune: &mut [u32],
+    input: &mut [u8],
+    line: &mut [u8],
+) {
+    let o = open([0; 16], LIMIT, spt, spt_dir, tsp, tsp_dir);
+    let opened = o.state;
+    let state = answer_lines(opened, spt, spt_dir, tsp, tsp_dir, prune, input, line);
+    say_list(state, spt, spt_dir, tsp, tsp_dir);
+}
+
+fn main() {
+    let mut spt = tree_bytes();
+    let mut spt_dir = numbers();
+    let mut tsp = tree_bytes();
+    let mut tsp_dir = numbers();
+    let mut prune = numbers();
+    let mut input = io::large_buffer();
+    // One byte more than the longest line has: a line that is cut there is too long.
+    let mut line = [0u8; LINE_MOST + 1];
+    run(
+        &mut spt,
+        &mut spt_dir,
+        &mut tsp,
+        &mut tsp_dir,
+        &mut prune,
+        &mut input,
+        &mut line,
+    );
+}
