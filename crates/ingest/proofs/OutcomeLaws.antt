@@ -21,7 +21,7 @@ use Rattle.tree.specs.declared.stored.KeyOrder.the-variants.{Spt}
 use Rattle.tree.proofs.FormedContents.{formed-many}
 use Rattle.store.specs.Store.{Store, storeOf, limitMost, dirRoom, dirOf, held}
 use Rattle.store.specs.Refusal.{unless, _orElse_, limitOk, storeRefusal}
-use Rattle.store.specs.Ingest.{Decision, refuse, obsolete, take-it, ingestRefusal, judged, IngestOutcome, ingestOutcome, prunedPairs, carried, ingested}
+use Rattle.store.specs.Ingest.{Decision, refuse, obsolete, take-it, ingestRefusal, judged, MayFile, IngestOutcome, ingestOutcome, prunedPairs, carried, ingested}
 use Rattle.store.specs.declared.ingest.IngestVerdict.{IngestVerdict}
 use Rattle.store.specs.declared.ingest.IngestVerdict.the-variants as verdict
 use Rattle.store.specs.declared.ingest.Ingested.{Ingested}
@@ -74,6 +74,37 @@ same-room limit ps h =
     (λ q. let g = leb-true (dirRoom limit) (length (numbersOf ps)) q in le-leb (dirRoom limit) (length (zeros (2 * min (length ps) limitMost))) (omega arith) ∙ sym q)
     (λ q. let g = leb-false (dirRoom limit) (length (numbersOf ps)) q in lt-leb (dirRoom limit) (length (zeros (2 * min (length ps) limitMost))) (omega arith) ∙ sym q)
 
+-- An entry that is taken: its pairs are two numbers for each entry that it removes, and the prune list has room for them.
+abbrev pub removedBy : Store → EntryValue → ℕ
+removedBy s e = length (keep (removes (entryOf e)) (held field Spt s))
+
+module _ (s : Store) (prune : List ℕ) (e : EntryValue) (may : MayFile field s prune e) where
+  known : Ready s prune e
+  known = may-ready s prune e may
+
+  holds : length (held field Spt s) ≡ s .state .count
+  unfolding held
+  holds = formed-many (known .passes .formed Spt) (s .state .«namespace_id»)
+
+  dir-long : length (dirOf Spt s) ≡ 2 * s .state .limit
+  unfolding dirOf
+  dir-long = length-take-le (2 * s .state .limit) (s .sptDir) (known .passes .room .sptDir)
+
+  pub pruned-length : length (prunedPairs field s (entryOf e)) ≡ 2 * removedBy s e
+  unfolding prunedPairs
+  pruned-length =
+      let k = length-marks (removes (entryOf e)) (held field Spt s) in
+      let f = known .passes .few in
+      length-marked (marksOf (removes (entryOf e)) (held field Spt s)) (dirOf Spt s) (omega (arith, holds, dir-long))
+      ∙ ap (2 *_) (count-marks (removes (entryOf e)) (held field Spt s))
+
+  pub pruned-fits : 2 * removedBy s e ≤ length prune
+  pruned-fits =
+      let k = keep-length (removes (entryOf e)) (held field Spt s) in
+      let f = known .passes .few in
+      let g = known .pairs in
+      omega (arith, holds)
+
 -- The outcome with pairs, and that the pairs have room for what is counted.
 pub record Layered (s : Store) (ps : List Pair) (e : EntryValue) (token : List ℕ) (prevent : Bool) (r : Ingested) (a b c d ns : List ℕ) (n : ℕ) : Type 0 where
   pub few : 2 * n ≤ numbersUsed (length ps)
@@ -93,39 +124,11 @@ module _ (s : Store) (ps : List Pair) (e : EntryValue) (token : List ℕ) (preve
   unfolding put pairsOf
   nothing-put w z q = q ∙ ap (λ (m : ℕ). put (pairsOf (take (2 * m) ns)) ps) z ∙ sym (pairs-again ps)
 
-  module _ (j : judged field s own e prevent ≡ take-it) (m : ℕ) (em : m ≡ length (keep (removes (entryOf e)) (held field Spt s))) (ev : r .verdict ≡ verdict.Success m) where
-    known : Ready s own e
-    known = may-ready s own e (success-may s own e token prevent r (ap (λ (x : IngestOutcome). x .answer) eq) m ev)
-
-    holds : length (held field Spt s) ≡ s .state .count
-    unfolding held
-    holds = formed-many (known .passes .formed Spt) (s .state .«namespace_id»)
-
-    dir-long : length (dirOf Spt s) ≡ 2 * s .state .limit
-    unfolding dirOf
-    dir-long = length-take-le (2 * s .state .limit) (s .sptDir) (known .passes .room .sptDir)
-
-    pairs-long : length (prunedPairs field s (entryOf e)) ≡ 2 * m
-    unfolding prunedPairs
-    pairs-long =
-        let k = length-marks (removes (entryOf e)) (held field Spt s) in
-        let f = known .passes .few in
-        length-marked (marksOf (removes (entryOf e)) (held field Spt s)) (dirOf Spt s) (omega (arith, holds, dir-long))
-        ∙ ap (2 *_) (count-marks (removes (entryOf e)) (held field Spt s) ∙ sym em)
-
-    fits : 2 * m ≤ numbersUsed (length ps)
-    fits =
-        let k = keep-length (removes (entryOf e)) (held field Spt s) in
-        let f = known .passes .few in
-        let g = known .pairs in
-        omega (arith, holds, length-replicate {A = ℕ} (numbersUsed (length ps)) 0)
-
-    front : take (numbersUsed (length ps)) ns ≡ put (prunedPairs field s (entryOf e)) own → take (2 * m) ns ≡ prunedPairs field s (entryOf e)
-    unfolding put
-    front q =
-        sym (take-take (2 * m) (numbersUsed (length ps)) ns fits)
-        ∙ ap (take (2 * m)) q
-        ∙ take-at (prunedPairs field s (entryOf e)) (drop (length (prunedPairs field s (entryOf e))) own) (2 * m) pairs-long
+  -- What was put at the front of the numbers.
+  front : (xs old : List ℕ) (m : ℕ) → length xs ≡ 2 * m → 2 * m ≤ numbersUsed (length ps) → take (numbersUsed (length ps)) ns ≡ put xs old → take (2 * m) ns ≡ xs
+  unfolding put
+  front xs old m l f q =
+      sym (take-take (2 * m) (numbersUsed (length ps)) ns f) ∙ ap (take (2 * m)) q ∙ take-at xs (drop (length xs) old) (2 * m) l
 
   by-decision : (x : Decision) → judged field s own e prevent ≡ x → Layered s ps e token prevent r a b c d ns n
   unfolding ingested carried pairsIngested
@@ -148,15 +151,20 @@ module _ (s : Store) (ps : List Pair) (e : EntryValue) (token : List ℕ) (preve
             ∙ sym (ap (λ (x : Decision). inPairs (carried field s (numbersOf ps) (entryOf e) token x)) (sym decides ∙ j));
       }
   by-decision take-it j =
-      let m = length (keep (removes (entryOf e)) (held field Spt s)) in
+      let m = removedBy s e in
+      let pruned = prunedPairs field s (entryOf e) in
       let q : ingestOutcome r a b c d (take (numbersUsed (length ps)) ns) ≡ carried field s own (entryOf e) token take-it = eq ∙ ap (carried field s own (entryOf e) token) j in
       let v : r .verdict ≡ verdict.Success m = ap (λ (x : IngestOutcome). x .answer .verdict) q in
       let z : n ≡ m = en ∙ ap prunedCount v in
-      let f = front j m refl v (ap (λ (x : IngestOutcome). x .prune) q) in
-      let g : (w : List Pair) → w ≡ put (pairsOf (take (2 * n) ns)) ps → w ≡ pairsOf (put (prunedPairs field s (entryOf e)) (numbersOf ps)) =
-      λ w h. h ∙ ap (λ (k : ℕ). put (pairsOf (take (2 * k) ns)) ps) z ∙ ap (λ (l : List ℕ). put (pairsOf l) ps) f ∙ sym (pairs-put m (prunedPairs field s (entryOf e)) ps (pairs-long j m refl v)) in
+      let may = success-may s own e token prevent r (ap (λ (x : IngestOutcome). x .answer) eq) m v in
+      let l = pruned-length s own e may in
+      let f : 2 * m ≤ numbersUsed (length ps) = omega (arith, pruned-fits s own e may, length-replicate {A = ℕ} (numbersUsed (length ps)) 0) in
+      let g : (w : List Pair) → w ≡ put (pairsOf (take (2 * n) ns)) ps → w ≡ pairsOf (put pruned (numbersOf ps)) =
+      λ w h. h ∙ ap (λ (k : ℕ). put (pairsOf (take (2 * k) ns)) ps) z
+      ∙ ap (λ (x : List ℕ). put (pairsOf x) ps) (front pruned own m l f (ap (λ (x : IngestOutcome). x .prune) q))
+      ∙ sym (pairs-put m pruned ps l) in
       record {
-        few = omega (arith, fits j m refl v);
+        few = omega arith;
         done = λ w h.
             (λ i. record { answer = q i .answer; store = q i .store; pairs = g w h i })
             ∙ sym (ap (λ (x : Decision). inPairs (carried field s (numbersOf ps) (entryOf e) token x)) (sym decides ∙ j));

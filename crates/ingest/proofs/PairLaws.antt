@@ -104,3 +104,14 @@ put-here (suc m) (o ∷ l ∷ xs) (p ∷ ps) h = let e : length xs ≡ twice m =
 -- Numbers put over those of pairs are pairs put over them.
 pub pairs-put : (m : ℕ) (xs : List ℕ) (ps : List Pair) → length xs ≡ 2 * m → pairsOf (put xs (numbersOf ps)) ≡ put (pairsOf xs) ps
 pairs-put m xs ps h = put-here m xs ps (h ∙ sym (twice-is m))
+
+pairs-half : (m : ℕ) (xs : List ℕ) → length xs ≡ twice m → length (pairsOf xs) ≡ m
+unfolding pairsOf
+pairs-half zero [] h = refl
+pairs-half (suc m) [] h = absurd (let z : 0 ≡ suc (suc (twice m)) = h in omega arith)
+pairs-half zero (o ∷ xs) h = absurd (let z : suc (length xs) ≡ 0 = h in omega arith)
+pairs-half (suc m) (o ∷ []) h = absurd (let z : 1 ≡ suc (suc (twice m)) = h in omega arith)
+pairs-half (suc m) (o ∷ l ∷ xs) h = let e : length xs ≡ twice m = omega arith in ap suc (pairs-half m xs e)
+
+pub length-pairs : (m : ℕ) (xs : List ℕ) → length xs ≡ 2 * m → length (pairsOf xs) ≡ m
+length-pairs m xs h = pairs-half m xs (h ∙ sym (twice-is m))

@@ -1,4 +1,5 @@
--- Ingestion with the prune list as pairs: the core's outcome, its numbers taken two by two.
+-- Ingestion with the prune list as a lent slice of pairs, offset and length: the core's outcome, its numbers taken two by two. The pairs
+-- are those of the subspace-first tree before the call, in key order; the success verdict says how many, no other outcome writes any.
 use Prim.Native.Nat.{ℕ, _*_, min}
 use mathlib.Core.List.{List, [], _∷_}
 use mathlib.Core.Bool.{Bool}
@@ -47,6 +48,6 @@ pairsOutcome r a b c d pairs = record { answer = r; store = storeOf (r .state) a
 abbrev pub inPairs : IngestOutcome → PairsOutcome
 inPairs c = record { answer = c .answer; store = c .store; pairs = pairsOf (c .prune) }
 
--- An entry is ingested with the pairs lent as the prune list.
+-- The pairs lent are the prune list: 2 if they are fewer than the limit, and nothing past the new pairs is touched.
 unfoldable pub pairsIngested : Figures → Store → List Pair → EntryValue → (token : List ℕ) → (prevent : Bool) → PairsOutcome
 pairsIngested f s pairs e token prevent = inPairs (ingested f s (numbersOf pairs) e token prevent)
