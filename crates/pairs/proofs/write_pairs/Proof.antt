@@ -1,4 +1,4 @@
--- `ingest::write_pairs` meets its contract: a walk of its MIR, by hand, with a loop. The array lies in a memory slot, which is taken apart into its numbers; the borrow of the pairs is opened once, before the loop, and closed once, after it.
+-- `pairs::write_pairs` meets its contract: a walk of its MIR, by hand, with a loop. The array lies in a memory slot, which is taken apart into its numbers; the borrow of the pairs is opened once, before the loop, and closed once, after it.
 -- In a turn two numbers are read, the pair is made, and one record is taken out of the row and stored to.
 -- Assumes nothing.
 use mathlib.Core.Path.{_≡_, refl, sym, _∙_, ap, subst}
@@ -51,15 +51,15 @@ use denote.Triple.Table.{entered}
 use denote.Triple.Walked.{says, needs, Stays, stay-slice, stay-none, walkOf, goes-slice, goes-none, Walks, ends-at, walked, walk-meets}
 use denote.Exit.{yes}
 use Rattle.store.specs.Store.{limitMost}
-use Rattle.ingest.specs.declared.Pair.{Pair}
-use Rattle.ingest.proofs.PairLaws.{pairAt, pairsInto, into-length, into-put}
-use Rattle.ingest.proofs.Pair as T
-use Rattle.ingest.proofs.Pair.Laws as T′
-use Rattle.ingest.proofs.write_pairs.Key.{name as #own}
-use Rattle.ingest.proofs.write_pairs as write
-use Rattle.ingest.proofs.write_pairs.Statement as stated
-use Rattle.ingest.proofs.write_pairs.Code as code
-use Rattle.ingest.proofs.write_pairs.Code.Mir as code′
+use Rattle.pairs.specs.declared.Pair.{Pair}
+use Rattle.pairs.proofs.PairLaws.{pairAt, pairsInto, into-length, into-put}
+use Rattle.pairs.proofs.Pair as T
+use Rattle.pairs.proofs.Pair.Laws as T′
+use Rattle.pairs.proofs.write_pairs.Key.{name as #own}
+use Rattle.pairs.proofs.write_pairs as write
+use Rattle.pairs.proofs.write_pairs.Statement as stated
+use Rattle.pairs.proofs.write_pairs.Code as code
+use Rattle.pairs.proofs.write_pairs.Code.Mir as code′
 
 abbrev R : RattleType
 R = T.the-row

@@ -4,10 +4,10 @@ use mathlib.Core.Path.{sym}
 use native.Mathlib.Omega.{arith}
 use lib.ListN.{replicate, length-replicate}
 use lib.Seq.{length-take-le}
-use Rattle.ingest.proofs.OutcomeLaws.{with-front}
+use Rattle.pairs.proofs.OutcomeLaws.{with-front}
 use borrow.Author.Needs.{needs}
-use Rattle.ingest.proofs.ingest_with_room.Statement.{statement}
-use Rattle.ingest.proofs.ingest_with_room.Tie as tie
+use Rattle.pairs.proofs.ingest_with_room.Statement.{statement}
+use Rattle.pairs.proofs.ingest_with_room.Tie as tie
 
 numbers-used-requires : tie.Need-numbers-used-requires
 numbers-used-requires c κs = search needs

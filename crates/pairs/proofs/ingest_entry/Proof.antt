@@ -1,4 +1,4 @@
--- `ingest::ingest_entry` meets its contract: a walk of its MIR, by hand. All that it knows of `ingest_with_room` and `write_pairs` is that each meets its contract.
+-- `pairs::ingest_entry` meets its contract: a walk of its MIR, by hand. All that it knows of `ingest_with_room` and `write_pairs` is that each meets its contract.
 -- The four buffers are lent to the one, the pairs to the other; every borrow is given up for good.
 -- Assumes nothing.
 use mathlib.Core.Path.{_≡_, refl, sym, _∙_, ap, subst}
@@ -55,25 +55,25 @@ use Rattle.store.proofs.state.State as S
 use Rattle.store.proofs.state.State.Laws as S′
 use Rattle.store.proofs.ingest.Ingested as I
 use Rattle.store.proofs.ingest.Ingested.Laws as I′
-use Rattle.ingest.specs.Pairs.{pairsOf, prunedCount, numbersUsed}
-use Rattle.ingest.specs.declared.Pair.{Pair}
-use Rattle.ingest.specs.declared.NumbersIngested.{NumbersIngested}
-use Rattle.ingest.proofs.OutcomeLaws.{layered, in-room}
-use Rattle.ingest.proofs.Pair as P
-use Rattle.ingest.proofs.NumbersIngested as X
-use Rattle.ingest.proofs.NumbersIngested.Laws as X′
-use Rattle.ingest.proofs.ingest_with_room as core
-use Rattle.ingest.proofs.ingest_with_room.Symbol as core-def
-use Rattle.ingest.proofs.ingest_with_room.Symbol.{name as #core}
-use Rattle.ingest.proofs.ingest_with_room.Met as core-thm
-use Rattle.ingest.proofs.write_pairs as write
-use Rattle.ingest.proofs.write_pairs.Symbol as write-def
-use Rattle.ingest.proofs.write_pairs.Symbol.{name as #write}
-use Rattle.ingest.proofs.write_pairs.Met as write-thm
-use Rattle.ingest.proofs.ingest_entry.Key.{name as #own}
-use Rattle.ingest.proofs.ingest_entry as layer
-use Rattle.ingest.proofs.ingest_entry.Statement as stated
-use Rattle.ingest.proofs.ingest_entry.Code as code
+use Rattle.pairs.specs.Pairs.{pairsOf, prunedCount, numbersUsed}
+use Rattle.pairs.specs.declared.Pair.{Pair}
+use Rattle.pairs.specs.declared.NumbersIngested.{NumbersIngested}
+use Rattle.pairs.proofs.OutcomeLaws.{layered, in-room}
+use Rattle.pairs.proofs.Pair as P
+use Rattle.pairs.proofs.NumbersIngested as X
+use Rattle.pairs.proofs.NumbersIngested.Laws as X′
+use Rattle.pairs.proofs.ingest_with_room as core
+use Rattle.pairs.proofs.ingest_with_room.Symbol as core-def
+use Rattle.pairs.proofs.ingest_with_room.Symbol.{name as #core}
+use Rattle.pairs.proofs.ingest_with_room.Met as core-thm
+use Rattle.pairs.proofs.write_pairs as write
+use Rattle.pairs.proofs.write_pairs.Symbol as write-def
+use Rattle.pairs.proofs.write_pairs.Symbol.{name as #write}
+use Rattle.pairs.proofs.write_pairs.Met as write-thm
+use Rattle.pairs.proofs.ingest_entry.Key.{name as #own}
+use Rattle.pairs.proofs.ingest_entry as layer
+use Rattle.pairs.proofs.ingest_entry.Statement as stated
+use Rattle.pairs.proofs.ingest_entry.Code as code
 
 abbrev Numbers : RattleType
 Numbers = Array u32 2048
@@ -470,5 +470,5 @@ ingest-entry-spec 𝓤 H 𝓜 𝓖 𝓡 =
     entered 𝓤 H (tripleOf 𝓤 H (𝓖 .A) layer.signature (layer.spec 𝓤 H (𝓖 .A) (𝓜 .mem) (𝓡 .run)))
     (tables 𝓤 H 𝓜 𝓡 code.env .C) (tables 𝓤 H 𝓜 𝓡 code.env .Λ) #own code.function (code.unfolded 𝓤 H 𝓜 𝓡)
     (layer-meets 𝓤 H (𝓖 .A) (givenOf 𝓤 H 𝓜 𝓖) (𝓜 .mem) (𝓡 .run) (tablesOf 𝓤 H 𝓜 (tables 𝓤 H 𝓜 𝓡 code.env))
-    (cited 𝓤 H (Core 𝓤 H (𝓖 .A) (𝓜 .mem) (𝓡 .run)) 𝓜 𝓡 code.env #core core-def.routine code.calls-ingest·ingest-with-room (core-thm.met 𝓤 H 𝓜 𝓖 𝓡))
-    (cited 𝓤 H (Write 𝓤 H (𝓖 .A) (𝓜 .mem) (𝓡 .run)) 𝓜 𝓡 code.env #write write-def.routine code.calls-ingest·write-pairs (write-thm.met 𝓤 H 𝓜 𝓖 𝓡)))
+    (cited 𝓤 H (Core 𝓤 H (𝓖 .A) (𝓜 .mem) (𝓡 .run)) 𝓜 𝓡 code.env #core core-def.routine code.calls-pairs·ingest-with-room (core-thm.met 𝓤 H 𝓜 𝓖 𝓡))
+    (cited 𝓤 H (Write 𝓤 H (𝓖 .A) (𝓜 .mem) (𝓡 .run)) 𝓜 𝓡 code.env #write write-def.routine code.calls-pairs·write-pairs (write-thm.met 𝓤 H 𝓜 𝓖 𝓡)))

@@ -13,7 +13,7 @@ ghost use Rattle.laws.specs.Lists.{put};
 ghost use Rattle.data_model.specs.Path.{field};
 ghost use Rattle.store.specs.Store.{limitMost, storeOf};
 ghost use Rattle.store.specs.Ingest.{ingestOutcome, ingested};
-ghost use Rattle.ingest.specs.Pairs.{pairsOf, prunedCount, numbersUsed, pairsOutcome, pairsIngested};
+ghost use Rattle.pairs.specs.Pairs.{pairsOf, prunedCount, numbersUsed, pairsOutcome, pairsIngested};
 
 // Offset and length of a record.
 pub struct Pair {

@@ -19,10 +19,10 @@ use Rattle.store.specs.Refusal.{unless, _orElse_, limitOk, roomy, storeRefusal}
 use Rattle.store.specs.Ingest.{Decision, refuse, obsolete, take-it, ingestRefusal, judged, MayFile, prunedPairs, plainAnswer, carried, ingested}
 use Rattle.store.specs.declared.ingest.IngestVerdict.the-variants as verdict
 use Rattle.store.proofs.FileLaws.{success-may}
-use Rattle.ingest.specs.Pairs.{pairsOf, numbersOf, pairsIngested}
-use Rattle.ingest.specs.declared.Pair.{Pair}
-use Rattle.ingest.proofs.PairLaws.{pairs-again, length-numbers, pairs-put, length-pairs}
-use Rattle.ingest.proofs.OutcomeLaws.{removedBy, pruned-length}
+use Rattle.pairs.specs.Pairs.{pairsOf, numbersOf, pairsIngested}
+use Rattle.pairs.specs.declared.Pair.{Pair}
+use Rattle.pairs.proofs.PairLaws.{pairs-again, length-numbers, pairs-put, length-pairs}
+use Rattle.pairs.proofs.OutcomeLaws.{removedBy, pruned-length}
 
 module _ (s : Store) (ps : List Pair) (e : EntryValue) (token : List ℕ) (prevent : Bool) where
   -- The pairs of what the entry removes, as they stand in the subspace-first tree, in key order.

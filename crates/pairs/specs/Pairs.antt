@@ -10,7 +10,7 @@ use Rattle.store.specs.Ingest.{IngestOutcome, ingested}
 use Rattle.store.specs.declared.ingest.IngestVerdict.{IngestVerdict}
 use Rattle.store.specs.declared.ingest.IngestVerdict.the-variants as verdict
 use Rattle.store.specs.declared.ingest.Ingested.{Ingested}
-use Rattle.ingest.specs.declared.Pair.{Pair}
+use Rattle.pairs.specs.declared.Pair.{Pair}
 
 abbrev pub pair : ℕ → ℕ → Pair
 pair o l = record { offset = o; length = l }

@@ -7,8 +7,8 @@ use native.Mathlib.Nat.{le-of-suc-le-suc, not-suc-le-zero}
 use lib.ListN.{length, take, drop, getD, set, length-set}
 use lib.Seq.{drop-nil}
 use Rattle.laws.specs.Lists.{put}
-use Rattle.ingest.specs.Pairs.{pair, pairsOf, numbersOf}
-use Rattle.ingest.specs.declared.Pair.{Pair}
+use Rattle.pairs.specs.Pairs.{pair, pairsOf, numbersOf}
+use Rattle.pairs.specs.declared.Pair.{Pair}
 
 abbrev pub pairAt : List ℕ → ℕ → Pair
 pairAt ns k = pair (getD ns (2 * k) 0) (getD ns (2 * k + 1) 0)

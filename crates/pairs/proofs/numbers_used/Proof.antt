@@ -1,8 +1,8 @@
 -- `numbers_used` meets its contract. Assumes nothing.
-use Rattle.ingest.specs.Pairs.{numbersUsed}
+use Rattle.pairs.specs.Pairs.{numbersUsed}
 use borrow.Author.Needs.{needs}
-use Rattle.ingest.proofs.numbers_used.Statement.{statement}
-use Rattle.ingest.proofs.numbers_used.Tie as tie
+use Rattle.pairs.proofs.numbers_used.Statement.{statement}
+use Rattle.pairs.proofs.numbers_used.Tie as tie
 
 mul-result : tie.Need-mul-result
 mul-result c = search needs

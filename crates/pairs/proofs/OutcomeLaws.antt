@@ -29,9 +29,9 @@ use Rattle.store.proofs.Counted.{keep-length}
 use Rattle.store.proofs.CheckLaws.{limit-most}
 use Rattle.store.proofs.IngestLaws.{Ready, ready}
 use Rattle.store.proofs.FileLaws.{may-ready, success-may}
-use Rattle.ingest.specs.Pairs.{pair, pairsOf, numbersOf, prunedCount, numbersUsed, PairsOutcome, pairsOutcome, inPairs, pairsIngested}
-use Rattle.ingest.specs.declared.Pair.{Pair}
-use Rattle.ingest.proofs.PairLaws.{pairs-again, length-numbers, pairs-put}
+use Rattle.pairs.specs.Pairs.{pair, pairsOf, numbersOf, prunedCount, numbersUsed, PairsOutcome, pairsOutcome, inPairs, pairsIngested}
+use Rattle.pairs.specs.declared.Pair.{Pair}
+use Rattle.pairs.proofs.PairLaws.{pairs-again, length-numbers, pairs-put}
 
 abbrev zeros : ℕ → List ℕ
 zeros n = replicate n 0
