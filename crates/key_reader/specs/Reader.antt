@@ -1,0 +1,35 @@
+-- What a reader takes: its position after a component, and the path that it takes component by component.
+use Prim.Native.Nat.{ℕ, zero, suc, _-_}
+use mathlib.Core.List.{List, [], _∷_}
+use mathlib.Core.Bool.{cond}
+use lib.ListN.{take, drop}
+use lib.Dec.{leb}
+use Rattle.data_model.specs.Path.{field, Components}
+use Rattle.keys.specs.Decode.{Taken, refused, took, more, componentRead}
+use Rattle.keys.specs.declared.decode.Next.{Next}
+use Rattle.keys.specs.declared.decode.Next.the-variants as next
+use Rattle.keys.specs.declared.decode.ComponentRead.{ComponentRead}
+
+-- Behind the component or the path's end; a refusal takes nothing.
+abbrev pub behindNext : Next → ℕ → ℕ
+behindNext (next.Component len n) at = n
+behindNext (next.PathEnd n) at = n
+behindNext (next.Refused k) at = at
+
+unfoldable pub behind : ComponentRead → ℕ → ℕ
+behind c at = behindNext (c .next) at
+
+-- How a path goes on that has room bytes left, after what came next: on from the position behind it.
+abbrev pub onward : (room at : ℕ) → Next → List ℕ → (ℕ → ℕ → Taken Components) → Taken Components
+onward room at (next.Component len n) bytes on =
+    cond (leb len room) (more (take len bytes ∷_) (n - at) (on (room - len) n)) refused
+onward room at (next.PathEnd n) bytes on = took [] (n - at)
+onward room at (next.Refused k) bytes on = refused
+
+unfoldable pub takeOn : (room at : ℕ) → ComponentRead → (ℕ → ℕ → Taken Components) → Taken Components
+takeOn room at c on = onward room at (c .next) (c .bytes) on
+
+-- The path that a reader at a position takes, one component after another: at most n of them, of room bytes in all.
+unfoldable pub takePath : (n room at : ℕ) → List ℕ → Taken Components
+takePath zero room at k = takeOn room at (componentRead field at (drop at k)) (λ room′ at′. refused)
+takePath (suc n) room at k = takeOn room at (componentRead field at (drop at k)) (λ room′ at′. takePath n room′ at′ k)

@@ -1,0 +1,101 @@
+// A reader that holds a key's bytes by reference, with its position. Its functions leave the work to the decoder on slice and number.
+// The borrow checker covers no function over such a struct: each is proved by a walk.
+use keys::decode::ComponentRead;
+use keys::decode::Decoded;
+use keys::decode::Next;
+use keys::decode::PathRead;
+ghost use mathlib.Core.Path.{_≡_};
+ghost use lib.ListN.{drop};
+ghost use Rattle.data_model.specs.Path.{field};
+ghost use Rattle.keys.specs.Decode.{readPath, componentRead, pathRead, readSpt, readTsp, decoded};
+ghost use Rattle.key_reader.specs.Reader.{behind};
+
+pub struct KeyReader<'a> {
+    pub bytes: &'a [u8],
+    pub at: usize,
+}
+
+pub fn new<'a>(bytes: &'a [u8]) -> KeyReader<'a>
+    ensures { λ r. ⌜ (r .bytes ≡ bytes .entry) × (r .at ≡ 0) ⌝ }
+{
+    KeyReader { bytes, at: 0 }
+}
+
+pub fn position<'a>(r: KeyReader<'a>) -> usize
+    ensures { λ n. ⌜ n ≡ r .entry .at ⌝ }
+{
+    r.at
+}
+
+// A slice from a position on; past the end: nothing.
+fn from_position(bytes: &[u8], at: usize) -> &[u8]
+    ensures { λ s. ⌜ now s ≡ drop at (now (bytes .entry)) ⌝ }
+{
+    if bytes.len() < at {
+        return &bytes[bytes.len()..];
+    }
+    &bytes[at..]
+}
+
+// What is left to read.
+pub fn rest<'a>(r: KeyReader<'a>) -> &'a [u8]
+    ensures { λ s. ⌜ now s ≡ drop (r .entry .at) (now (r .entry .bytes)) ⌝ }
+{
+    from_position(r.bytes, r.at)
+}
+
+// Where a reader stands that took a component or the path's end; a refusal leaves it.
+fn position_behind(c: ComponentRead, at: usize) -> usize
+    ensures { λ n. ⌜ n ≡ behind c at ⌝ }
+{
+    let next = c.next;
+    match next {
+        Next::Component(_, n) => n,
+        Next::PathEnd(n) => n,
+        Next::Refused(_) => at,
+    }
+}
+
+// Takes the next component, or the path's end.
+pub fn next_component<'s, 'a>(r: &'s mut KeyReader<'a>) -> ComponentRead
+    ensures { λ c. ⌜ (c ≡ componentRead field (now (r .entry) .at) (drop (now (r .entry) .at) (now (now (r .entry) .bytes)))) × (now (r .exit) .bytes ≡ now (r .entry) .bytes) × (now (r .exit) .at ≡ behind c (now (r .entry) .at)) ⌝ }
+{
+    let at = r.at;
+    let c = keys::decode::component_bytes(r.bytes, at);
+    let n = position_behind(c, at);
+    r.at = n;
+    c
+}
+
+// The path from the position on.
+pub fn decode_path<'a>(r: KeyReader<'a>) -> PathRead
+    ensures { λ p. ⌜ p ≡ pathRead (r .entry .at) (readPath field (drop (r .entry .at) (now (r .entry .bytes)))) ⌝ }
+{
+    keys::decode::decode_path(r.bytes, r.at)
+}
+
+// The key that is left to read.
+pub fn decode_spt_entry_key<'a>(r: KeyReader<'a>) -> Decoded
+    ensures { λ d. ⌜ d ≡ decoded (readSpt field (drop (r .entry .at) (now (r .entry .bytes)))) ⌝ }
+{
+    keys::decode::decode_spt_entry_key_at(r.bytes, r.at)
+}
+
+pub fn decode_tsp_entry_key<'a>(r: KeyReader<'a>) -> Decoded
+    ensures { λ d. ⌜ d ≡ decoded (readTsp field (drop (r .entry .at) (now (r .entry .bytes)))) ⌝ }
+{
+    keys::decode::decode_tsp_entry_key_at(r.bytes, r.at)
+}
+
+// A whole key through a reader: what the decoder says of it.
+pub fn read_spt_entry_key(key: &[u8]) -> Decoded
+    ensures { λ d. ⌜ d ≡ decoded (readSpt field (now (key .entry))) ⌝ }
+{
+    decode_spt_entry_key(new(key))
+}
+
+pub fn read_tsp_entry_key(key: &[u8]) -> Decoded
+    ensures { λ d. ⌜ d ≡ decoded (readTsp field (now (key .entry))) ⌝ }
+{
+    decode_tsp_entry_key(new(key))
+}

@@ -1,0 +1,178 @@
+-- The core's outcome on numbers that are 0, with what it wrote copied to the pairs, is the outcome with pairs. Assumes nothing.
+use Prim.Native.Nat.{ℕ, zero, suc, _+_, _*_, _≤_, _<_, min}
+use mathlib.Core.Path.{_≡_, refl, sym, ap, subst, _∙_}
+use mathlib.Core.List.{List, [], _∷_, _++_}
+use mathlib.Core.Bool.{Bool, true, false, cond}
+use native.Mathlib.Omega.{arith}
+use lib.ListN.{length, take, drop, replicate, length-replicate}
+use lib.Seq.{take-at, take-take, length-take-le}
+use lib.Dec.{leb}
+use borrow.Author.Tests.{le-leb, lt-leb, leb-true, leb-false}
+use Rattle.laws.specs.Lists.{put}
+use Rattle.laws.specs.Sorted.{keep}
+use Rattle.laws.proofs.Truth.{split}
+use Rattle.layout.specs.Marks.{marksOf, markedPairs}
+use Rattle.layout.proofs.MarkLaws.{length-marks, count-marks, length-marked}
+use Rattle.data_model.specs.Path.{field}
+use Rattle.data_model.specs.Entry.{entryOf}
+use Rattle.data_model.specs.declared.entry.Entry.{Entry as EntryValue}
+use Rattle.tree.specs.Matching.{removes}
+use Rattle.tree.specs.declared.stored.KeyOrder.the-variants.{Spt}
+use Rattle.tree.proofs.FormedContents.{formed-many}
+use Rattle.store.specs.Store.{Store, storeOf, limitMost, dirRoom, dirOf, held}
+use Rattle.store.specs.Refusal.{unless, _orElse_, limitOk, storeRefusal}
+use Rattle.store.specs.Ingest.{Decision, refuse, obsolete, take-it, ingestRefusal, judged, MayFile, IngestOutcome, ingestOutcome, prunedPairs, carried, ingested}
+use Rattle.store.specs.declared.ingest.IngestVerdict.{IngestVerdict}
+use Rattle.store.specs.declared.ingest.IngestVerdict.the-variants as verdict
+use Rattle.store.specs.declared.ingest.Ingested.{Ingested}
+use Rattle.store.proofs.Counted.{keep-length}
+use Rattle.store.proofs.CheckLaws.{limit-most}
+use Rattle.store.proofs.IngestLaws.{Ready, ready}
+use Rattle.store.proofs.FileLaws.{may-ready, success-may}
+use Rattle.pairs.specs.Pairs.{pair, pairsOf, numbersOf, prunedCount, numbersUsed, PairsOutcome, pairsOutcome, inPairs, pairsIngested}
+use Rattle.pairs.specs.declared.Pair.{Pair}
+use Rattle.pairs.proofs.PairLaws.{pairs-again, length-numbers, pairs-put}
+
+abbrev zeros : ℕ → List ℕ
+zeros n = replicate n 0
+
+zeros-front : (i j : ℕ) → i ≤ j → take i (zeros j) ≡ zeros i
+zeros-front zero j g = refl
+zeros-front (suc i) zero g = absurd (let y : suc i ≤ 0 = g in omega arith)
+zeros-front (suc i) (suc j) g = ap (0 ∷_) (zeros-front i j (omega arith))
+
+-- The front of an array of zeros that the core was lent, and is back.
+pub with-front : (r : Ingested) (a b c d part : List ℕ) (n m : ℕ) (s : Store) (e : EntryValue) (token : List ℕ) (prevent : Bool)
+    → n ≡ m → n ≤ 2 * limitMost → length part ≡ length (take n (zeros 2048))
+    → ingestOutcome r a b c d part ≡ ingested field s (take n (zeros 2048)) e token prevent
+    → ingestOutcome r a b c d (take m (part ++ drop n (zeros 2048))) ≡ ingested field s (zeros m) e token prevent
+with-front r a b c d part n m s e token prevent q h l eq =
+    let z : length (zeros 2048) ≡ 2048 = length-replicate {A = ℕ} 2048 0 in
+    let k : length part ≡ m = l ∙ length-take-le n (zeros 2048) (omega arith) ∙ q in
+    ap (ingestOutcome r a b c d) (take-at part (drop n (zeros 2048)) m k)
+    ∙ eq
+    ∙ ap (λ (p : List ℕ). ingested field s p e token prevent) (ap (λ (j : ℕ). take j (zeros 2048)) q ∙ zeros-front m 2048 (omega arith))
+
+-- Of a prune list the refusals look at its room alone.
+module _ (s : Store) (p p′ : List ℕ) (e : EntryValue) (prevent : Bool) where
+  same-refusal : (limitOk (s .state .limit) ≡ true → leb (dirRoom (s .state .limit)) (length p) ≡ leb (dirRoom (s .state .limit)) (length p′)) → ingestRefusal field s p e ≡ ingestRefusal field s p′ e
+  unfolding ingestRefusal storeRefusal unless _orElse_
+  same-refusal h = split (limitOk (s .state .limit)) (λ q. rw (h q)) (λ q. rw q)
+
+  same-judged : ingestRefusal field s p e ≡ ingestRefusal field s p′ e → judged field s p e prevent ≡ judged field s p′ e prevent
+  unfolding judged
+  same-judged h = rw h
+
+-- An entry needs no more numbers than the most entries have.
+same-room : (limit : ℕ) (ps : List Pair) → limitOk limit ≡ true → leb (dirRoom limit) (length (zeros (numbersUsed (length ps)))) ≡ leb (dirRoom limit) (length (numbersOf ps))
+unfolding numbersUsed
+same-room limit ps h =
+    let l = limit-most limit h .1 in
+    let a = length-replicate {A = ℕ} (2 * min (length ps) limitMost) 0 in
+    let b = length-numbers ps in
+    split (leb (dirRoom limit) (length (numbersOf ps)))
+    (λ q. let g = leb-true (dirRoom limit) (length (numbersOf ps)) q in le-leb (dirRoom limit) (length (zeros (2 * min (length ps) limitMost))) (omega arith) ∙ sym q)
+    (λ q. let g = leb-false (dirRoom limit) (length (numbersOf ps)) q in lt-leb (dirRoom limit) (length (zeros (2 * min (length ps) limitMost))) (omega arith) ∙ sym q)
+
+-- An entry that is taken: its pairs are two numbers for each entry that it removes, and the prune list has room for them.
+abbrev pub removedBy : Store → EntryValue → ℕ
+removedBy s e = length (keep (removes (entryOf e)) (held field Spt s))
+
+module _ (s : Store) (prune : List ℕ) (e : EntryValue) (may : MayFile field s prune e) where
+  known : Ready s prune e
+  known = may-ready s prune e may
+
+  holds : length (held field Spt s) ≡ s .state .count
+  unfolding held
+  holds = formed-many (known .passes .formed Spt) (s .state .«namespace_id»)
+
+  dir-long : length (dirOf Spt s) ≡ 2 * s .state .limit
+  unfolding dirOf
+  dir-long = length-take-le (2 * s .state .limit) (s .sptDir) (known .passes .room .sptDir)
+
+  pub pruned-length : length (prunedPairs field s (entryOf e)) ≡ 2 * removedBy s e
+  unfolding prunedPairs
+  pruned-length =
+      let k = length-marks (removes (entryOf e)) (held field Spt s) in
+      let f = known .passes .few in
+      length-marked (marksOf (removes (entryOf e)) (held field Spt s)) (dirOf Spt s) (omega (arith, holds, dir-long))
+      ∙ ap (2 *_) (count-marks (removes (entryOf e)) (held field Spt s))
+
+  pub pruned-fits : 2 * removedBy s e ≤ length prune
+  pruned-fits =
+      let k = keep-length (removes (entryOf e)) (held field Spt s) in
+      let f = known .passes .few in
+      let g = known .pairs in
+      omega (arith, holds)
+
+-- The outcome with pairs, and that the pairs have room for what is counted.
+pub record Layered (s : Store) (ps : List Pair) (e : EntryValue) (token : List ℕ) (prevent : Bool) (r : Ingested) (a b c d ns : List ℕ) (n : ℕ) : Type 0 where
+  pub few : 2 * n ≤ numbersUsed (length ps)
+  pub done : (w : List Pair) → w ≡ put (pairsOf (take (2 * n) ns)) ps → pairsOutcome r a b c d w ≡ pairsIngested field s ps e token prevent
+
+module _ (s : Store) (ps : List Pair) (e : EntryValue) (token : List ℕ) (prevent : Bool) (r : Ingested) (a b c d ns : List ℕ) (n : ℕ)
+    (eq : ingestOutcome r a b c d (take (numbersUsed (length ps)) ns) ≡ ingested field s (zeros (numbersUsed (length ps))) e token prevent) (en : n ≡ prunedCount (r .verdict)) where
+  abbrev own : List ℕ
+  own = zeros (numbersUsed (length ps))
+
+  -- Both prune lists lead to one decision.
+  decides : judged field s own e prevent ≡ judged field s (numbersOf ps) e prevent
+  decides = same-judged s own (numbersOf ps) e prevent (same-refusal s own (numbersOf ps) e prevent (same-room (s .state .limit) ps))
+
+  -- Nothing is pruned: the pairs are as they were.
+  nothing-put : (w : List Pair) → n ≡ 0 → w ≡ put (pairsOf (take (2 * n) ns)) ps → w ≡ pairsOf (numbersOf ps)
+  unfolding put pairsOf
+  nothing-put w z q = q ∙ ap (λ (m : ℕ). put (pairsOf (take (2 * m) ns)) ps) z ∙ sym (pairs-again ps)
+
+  -- What was put at the front of the numbers.
+  front : (xs old : List ℕ) (m : ℕ) → length xs ≡ 2 * m → 2 * m ≤ numbersUsed (length ps) → take (numbersUsed (length ps)) ns ≡ put xs old → take (2 * m) ns ≡ xs
+  unfolding put
+  front xs old m l f q =
+      sym (take-take (2 * m) (numbersUsed (length ps)) ns f) ∙ ap (take (2 * m)) q ∙ take-at xs (drop (length xs) old) (2 * m) l
+
+  by-decision : (x : Decision) → judged field s own e prevent ≡ x → Layered s ps e token prevent r a b c d ns n
+  unfolding ingested carried pairsIngested
+  by-decision (refuse k) j =
+      let q : ingestOutcome r a b c d (take (numbersUsed (length ps)) ns) ≡ carried field s own (entryOf e) token (refuse k) = eq ∙ ap (carried field s own (entryOf e) token) j in
+      let z : n ≡ 0 = en ∙ ap (λ (x : IngestOutcome). prunedCount (x .answer .verdict)) q in
+      record {
+        few = omega arith;
+        done = λ w h.
+            (λ i. record { answer = q i .answer; store = q i .store; pairs = nothing-put w z h i })
+            ∙ sym (ap (λ (x : Decision). inPairs (carried field s (numbersOf ps) (entryOf e) token x)) (sym decides ∙ j));
+      }
+  by-decision (obsolete x) j =
+      let q : ingestOutcome r a b c d (take (numbersUsed (length ps)) ns) ≡ carried field s own (entryOf e) token (obsolete x) = eq ∙ ap (carried field s own (entryOf e) token) j in
+      let z : n ≡ 0 = en ∙ ap (λ (x : IngestOutcome). prunedCount (x .answer .verdict)) q in
+      record {
+        few = omega arith;
+        done = λ w h.
+            (λ i. record { answer = q i .answer; store = q i .store; pairs = nothing-put w z h i })
+            ∙ sym (ap (λ (x : Decision). inPairs (carried field s (numbersOf ps) (entryOf e) token x)) (sym decides ∙ j));
+      }
+  by-decision take-it j =
+      let m = removedBy s e in
+      let pruned = prunedPairs field s (entryOf e) in
+      let q : ingestOutcome r a b c d (take (numbersUsed (length ps)) ns) ≡ carried field s own (entryOf e) token take-it = eq ∙ ap (carried field s own (entryOf e) token) j in
+      let v : r .verdict ≡ verdict.Success m = ap (λ (x : IngestOutcome). x .answer .verdict) q in
+      let z : n ≡ m = en ∙ ap prunedCount v in
+      let may = success-may s own e token prevent r (ap (λ (x : IngestOutcome). x .answer) eq) m v in
+      let l = pruned-length s own e may in
+      let f : 2 * m ≤ numbersUsed (length ps) = omega (arith, pruned-fits s own e may, length-replicate {A = ℕ} (numbersUsed (length ps)) 0) in
+      let g : (w : List Pair) → w ≡ put (pairsOf (take (2 * n) ns)) ps → w ≡ pairsOf (put pruned (numbersOf ps)) =
+      λ w h. h ∙ ap (λ (k : ℕ). put (pairsOf (take (2 * k) ns)) ps) z
+      ∙ ap (λ (x : List ℕ). put (pairsOf x) ps) (front pruned own m l f (ap (λ (x : IngestOutcome). x .prune) q))
+      ∙ sym (pairs-put m pruned ps l) in
+      record {
+        few = omega arith;
+        done = λ w h.
+            (λ i. record { answer = q i .answer; store = q i .store; pairs = g w h i })
+            ∙ sym (ap (λ (x : Decision). inPairs (carried field s (numbersOf ps) (entryOf e) token x)) (sym decides ∙ j));
+      }
+
+  pub layered : Layered s ps e token prevent r a b c d ns n
+  layered = by-decision (judged field s own e prevent) refl
+
+  pub in-room : (n ≤ limitMost) × (n ≤ length ps)
+  unfolding numbersUsed
+  in-room = let f = layered .few in (omega arith, omega arith)

@@ -1,0 +1,53 @@
+-- Ingestion with the prune list as a lent slice of pairs, offset and length: the core's outcome, its numbers taken two by two. The pairs
+-- are those of the subspace-first tree before the call, in key order; the success verdict says how many, no other outcome writes any.
+use Prim.Native.Nat.{ℕ, _*_, min}
+use mathlib.Core.List.{List, [], _∷_}
+use mathlib.Core.Bool.{Bool}
+use Rattle.data_model.specs.Path.{Figures}
+use Rattle.data_model.specs.declared.entry.Entry.{Entry as EntryValue}
+use Rattle.store.specs.Store.{Store, storeOf, limitMost}
+use Rattle.store.specs.Ingest.{IngestOutcome, ingested}
+use Rattle.store.specs.declared.ingest.IngestVerdict.{IngestVerdict}
+use Rattle.store.specs.declared.ingest.IngestVerdict.the-variants as verdict
+use Rattle.store.specs.declared.ingest.Ingested.{Ingested}
+use Rattle.pairs.specs.declared.Pair.{Pair}
+
+abbrev pub pair : ℕ → ℕ → Pair
+pair o l = record { offset = o; length = l }
+
+-- Numbers as pairs, and pairs as numbers: offset, then length.
+unfoldable pub pairsOf : List ℕ → List Pair
+pairsOf [] = []
+pairsOf (o ∷ []) = []
+pairsOf (o ∷ l ∷ ns) = pair o l ∷ pairsOf ns
+
+unfoldable pub numbersOf : List Pair → List ℕ
+numbersOf [] = []
+numbersOf (p ∷ ps) = p .offset ∷ p .length ∷ numbersOf ps
+
+-- How many pairs a verdict counts.
+abbrev pub prunedCount : IngestVerdict → ℕ
+prunedCount (verdict.Success n) = n
+prunedCount verdict.Obsolete = 0
+prunedCount (verdict.Refused n) = 0
+
+-- How many numbers so many pairs are, as far as an entry may need them.
+unfoldable pub numbersUsed : (pairs : ℕ) → ℕ
+numbersUsed n = 2 * min n limitMost
+
+-- The answer, the store and the pairs afterwards.
+pub record PairsOutcome : Type 0 where
+  pub answer : Ingested
+  pub store : Store
+  pub pairs : List Pair
+
+abbrev pub pairsOutcome : Ingested → List ℕ → List ℕ → List ℕ → List ℕ → List Pair → PairsOutcome
+pairsOutcome r a b c d pairs = record { answer = r; store = storeOf (r .state) a b c d; pairs = pairs }
+
+-- The core's outcome, with pairs in place of numbers.
+abbrev pub inPairs : IngestOutcome → PairsOutcome
+inPairs c = record { answer = c .answer; store = c .store; pairs = pairsOf (c .prune) }
+
+-- The pairs lent are the prune list: 2 if they are fewer than the limit, and nothing past the new pairs is touched.
+unfoldable pub pairsIngested : Figures → Store → List Pair → EntryValue → (token : List ℕ) → (prevent : Bool) → PairsOutcome
+pairsIngested f s pairs e token prevent = inPairs (ingested f s (numbersOf pairs) e token prevent)

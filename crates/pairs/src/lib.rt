@@ -1,0 +1,131 @@
+// The thin ingest layer: the pruned pairs go to a lent slice of pair records, over the store's core on numbers. Only the pairs are lent.
+// The borrow checker covers no function over a slice of structs: those two are proved by a walk.
+use data_model::entry::Entry;
+use store::ingest::IngestVerdict;
+use store::ingest::Ingested;
+use store::ingest::ingest_entry_numbers;
+use store::state::LIMIT_MOST;
+use store::state::State;
+ghost use mathlib.Core.Path.{_≡_};
+ghost use Prim.Native.Nat.{_*_, _≤_};
+ghost use lib.ListN.{length, take, replicate};
+ghost use Rattle.laws.specs.Lists.{put};
+ghost use Rattle.data_model.specs.Path.{field};
+ghost use Rattle.store.specs.Store.{limitMost, storeOf};
+ghost use Rattle.store.specs.Ingest.{ingestOutcome, ingested};
+ghost use Rattle.pairs.specs.Pairs.{pairsOf, prunedCount, numbersUsed, pairsOutcome, pairsIngested};
+
+// Offset and length of a record.
+pub struct Pair {
+    pub offset: u32,
+    pub length: u32,
+}
+
+// The most numbers of a prune list: two for each entry.
+pub const NUMBERS_MOST: usize = 2 * LIMIT_MOST;
+
+// The core's answer, how many pairs it pruned, and their numbers.
+pub struct NumbersIngested {
+    pub ingested: Ingested,
+    pub count: usize,
+    pub numbers: [u32; NUMBERS_MOST],
+}
+
+fn pruned_count(verdict: IngestVerdict) -> usize
+    ensures { λ n. ⌜ n ≡ prunedCount verdict ⌝ }
+{
+    match verdict {
+        IngestVerdict::Success(n) => n,
+        IngestVerdict::Obsolete => 0,
+        IngestVerdict::Refused(_) => 0,
+    }
+}
+
+// How many numbers a prune list of some pairs has, as far as an entry may need them.
+fn numbers_used(pairs: usize) -> usize
+    ensures { λ n. ⌜ (n ≡ numbersUsed pairs) × (n ≤ 2 * limitMost) ⌝ }
+{
+    if pairs < LIMIT_MOST {
+        return 2 * pairs;
+    }
+    NUMBERS_MOST
+}
+
+// The core, on as many numbers as the pairs have room for: its refusal 2 is theirs.
+fn ingest_with_room(
+    state: State,
+    spt: &mut [u8],
+    spt_dir: &mut [u32],
+    tsp: &mut [u8],
+    tsp_dir: &mut [u32],
+    room: usize,
+    entry: Entry,
+    token: [u8; 64],
+    prevent: bool,
+) -> NumbersIngested
+    ensures { λ r. ⌜ (ingestOutcome (r .ingested) (now (spt .exit)) (now («spt_dir» .exit)) (now (tsp .exit)) (now («tsp_dir» .exit)) (take (numbersUsed room) (r .numbers)) ≡ ingested field (storeOf state (now (spt .entry)) (now («spt_dir» .entry)) (now (tsp .entry)) (now («tsp_dir» .entry))) (replicate (numbersUsed room) 0) entry token prevent) × (r .count ≡ prunedCount (r .ingested .verdict)) ⌝ }
+{
+    let mut numbers = [0u32; NUMBERS_MOST];
+    let n = numbers_used(room);
+    let ingested = ingest_entry_numbers(
+        state,
+        spt,
+        spt_dir,
+        tsp,
+        tsp_dir,
+        &mut numbers[..n],
+        entry,
+        token,
+        prevent,
+    );
+    let verdict = ingested.verdict;
+    let count = pruned_count(verdict);
+    NumbersIngested {
+        ingested,
+        count,
+        numbers,
+    }
+}
+
+// The first n pairs are those that the numbers spell.
+fn write_pairs(numbers: [u32; NUMBERS_MOST], pairs: &mut [Pair], n: usize)
+    requires { ⌜ (n ≤ limitMost) × (n ≤ length (now pairs)) ⌝ }
+    ensures { λ _. ⌜ now (pairs .exit) ≡ put (pairsOf (take (2 * n) numbers)) (now (pairs .entry)) ⌝ }
+{
+    let mut k = 0;
+    while k < n {
+        pairs[k] = Pair {
+            offset: numbers[2 * k],
+            length: numbers[2 * k + 1],
+        };
+        k += 1;
+    }
+}
+
+pub fn ingest_entry(
+    state: State,
+    spt: &mut [u8],
+    spt_dir: &mut [u32],
+    tsp: &mut [u8],
+    tsp_dir: &mut [u32],
+    pairs: &mut [Pair],
+    entry: Entry,
+    token: [u8; 64],
+    prevent: bool,
+) -> Ingested
+    ensures { λ r. ⌜ pairsOutcome r (now (spt .exit)) (now («spt_dir» .exit)) (now (tsp .exit)) (now («tsp_dir» .exit)) (now (pairs .exit)) ≡ pairsIngested field (storeOf state (now (spt .entry)) (now («spt_dir» .entry)) (now (tsp .entry)) (now («tsp_dir» .entry))) (now (pairs .entry)) entry token prevent ⌝ }
+{
+    let r = ingest_with_room(
+        state,
+        spt,
+        spt_dir,
+        tsp,
+        tsp_dir,
+        pairs.len(),
+        entry,
+        token,
+        prevent,
+    );
+    write_pairs(r.numbers, pairs, r.count);
+    r.ingested
+}
