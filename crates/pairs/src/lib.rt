@@ -61,9 +61,9 @@ fn ingest_with_room(
     room: usize,
     entry: Entry,
     token: [u8; 64],
-    prevent: bool,
+    prevent_pruning: bool,
 ) -> NumbersIngested
-    ensures { λ r. ⌜ (ingestOutcome (r .ingested) (now (spt .exit)) (now («spt_dir» .exit)) (now (tsp .exit)) (now («tsp_dir» .exit)) (take (numbersUsed room) (r .numbers)) ≡ ingested field (storeOf state (now (spt .entry)) (now («spt_dir» .entry)) (now (tsp .entry)) (now («tsp_dir» .entry))) (replicate (numbersUsed room) 0) entry token prevent) × (r .count ≡ prunedCount (r .ingested .verdict)) ⌝ }
+    ensures { λ r. ⌜ (ingestOutcome (r .ingested) (now (spt .exit)) (now («spt_dir» .exit)) (now (tsp .exit)) (now («tsp_dir» .exit)) (take (numbersUsed room) (r .numbers)) ≡ ingested field (storeOf state (now (spt .entry)) (now («spt_dir» .entry)) (now (tsp .entry)) (now («tsp_dir» .entry))) (replicate (numbersUsed room) 0) entry token «prevent_pruning») × (r .count ≡ prunedCount (r .ingested .verdict)) ⌝ }
 {
     let mut numbers = [0u32; NUMBERS_MOST];
     let n = numbers_used(room);
@@ -76,7 +76,7 @@ fn ingest_with_room(
         &mut numbers[..n],
         entry,
         token,
-        prevent,
+        prevent_pruning,
     );
     let verdict = ingested.verdict;
     let count = pruned_count(verdict);
@@ -111,9 +111,9 @@ pub fn ingest_entry(
     pairs: &mut [Pair],
     entry: Entry,
     token: [u8; 64],
-    prevent: bool,
+    prevent_pruning: bool,
 ) -> Ingested
-    ensures { λ r. ⌜ pairsOutcome r (now (spt .exit)) (now («spt_dir» .exit)) (now (tsp .exit)) (now («tsp_dir» .exit)) (now (pairs .exit)) ≡ pairsIngested field (storeOf state (now (spt .entry)) (now («spt_dir» .entry)) (now (tsp .entry)) (now («tsp_dir» .entry))) (now (pairs .entry)) entry token prevent ⌝ }
+    ensures { λ r. ⌜ pairsOutcome r (now (spt .exit)) (now («spt_dir» .exit)) (now (tsp .exit)) (now («tsp_dir» .exit)) (now (pairs .exit)) ≡ pairsIngested field (storeOf state (now (spt .entry)) (now («spt_dir» .entry)) (now (tsp .entry)) (now («tsp_dir» .entry))) (now (pairs .entry)) entry token «prevent_pruning» ⌝ }
 {
     let r = ingest_with_room(
         state,
@@ -124,7 +124,7 @@ pub fn ingest_entry(
         pairs.len(),
         entry,
         token,
-        prevent,
+        prevent_pruning,
     );
     write_pairs(r.numbers, pairs, r.count);
     r.ingested
