@@ -1,5 +1,6 @@
 // Fields of a line that are more than a word: entries and areas. Each is bad, illegal or good as its fields are; the form of all
 // comes first.
+use crate::values::path_of;
 use data_model::area::Area;
 use data_model::area::AreaSubspace;
 use data_model::entry::Entry;
@@ -60,7 +61,7 @@ pub fn worse(a: Outcome, b: Outcome) -> Outcome {
     }
 }
 
-fn no_entry() -> EntryField {
+pub fn no_entry() -> EntryField {
     let path = Path::new_empty();
     EntryField {
         outcome: Outcome::Bad,
@@ -98,7 +99,7 @@ pub fn entry_at(line: &[u8], k: usize) -> EntryField
     }
     let payload_digest = d.digest;
     let p = read_path(field(line, k + 1));
-    let path = p.path;
+    let path = path_of(p);
     let outcome = p.outcome;
     EntryField {
         outcome,
@@ -135,7 +136,7 @@ fn times_end(f: &[u8]) -> EndField {
     }
 }
 
-fn no_area() -> AreaField {
+pub fn no_area() -> AreaField {
     let path = Path::new_empty();
     AreaField {
         outcome: Outcome::Bad,
@@ -167,7 +168,7 @@ pub fn area_at(line: &[u8], k: usize) -> AreaField
         return no_area();
     };
     let p = read_path(field(line, k + 1));
-    let path = p.path;
+    let path = path_of(p);
     let outcome = p.outcome;
     AreaField {
         outcome,
@@ -177,4 +178,12 @@ pub fn area_at(line: &[u8], k: usize) -> AreaField
             times: TimesRange { start, end },
         },
     }
+}
+
+// Whether a line with so many fields is a call of that name and number.
+pub fn is_call(name: &[u8], word: &[u8], n: usize, fields: usize) -> bool {
+    if n == fields {
+        return is_word(name, word);
+    }
+    false
 }

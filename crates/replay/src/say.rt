@@ -72,3 +72,31 @@ pub fn say_key(e: keys::encode::Encoded, key: &[u8], out: &mut [u8], at: usize) 
         keys::encode::Encoded::Refused(_) => at,
     }
 }
+
+// A path, or `*` for none.
+pub fn say_path_or(found: bool, p: Path, out: &mut [u8], at: usize) -> usize
+    requires { ⌜ at ≤ length (now out) ⌝ }
+    ensures { λ r. ⌜ r ≤ length (now (out .entry)) ⌝ }
+{
+    if found {
+        return say_path(p, out, at);
+    }
+    say(b"*", out, at)
+}
+
+pub fn say_bit(b: bool, out: &mut [u8], at: usize) -> usize
+    requires { ⌜ at ≤ length (now out) ⌝ }
+    ensures { λ r. ⌜ r ≤ length (now (out .entry)) ⌝ }
+{
+    if b {
+        return say(b"1", out, at);
+    }
+    say(b"0", out, at)
+}
+
+pub fn say_space(out: &mut [u8], at: usize) -> usize
+    requires { ⌜ at ≤ length (now out) ⌝ }
+    ensures { λ r. ⌜ r ≤ length (now (out .entry)) ⌝ }
+{
+    say(b" ", out, at)
+}

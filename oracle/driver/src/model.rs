@@ -180,7 +180,7 @@ impl Model {
             }
             Call::Avail(s, p, n) => match self.v.iter_mut().find(|x| x.s == *s && x.p == *p) {
                 Some(x) => {
-                    x.avail = *n;
+                    x.avail = (*n).min(x.l);
                     "done".into()
                 }
                 None => "none".into(),

@@ -1,25 +1,28 @@
-// The answer to a line of the call language, in the calls that need no store. Each function writes at the front of a buffer and answers
-// how many bytes.
+// The calls that need no store. Each function writes its answer at the front of a buffer and answers how many bytes.
 use crate::field::area_at;
 use crate::field::entry_at;
 use crate::field::field;
+use crate::field::is_call;
 use crate::field::is_word;
 use crate::field::worse;
+use crate::outcome::bad;
+use crate::outcome::is_good;
+use crate::outcome::is_yes;
+use crate::outcome::not_good;
+use crate::outcome::refused;
 use crate::say::say;
+use crate::say::say_bit;
 use crate::say::say_key;
 use crate::say::say_number;
 use crate::say::say_path;
+use crate::say::say_path_or;
+use crate::say::say_space;
 use crate::say::say_subspace;
-use data_model::answer::Answer;
+use crate::say_range::say_range;
 use data_model::answer::Compared;
 use data_model::entry::Entry;
 use data_model::parameters::Subspace;
 use data_model::path::Path;
-use data_model::range::PathRange;
-use data_model::range::RangeEnd;
-use data_model::range::SubspaceEnd;
-use data_model::range::SubspaceRange;
-use data_model::range::TimesRange;
 use data_model::range_3d::Range3d;
 use keys::decode::Decoded;
 use keys::decode::decode_spt_entry_key;
@@ -32,63 +35,11 @@ use text::decimal::read_number;
 use text::hex::HexRead;
 use text::hex::read_hex;
 use text::line::count_fields;
-use text::path::Outcome;
 use text::path::read_path;
 use text::value::SubspaceRead;
 use text::value::read_subspace;
 ghost use Prim.Native.Nat.{_≤_};
 ghost use lib.ListN.{length};
-
-fn bad(out: &mut [u8]) -> usize
-    ensures { λ r. ⌜ r ≤ length (now (out .entry)) ⌝ }
-{
-    say(b"bad", out, 0)
-}
-
-fn refused(n: u8, out: &mut [u8]) -> usize
-    ensures { λ r. ⌜ r ≤ length (now (out .entry)) ⌝ }
-{
-    let at = say(b"refused ", out, 0);
-    say_number(n as u64, out, at)
-}
-
-// The answer to a line that has no other.
-fn not_good(outcome: Outcome, out: &mut [u8]) -> usize
-    ensures { λ r. ⌜ r ≤ length (now (out .entry)) ⌝ }
-{
-    match outcome {
-        Outcome::Bad => bad(out),
-        Outcome::Illegal => refused(4, out),
-        Outcome::Good => bad(out),
-    }
-}
-
-fn is_good(outcome: Outcome) -> bool {
-    match outcome {
-        Outcome::Good => true,
-        Outcome::Illegal => false,
-        Outcome::Bad => false,
-    }
-}
-
-fn is_yes(a: Answer) -> bool {
-    match a {
-        Answer::Yes => true,
-        Answer::No => false,
-        Answer::Refused(_) => false,
-    }
-}
-
-// A path, or `*` for none.
-fn say_path_or(found: bool, p: Path, out: &mut [u8], at: usize) -> usize
-    requires { ⌜ at ≤ length (now out) ⌝ }
-    ensures { λ r. ⌜ r ≤ length (now (out .entry)) ⌝ }
-{
-    if found {
-        return say_path(p, out, at);
-    }
-    say(b"*", out, at)
-}
 
 // `above P`
 fn above(line: &[u8], out: &mut [u8]) -> usize
@@ -147,16 +98,6 @@ fn order(line: &[u8], out: &mut [u8]) -> usize
     at
 }
 
-fn say_bit(b: bool, out: &mut [u8], at: usize) -> usize
-    requires { ⌜ at ≤ length (now out) ⌝ }
-    ensures { λ r. ⌜ r ≤ length (now (out .entry)) ⌝ }
-{
-    if b {
-        return say(b"1", out, at);
-    }
-    say(b"0", out, at)
-}
-
 fn say_newer(e: Entry, f: Entry, out: &mut [u8]) -> usize
     ensures { λ r. ⌜ r ≤ length (now (out .entry)) ⌝ }
 {
@@ -183,80 +124,6 @@ fn newer(line: &[u8], out: &mut [u8]) -> usize
     let e = f.entry;
     let o = g.entry;
     say_newer(e, o, out)
-}
-
-fn say_subspace_end(e: SubspaceEnd, out: &mut [u8], at: usize) -> usize
-    requires { ⌜ at ≤ length (now out) ⌝ }
-    ensures { λ r. ⌜ r ≤ length (now (out .entry)) ⌝ }
-{
-    match e {
-        SubspaceEnd::Closed(s) => say_subspace(s, out, at),
-        SubspaceEnd::Open => say(b"*", out, at),
-    }
-}
-
-fn say_times_end(e: RangeEnd, out: &mut [u8], at: usize) -> usize
-    requires { ⌜ at ≤ length (now out) ⌝ }
-    ensures { λ r. ⌜ r ≤ length (now (out .entry)) ⌝ }
-{
-    match e {
-        RangeEnd::Closed(t) => say_number(t, out, at),
-        RangeEnd::Open => say(b"*", out, at),
-    }
-}
-
-fn say_space(out: &mut [u8], at: usize) -> usize
-    requires { ⌜ at ≤ length (now out) ⌝ }
-    ensures { λ r. ⌜ r ≤ length (now (out .entry)) ⌝ }
-{
-    say(b" ", out, at)
-}
-
-fn say_subspaces(r: SubspaceRange, out: &mut [u8], at: usize) -> usize
-    requires { ⌜ at ≤ length (now out) ⌝ }
-    ensures { λ n. ⌜ n ≤ length (now (out .entry)) ⌝ }
-{
-    let start = r.start;
-    let end = r.end;
-    let a = say_subspace(start, out, at);
-    let b = say_space(out, a);
-    say_subspace_end(end, out, b)
-}
-
-fn say_paths(r: PathRange, out: &mut [u8], at: usize) -> usize
-    requires { ⌜ at ≤ length (now out) ⌝ }
-    ensures { λ n. ⌜ n ≤ length (now (out .entry)) ⌝ }
-{
-    let start = r.start;
-    let end = r.end;
-    let open = r.open;
-    let a = say_path(start, out, at);
-    let b = say_space(out, a);
-    say_path_or(!open, end, out, b)
-}
-
-fn say_times(r: TimesRange, out: &mut [u8], at: usize) -> usize
-    requires { ⌜ at ≤ length (now out) ⌝ }
-    ensures { λ n. ⌜ n ≤ length (now (out .entry)) ⌝ }
-{
-    let end = r.end;
-    let a = say_number(r.start, out, at);
-    let b = say_space(out, a);
-    say_times_end(end, out, b)
-}
-
-fn say_range(r: Range3d, out: &mut [u8]) -> usize
-    ensures { λ n. ⌜ n ≤ length (now (out .entry)) ⌝ }
-{
-    let subspaces = r.subspaces;
-    let paths = r.paths;
-    let times = r.times;
-    let a = say(b"range ", out, 0);
-    let b = say_subspaces(subspaces, out, a);
-    let c = say_space(out, b);
-    let d = say_paths(paths, out, c);
-    let e = say_space(out, d);
-    say_times(times, out, e)
 }
 
 // `arange01 AREA`
@@ -351,9 +218,9 @@ fn decode(time_first: bool, line: &[u8], out: &mut [u8]) -> usize
         return bad(out);
     }
     if time_first {
-        return say_decoded(decode_tsp_entry_key(&key[..n]), out);
+        return say_decoded(decode_tsp_entry_key(&key[0..n]), out);
     }
-    say_decoded(decode_spt_entry_key(&key[..n]), out)
+    say_decoded(decode_spt_entry_key(&key[0..n]), out)
 }
 
 // Which call a line is, by its name and the number of its fields; 0 for none.
@@ -388,13 +255,6 @@ fn call_of(line: &[u8]) -> u8 {
         return 7;
     }
     0
-}
-
-fn is_call(name: &[u8], word: &[u8], n: usize, fields: usize) -> bool {
-    if n == fields {
-        return is_word(name, word);
-    }
-    false
 }
 
 pub fn answer(line: &[u8], out: &mut [u8]) -> usize
