@@ -28,7 +28,7 @@ pub fn tell(t: Told, told: &mut [u64]) {
     put(told, 4, t.number as u64);
 }
 
-fn told_plain(refusal: u8, state: State, number: usize) -> Told {
+pub fn told_plain(refusal: u8, state: State, number: usize) -> Told {
     Told {
         refusal,
         state,

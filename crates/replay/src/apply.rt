@@ -1,7 +1,7 @@
 // The calls that write to the store, made.
 use crate::poke::poke_available;
-use crate::request::Call;
-use crate::request::Request;
+use calls::request::Call;
+use calls::request::Request;
 use data_model::answer::ILLEGAL_PATH;
 use data_model::entry::Entry;
 use store::forget::AreaForgotten;
@@ -35,7 +35,7 @@ pub struct Reply {
 }
 
 fn plain_reply(said: Said, state: State) -> Reply {
-    let none = crate::field::no_entry();
+    let none = calls::field::no_entry();
     let newer = none.entry;
     Reply { said, state, newer }
 }

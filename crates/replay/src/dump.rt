@@ -1,9 +1,9 @@
 // `dump`: the records of both trees, a record a line.
 use crate::lines::write_line;
 use crate::poke::part_at;
-use crate::say::say_hex;
-use crate::say::say_space;
-use crate::say_entry::say_count;
+use calls::say::say_hex;
+use calls::say::say_space;
+use calls::say_entry::say_count;
 use tree::value::VALUE;
 
 // The key and the value of a record.

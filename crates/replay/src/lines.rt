@@ -1,5 +1,5 @@
 // Lines of input and output.
-use crate::say::say;
+use calls::say::say;
 use libc::STDOUT_FILENO;
 ghost use Prim.Native.Nat.{_≤_};
 ghost use lib.ListN.{length};

@@ -3,7 +3,7 @@
 use crate::lines::Cursor;
 use crate::lines::next_line;
 use crate::lines::write_line;
-use crate::request::Call;
+use calls::request::Call;
 use libc::STDOUT_FILENO;
 use store::state::State;
 ghost use mathlib.Core.Path.{_≡_};
@@ -11,17 +11,11 @@ ghost use lib.ListN.{length};
 
 mod apply;
 mod dump;
-mod field;
 mod lines;
-mod outcome;
-mod plain;
+mod listing;
 mod poke;
 mod reading;
-mod request;
-mod say;
-mod say_entry;
-mod say_range;
-mod values;
+mod reply;
 
 const LINE: usize = 1024;
 
@@ -54,7 +48,7 @@ fn pair_buffer() -> [u32; PAIRS]
 
 fn write_reply(reply: apply::Reply, prune: &[u32]) {
     let mut out = answer_buffer();
-    let n = say_entry::say_reply(reply, prune, &mut out);
+    let n = reply::say_reply(reply, prune, &mut out);
     write_line(&mut out, n);
 }
 
@@ -80,7 +74,7 @@ fn answer(
     prune: &mut [u32],
     line: &[u8],
 ) -> State {
-    let r = request::read_request(line);
+    let r = calls::request::read_request(line);
     let call = r.call;
     if writes(call) {
         let reply = apply::apply(state, spt, spt_dir, tsp, tsp_dir, prune, r);

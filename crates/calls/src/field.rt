@@ -125,7 +125,7 @@ fn area_subspace(f: &[u8]) -> SubspaceField {
     }
 }
 
-fn times_end(f: &[u8]) -> EndField {
+pub fn times_end(f: &[u8]) -> EndField {
     if is_word(f, b"*") {
         return EndField::Is(RangeEnd::Open);
     }

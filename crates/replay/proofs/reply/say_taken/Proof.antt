@@ -3,8 +3,8 @@ use Prim.Native.Nat.{_-_, _≤_}
 use mathlib.Core.Path.{_≡_}
 use lib.ListN.{length}
 use borrow.Author.Needs.{needs}
-use Rattle.replay.proofs.say_entry.say_taken.Statement.{statement}
-use Rattle.replay.proofs.say_entry.say_taken.Tie as tie
+use Rattle.replay.proofs.reply.say_taken.Statement.{statement}
+use Rattle.replay.proofs.reply.say_taken.Tie as tie
 
 abbrev Inv-loop : tie.InvT-loop
 Inv-loop n prune out₀ at₀ k₀ out at k = (length out ≡ length out₀) × (at ≤ length out)
