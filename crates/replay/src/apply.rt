@@ -90,7 +90,11 @@ fn area_forgotten(f: AreaForgotten) -> Reply {
     plain_reply(Said::Refused(n), state)
 }
 
-fn poked(done: bool, state: State) -> Reply {
+// At an illegal path nothing was found, and so nothing poked.
+fn poked(legal: bool, done: bool, state: State) -> Reply {
+    if !legal {
+        return plain_reply(Said::Refused(ILLEGAL_PATH), state);
+    }
     if done {
         return plain_reply(Said::Done, state);
     }
@@ -140,24 +144,20 @@ pub fn apply(
             let protected = r.protected;
             area_forgotten(forget_area(state, spt, spt_dir, tsp, tsp_dir, area, yes, protected))
         }
-        Call::Avail => {
-            if !path.is_legal() {
-                return plain_reply(Said::Refused(ILLEGAL_PATH), state);
-            }
-            poked(
-                poke_available(
-                    state.count,
-                    spt,
-                    spt_dir,
-                    tsp,
-                    tsp_dir,
-                    subspace,
-                    path,
-                    r.number,
-                ),
-                state,
-            )
-        }
+        Call::Avail => poked(
+            path.is_legal(),
+            poke_available(
+                state.count,
+                spt,
+                spt_dir,
+                tsp,
+                tsp_dir,
+                subspace,
+                path,
+                r.number,
+            ),
+            state,
+        ),
         Call::Other => plain_reply(Said::Bad, state),
         Call::Bad => plain_reply(Said::Bad, state),
     }

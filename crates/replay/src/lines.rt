@@ -32,6 +32,14 @@ pub fn write_line(out: &mut [u8], n: usize)
     io::write_all(STDOUT_FILENO, &out[0..m]);
 }
 
+// The n bytes of a line; nothing of one that is longer than the buffer.
+pub fn whole_line(line: &[u8], n: usize) -> &[u8] {
+    if line.len() < n {
+        return &line[0..0];
+    }
+    &line[0..n]
+}
+
 // The next byte of a line: how many bytes it has now, or one more than the buffer holds.
 fn step(b: u8, line: &mut [u8], n: usize) -> usize {
     if n < line.len() {

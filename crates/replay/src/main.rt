@@ -2,9 +2,10 @@
 // answered `bad`; empty lines and lines that begin with `#` are skipped.
 use crate::lines::Cursor;
 use crate::lines::next_line;
+use crate::lines::whole_line;
 use crate::lines::write_line;
 use calls::request::Call;
-use libc::STDOUT_FILENO;
+use calls::request::read_request;
 use store::state::State;
 ghost use mathlib.Core.Path.{_≡_};
 ghost use lib.ListN.{length};
@@ -64,38 +65,6 @@ fn writes(call: Call) -> bool {
     }
 }
 
-// A line that is a call, answered.
-fn answer(
-    state: State,
-    spt: &mut [u8],
-    spt_dir: &mut [u32],
-    tsp: &mut [u8],
-    tsp_dir: &mut [u32],
-    prune: &mut [u32],
-    line: &[u8],
-) -> State {
-    let r = calls::request::read_request(line);
-    let call = r.call;
-    if writes(call) {
-        let reply = apply::apply(state, spt, spt_dir, tsp, tsp_dir, prune, r);
-        write_reply(reply, prune);
-        let after = reply.state;
-        return after;
-    }
-    reading::answer(state, spt, spt_dir, tsp, tsp_dir, line);
-    state
-}
-
-fn is_skipped(line: &[u8], n: usize) -> bool {
-    if n == 0 {
-        return true;
-    }
-    if line.len() == 0 {
-        return true;
-    }
-    line[0] == b'#'
-}
-
 // A line of n bytes, or of more than the buffer holds.
 fn turn(
     state: State,
@@ -107,14 +76,16 @@ fn turn(
     line: &[u8],
     n: usize,
 ) -> State {
-    if is_skipped(line, n) {
-        return state;
+    let r = read_request(whole_line(line, n));
+    let call = r.call;
+    if writes(call) {
+        let reply = apply::apply(state, spt, spt_dir, tsp, tsp_dir, prune, r);
+        write_reply(reply, prune);
+        let after = reply.state;
+        return after;
     }
-    if line.len() < n {
-        io::write_all(STDOUT_FILENO, b"bad\n");
-        return state;
-    }
-    answer(state, spt, spt_dir, tsp, tsp_dir, prune, &line[0..n])
+    reading::answer_line(state, spt, spt_dir, tsp, tsp_dir, line, n);
+    state
 }
 
 fn main() {

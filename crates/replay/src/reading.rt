@@ -1,5 +1,6 @@
 // The lines that write nothing: calls that read the store, and those that need none.
 use crate::dump::dump_tree;
+use crate::lines::whole_line;
 use crate::lines::write_line;
 use crate::listing::list;
 use calls::ask::Ask;
@@ -100,7 +101,7 @@ fn interest_of(q: Question) -> AreaOfInterest {
     }
 }
 
-pub fn answer(state: State, spt: &[u8], spt_dir: &[u32], tsp: &[u8], tsp_dir: &[u32], line: &[u8]) {
+fn answer(state: State, spt: &[u8], spt_dir: &[u32], tsp: &[u8], tsp_dir: &[u32], line: &[u8]) {
     let q = read_question(line);
     let ask = q.ask;
     let area = q.area;
@@ -133,4 +134,35 @@ pub fn answer(state: State, spt: &[u8], spt_dir: &[u32], tsp: &[u8], tsp_dir: &[
             answer_interest(area_of_interest_to_range(state, spt, spt_dir, tsp, tsp_dir, aoi));
         }
     }
+}
+
+// Empty lines and lines that begin with `#` have no answer.
+fn is_skipped(line: &[u8], n: usize) -> bool {
+    if n == 0 {
+        return true;
+    }
+    if line.len() == 0 {
+        return true;
+    }
+    line[0] == b'#'
+}
+
+// A line of n bytes, or of more than the buffer holds, that is no call that writes.
+pub fn answer_line(
+    state: State,
+    spt: &[u8],
+    spt_dir: &[u32],
+    tsp: &[u8],
+    tsp_dir: &[u32],
+    line: &[u8],
+    n: usize,
+) {
+    if is_skipped(line, n) {
+        return;
+    }
+    if line.len() < n {
+        answer_bad();
+        return;
+    }
+    answer(state, spt, spt_dir, tsp, tsp_dir, whole_line(line, n));
 }
