@@ -1,88 +1,129 @@
-// The call language, one call a line from standard input, answered by the port: the calls that need no store. A line of another
-// form, or of over 1,024 bytes, is answered `bad`; empty lines and lines that begin with `#` are skipped.
-use libc::STDOUT_FILENO;
+// The call language, one call a line from standard input, answered by the port. A line of another form, or of over 1,024 bytes, is
+// answered `bad`; empty lines and lines that begin with `#` are skipped.
+use crate::lines::Cursor;
+use crate::lines::next_line;
+use crate::lines::whole_line;
+use crate::lines::write_line;
+use calls::request::Call;
+use calls::request::read_request;
+use store::state::State;
+ghost use mathlib.Core.Path.{_≡_};
+ghost use lib.ListN.{length};
 
-mod answer;
-mod field;
-mod say;
+mod apply;
+mod dump;
+mod lines;
+mod listing;
+mod poke;
+mod reading;
+mod reply;
 
 const LINE: usize = 1024;
 
-// How many bytes the line has that is not ended; or the input's end.
-enum Input {
-    More(usize),
-    End,
+const LIMIT: usize = 1024;
+
+const TREE: usize = 410 * LIMIT;
+
+const PAIRS: usize = 2 * LIMIT;
+
+// The room of an answer of one line: a verdict with its pruned records at most.
+const ANSWER: usize = 32768;
+
+fn answer_buffer() -> [u8; ANSWER]
+    ensures { λ r. ⌜ 32768 ≡ length r ⌝ }
+{
+    [0; ANSWER]
 }
 
-fn say_line(line: &[u8]) {
-    let mut out = [0u8; 2048];
-    let n = answer::answer(line, &mut out);
-    let m = say::say(b"\n", &mut out, n);
-    io::write_all(STDOUT_FILENO, &out[..m]);
+fn tree_buffer() -> [u8; TREE]
+    ensures { λ r. ⌜ 419840 ≡ length r ⌝ }
+{
+    [0; TREE]
 }
 
-// The line that ended: its first n bytes, or more than the buffer holds.
-fn end_line(line: &[u8], n: usize) {
-    if n == 0 {
-        return;
-    }
-    if line.len() == 0 {
-        return;
-    }
-    if line[0] == b'#' {
-        return;
-    }
-    if line.len() < n {
-        io::write_all(STDOUT_FILENO, b"bad\n");
-        return;
-    }
-    say_line(&line[..n]);
+fn pair_buffer() -> [u32; PAIRS]
+    ensures { λ r. ⌜ 2048 ≡ length r ⌝ }
+{
+    [0; PAIRS]
 }
 
-// The next byte of input: how many bytes the line has now, or one more than the buffer holds.
-fn step(b: u8, line: &mut [u8], n: usize) -> usize {
-    if b == b'\n' {
-        end_line(line, n);
-        return 0;
-    }
-    if n < line.len() {
-        line[n] = b;
-        return n + 1;
-    }
-    line.len() + 1
+fn write_reply(reply: apply::Reply, prune: &[u32]) {
+    let mut out = answer_buffer();
+    let n = reply::say_reply(reply, prune, &mut out);
+    write_line(&mut out, n);
 }
 
-fn take_in(bytes: &[u8], line: &mut [u8], n: usize) -> usize {
-    let mut m = n;
-    let mut i: usize = 0;
-    while i < bytes.len() {
-        m = step(bytes[i], line, m);
-        i += 1;
+fn writes(call: Call) -> bool {
+    match call {
+        Call::Other => false,
+        Call::Bad => true,
+        Call::Open => true,
+        Call::Ingest => true,
+        Call::Forget => true,
+        Call::ForgetArea => true,
+        Call::Avail => true,
     }
-    m
 }
 
-// One read of the input.
-fn read_some(line: &mut [u8], n: usize) -> Input {
-    let mut buffer = io::buffer();
-    let got = io::read_full(0, &mut buffer);
-    if got == 0 {
-        end_line(line, n);
-        return Input::End;
+// A line of n bytes, or of more than the buffer holds.
+fn turn(
+    state: State,
+    spt: &mut [u8],
+    spt_dir: &mut [u32],
+    tsp: &mut [u8],
+    tsp_dir: &mut [u32],
+    prune: &mut [u32],
+    line: &[u8],
+    n: usize,
+) -> State {
+    let r = read_request(whole_line(line, n));
+    let call = r.call;
+    if writes(call) {
+        let reply = apply::apply(state, spt, spt_dir, tsp, tsp_dir, prune, r);
+        write_reply(reply, prune);
+        let after = reply.state;
+        return after;
     }
-    Input::More(take_in(&buffer[..got], line, n))
+    reading::answer_line(state, spt, spt_dir, tsp, tsp_dir, line, n);
+    state
 }
 
 fn main() {
+    let mut input = io::large_buffer();
     let mut line = [0u8; LINE];
-    let mut n: usize = 0;
+    let mut spt = tree_buffer();
+    let mut spt_dir = pair_buffer();
+    let mut tsp = tree_buffer();
+    let mut tsp_dir = pair_buffer();
+    let mut prune = pair_buffer();
+    let o = store::open::open(
+        [0; 16],
+        LIMIT,
+        &mut spt,
+        &mut spt_dir,
+        &mut tsp,
+        &mut tsp_dir,
+    );
+    let mut state = o.state;
+    let mut cursor = Cursor { at: 0, to: 0 };
     let mut turns: u64 = 0xffff_ffff_ffff_ffff;
     while 0 < turns {
-        let r = read_some(&mut line, n);
-        let Input::More(m) = r else {
+        let l = next_line(cursor, &mut input, &mut line);
+        let more = l.more;
+        if !more {
             return;
-        };
-        n = m;
+        }
+        state = turn(
+            state,
+            &mut spt,
+            &mut spt_dir,
+            &mut tsp,
+            &mut tsp_dir,
+            &mut prune,
+            &line,
+            l.n,
+        );
+        cursor = l.cursor;
         turns -= 1;
     }
 }

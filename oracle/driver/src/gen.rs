@@ -3,12 +3,13 @@
 //! KIND: `in` the listing program's lines;
 //! `shared` calls on which document 01 wants the Rust's own answer (or, with a name that ends in 01, the Rust's with the
 //! area's range ending as 01 says); `hall` the same at 16/4/32; `wide` the same with many paths and times, so that the
-//! store grows to its limit of 64, 256 or 1,024; `calls` also those where document 01 differs (qarea, aoi, arange);
+//! store grows to its limit of 64, 256 or 1,024; `refusals` the same with many openings, of limits and namespaces that
+//! refuse much, for the model; `calls` also those where document 01 differs (qarea, aoi, arange);
 //! `keys` and `raw`, which need no store, are in gen_keys.rs.
 use crate::rng::Rng;
 use std::io::Write;
 
-pub const KINDS: [&str; 7] = ["in", "shared", "hall", "wide", "calls", "keys", "raw"];
+pub const KINDS: [&str; 8] = ["in", "shared", "hall", "wide", "refusals", "calls", "keys", "raw"];
 
 pub struct Gen {
     pub r: Rng,
@@ -21,6 +22,11 @@ pub struct Gen {
 
 impl Gen {
     fn line(&mut self) -> String {
+        if self.kind == "refusals" && self.r.one_in(25) {
+            let n = self.r.pick(&["00", "00", "00", "01"]);
+            let limit = self.r.pick(&["0", "1", "1", "2", "3", "5", "1024", "1025", "18446744073709551615"]);
+            return format!("open {n} {limit}");
+        }
         if self.kind == "wide" {
             // Mostly filing; of the rest, what empties the store seldom.
             let x = self.r.below(100);

@@ -90,12 +90,32 @@ impl Model {
         self.v.insert(place, Ent { avail: 0, ..e.clone() });
         format!("ok {n}{out}")
     }
+    /// After an opening that was refused: its state is all 0, so that every call on the store is refused with 1.
+    fn closed(&self, c: &Call) -> bool {
+        let on_store = matches!(
+            c,
+            Call::Ingest(..)
+                | Call::Forget(..)
+                | Call::ForgetArea(..)
+                | Call::Entry(..)
+                | Call::QueryArea(..)
+                | Call::IncludedIn(..)
+                | Call::QueryRange(..)
+                | Call::Count(..)
+                | Call::Size(..)
+                | Call::Aoi(..)
+        );
+        on_store && self.limit == Some(0)
+    }
     pub fn all(&self) -> Vec<Ent> {
         self.v.clone()
     }
     pub fn exec(&mut self, c: &Call) -> String {
         if let Call::Bent(c) = c {
             return self.exec(c);
+        }
+        if self.closed(c) {
+            return "refused 1".into();
         }
         let paths: Vec<&Comps> = match c {
             Call::Forget(_, p, _) | Call::Entry(_, p, _, _) | Call::Succ(p) | Call::Above(p) => vec![p],
@@ -112,6 +132,10 @@ impl Model {
             return "refused 4".into();
         }
         match c {
+            Call::Open(_, Some(l)) if *l < 1 || *l > 1024 => {
+                *self = Self::open(Ns::default(), Some(0), self.b);
+                "refused 1".into()
+            }
             Call::Open(n, l) => {
                 *self = Self::open(*n, *l, self.b);
                 "ok".into()
@@ -180,7 +204,7 @@ impl Model {
             }
             Call::Avail(s, p, n) => match self.v.iter_mut().find(|x| x.s == *s && x.p == *p) {
                 Some(x) => {
-                    x.avail = *n;
+                    x.avail = (*n).min(x.l);
                     "done".into()
                 }
                 None => "none".into(),

@@ -194,7 +194,7 @@ impl<const MCL: usize, const MCC: usize, const MPL: usize> Oracle<MCL, MCC, MPL>
                 self.tree(*tsp).insert(k, v.clone()).unwrap();
                 "put".into()
             }
-            // A poke from outside into the last eight bytes of the value, in both trees.
+            // A poke from outside into the last eight bytes of the value, in both trees; never above the payload length.
             Call::Avail(s, p, n) => {
                 let p: Path<MCL, MCC, MPL> = path(p)?;
                 let Some(e) = block_on(st.entry(s, &p, ignore(false, false))).unwrap() else {
@@ -206,7 +206,7 @@ impl<const MCL: usize, const MCC: usize, const MPL: usize> Oracle<MCL, MCC, MPL>
                 for tsp in [false, true] {
                     let (k, v) = one.raw(tsp).remove(0);
                     let mut v = v.to_vec();
-                    v[104..].copy_from_slice(&n.to_be_bytes());
+                    v[104..].copy_from_slice(&(*n).min(e.l).to_be_bytes());
                     self.tree(tsp).insert(k, v).unwrap();
                 }
                 "done".into()

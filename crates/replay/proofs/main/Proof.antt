@@ -1,4 +1,4 @@
--- `main` is safe and ends: each turn has one fewer left. The invariant: the line has its length. Assumes nothing.
+-- `main` is safe and ends: each turn has one fewer left. The invariant: the buffers have their lengths. Assumes nothing.
 use mathlib.Core.Path.{_≡_}
 use lib.ListN.{length}
 use borrow.Author.Needs.{needs}
@@ -6,28 +6,79 @@ use Rattle.replay.proofs.main.Statement.{statement}
 use Rattle.replay.proofs.main.Tie as tie
 
 abbrev Inv-loop : tie.InvT-loop
-Inv-loop line₀ n₀ turns₀ line n turns = length line ≡ 1024
+Inv-loop input₀ line₀ spt₀ spt-dir₀ tsp₀ tsp-dir₀ prune₀ state₀ cursor₀ turns₀ input line spt spt-dir tsp tsp-dir prune state cursor turns = (length input ≡ 65536) × (length line ≡ 1024) × (length spt ≡ 419840) × (length spt-dir ≡ 2048) × (length tsp ≡ 419840) × (length tsp-dir ≡ 2048) × (length prune ≡ 2048)
 
 abbrev μ-loop : tie.MeasureT-loop
-μ-loop line₀ n₀ turns₀ line n turns = turns
+μ-loop input₀ line₀ spt₀ spt-dir₀ tsp₀ tsp-dir₀ prune₀ state₀ cursor₀ turns₀ input line spt spt-dir tsp tsp-dir prune state cursor turns = turns
+
+large-buffer-requires : tie.Need-large-buffer-requires Inv-loop μ-loop
+large-buffer-requires c κs = search needs
+
+tree-buffer-requires : tie.Need-tree-buffer-requires Inv-loop μ-loop
+tree-buffer-requires c κs = search needs
+
+pair-buffer-requires : tie.Need-pair-buffer-requires Inv-loop μ-loop
+pair-buffer-requires c κs = search needs
+
+tree-buffer-requires-2 : tie.Need-tree-buffer-requires-2 Inv-loop μ-loop
+tree-buffer-requires-2 c κs = search needs
+
+pair-buffer-requires-2 : tie.Need-pair-buffer-requires-2 Inv-loop μ-loop
+pair-buffer-requires-2 c κs = search needs
+
+pair-buffer-requires-3 : tie.Need-pair-buffer-requires-3 Inv-loop μ-loop
+pair-buffer-requires-3 c κs = search needs
+
+slice-aggregate-open : tie.Need-slice-aggregate-open Inv-loop μ-loop
+slice-aggregate-open c = search needs
+
+slice-aggregate-open-2 : tie.Need-slice-aggregate-open-2 Inv-loop μ-loop
+slice-aggregate-open-2 c = search needs
+
+slice-aggregate-open-3 : tie.Need-slice-aggregate-open-3 Inv-loop μ-loop
+slice-aggregate-open-3 c = search needs
+
+slice-aggregate-open-4 : tie.Need-slice-aggregate-open-4 Inv-loop μ-loop
+slice-aggregate-open-4 c = search needs
+
+open-requires : tie.Need-open-requires Inv-loop μ-loop
+open-requires c κs = search needs
 
 loop-holds : tie.Need-loop-holds Inv-loop μ-loop
 loop-holds c = search needs
 
-slice-aggregate-read-some : tie.Need-slice-aggregate-read-some Inv-loop μ-loop
-slice-aggregate-read-some c = search needs
+slice-aggregate-next-line : tie.Need-slice-aggregate-next-line Inv-loop μ-loop
+slice-aggregate-next-line c = search needs
 
-read-some-requires : tie.Need-read-some-requires Inv-loop μ-loop
-read-some-requires c κs = search needs
+slice-aggregate-next-line-2 : tie.Need-slice-aggregate-next-line-2 Inv-loop μ-loop
+slice-aggregate-next-line-2 c = search needs
 
-enum-known-r : tie.Need-enum-known-r Inv-loop μ-loop
-enum-known-r c = search needs
-
-enum-told : tie.Need-enum-told Inv-loop μ-loop
-enum-told c = search needs
+next-line-requires : tie.Need-next-line-requires Inv-loop μ-loop
+next-line-requires c κs = search needs
 
 returns : tie.Need-returns Inv-loop μ-loop
 returns c = search needs
+
+slice-aggregate-turn : tie.Need-slice-aggregate-turn Inv-loop μ-loop
+slice-aggregate-turn c = search needs
+
+slice-aggregate-turn-2 : tie.Need-slice-aggregate-turn-2 Inv-loop μ-loop
+slice-aggregate-turn-2 c = search needs
+
+slice-aggregate-turn-3 : tie.Need-slice-aggregate-turn-3 Inv-loop μ-loop
+slice-aggregate-turn-3 c = search needs
+
+slice-aggregate-turn-4 : tie.Need-slice-aggregate-turn-4 Inv-loop μ-loop
+slice-aggregate-turn-4 c = search needs
+
+slice-aggregate-turn-5 : tie.Need-slice-aggregate-turn-5 Inv-loop μ-loop
+slice-aggregate-turn-5 c = search needs
+
+slice-aggregate-turn-6 : tie.Need-slice-aggregate-turn-6 Inv-loop μ-loop
+slice-aggregate-turn-6 c = search needs
+
+turn-requires : tie.Need-turn-requires Inv-loop μ-loop
+turn-requires c κs = search needs
 
 sub-turns : tie.Need-sub-turns Inv-loop μ-loop
 sub-turns c = search needs
@@ -47,12 +98,29 @@ main-spec =
     (tie.spec
     Inv-loop
     μ-loop
+    large-buffer-requires
+    tree-buffer-requires
+    pair-buffer-requires
+    tree-buffer-requires-2
+    pair-buffer-requires-2
+    pair-buffer-requires-3
+    slice-aggregate-open
+    slice-aggregate-open-2
+    slice-aggregate-open-3
+    slice-aggregate-open-4
+    open-requires
     loop-holds
-    slice-aggregate-read-some
-    read-some-requires
-    enum-known-r
-    enum-told
+    slice-aggregate-next-line
+    slice-aggregate-next-line-2
+    next-line-requires
     returns
+    slice-aggregate-turn
+    slice-aggregate-turn-2
+    slice-aggregate-turn-3
+    slice-aggregate-turn-4
+    slice-aggregate-turn-5
+    slice-aggregate-turn-6
+    turn-requires
     sub-turns
     loop-less
     loop-again
