@@ -28,7 +28,7 @@ ghost use Rattle.text.specs.EntryLine.{space, noEntry, entryRead, isInLi
 // The most bytes of a line.
 pub const LINE_MOST: usize = 1024;
 
-// What a line says: the subspace's last byte, the digest's bytes. All 0, and the path empty, unless the outcome is good.
+// What a line says: the subspace's last byte, the byte that fills the digest. All 0, and the path empty, unless the outcome is good.
 pub struct EntryLine {
     pub outcome: Outcome,
     pub subspace: u8,
