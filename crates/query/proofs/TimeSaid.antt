@@ -3,16 +3,16 @@
 use Prim.Native.Nat.{ℕ, _+_, _≤_}
 use mathlib.Core.Path.{_≡_, refl, sym, ap, subst, _∙_}
 use mathlib.Core.Logic.{⊎-elim}
-use mathlib.Core.List.{List, [], _∷_, _++_, reverse, reverse-append, List·Memᴰ·head as here, List·Memᴰ·tail as there, List·Memᴰ·append-cases as in-either, List·Memᴰ·eq-of-singleton as only}
+use mathlib.Core.List.{List, [], _∷_, _++_, reverse, reverse-append, List·Memᴰ·head as here, List·Memᴰ·tail as there, List·Memᴰ·append-cases as in-either, List·Memᴰ·eq-of-singleton as only, List·Memᴰ·not-nil as none-in, List·Memᴰ·cases-cons as uncons}
 use mathlib.Core.Bool.{Bool, true, false, not, _&&_, _||_}
 use native.Mathlib.Omega.{arith}
 use lib.ListN.{length}
 use lib.Dec.{leb}
-use borrow.Author.Tests.{leb-true, leb-false, lt-ltb, le-ltb, ltb-false}
-use Rattle.laws.specs.Order.{byNumber, isLess}
-use Rattle.laws.specs.Sorted.{_∈_, keep}
+use borrow.Author.Tests.{leb-true, leb-false, lt-ltb, le-ltb, ltb-false, le-leb}
+use Rattle.laws.specs.Order.{byNumber, isLess, below}
+use Rattle.laws.specs.Sorted.{_∈_, keep, Ascends}
 use Rattle.laws.proofs.Truth.{split, and-true, not-true}
-use Rattle.laws.proofs.Sorted.{keep-view}
+use Rattle.laws.proofs.Sorted.{keep-view, keep-ascends}
 use Rattle.data_model.specs.Path.{field, components, isPrefix}
 use Rattle.data_model.specs.Range.{timesInclude, subspacesInclude, pathsInclude, includes, beforeEnd, timesEnd}
 use Rattle.data_model.specs.Range3d.{rangeIncludes}
@@ -20,17 +20,22 @@ use Rattle.data_model.specs.Area.{areaSubspace, areaIncludes, areaRange}
 use Rattle.data_model.specs.declared.range.RangeEnd.{RangeEnd}
 use Rattle.data_model.specs.declared.area.Area.{Area}
 use Rattle.data_model.specs.declared.«area_of_interest».AreaOfInterest.{AreaOfInterest}
-use Rattle.tree.specs.Stored.{Stored}
+use Rattle.tree.specs.Stored.{Stored, tripleOf}
 use Rattle.tree.specs.Matching.{inArea, inRange}
 use Rattle.tree.specs.Interest.{breaks, addSize, interestFrom}
 use Rattle.tree.specs.declared.stored.KeyOrder.{KeyOrder}
 use Rattle.data_model.proofs.RangeLaws.{number-below}
 use Rattle.key_laws.specs.Bytes.{Bytes}
 use Rattle.key_laws.proofs.AreaLaws.{AreaWords}
-use Rattle.store.specs.Store.{Store, treeOf, held}
+use Rattle.store.specs.Store.{Store, treeOf, held, heldBy, wellFormedStore}
 use Rattle.query.specs.Reading.{areaRefusal}
 use Rattle.query.specs.Interest.{interestTime, startingAt, broke, timeOr, leastTime}
 use Rattle.query.proofs.AreaAsRange.{same-included}
+use Rattle.laws.proofs.Order.{then-less-view, is-less, number-is-less, number-linear}
+use Rattle.key_laws.specs.KeyOrder.{tspOrder}
+use Rattle.store.specs.Ingest.{tspLess}
+use Rattle.store.proofs.WellStore.{held-fit}
+use Rattle.tree.specs.declared.stored.KeyOrder.the-variants.{Tsp}
 
 -- The time of the last that is met.
 unfoldable last-time : ℕ → List Stored → ℕ
@@ -118,3 +123,33 @@ module _ (s : Store) (a : AreaOfInterest) (long : field .mpl ≤ length (a .area
       ap (λ (b : Bool). S && (P && b)) (later (a .area .times .start) (interestTime a tsp) ts (a .area .times .end) (interest-late a tsp))
       ∙ move-first S P (leb (interestTime a tsp) ts) (timesInclude (a .area .times) ts)
       ∙ ap (λ (b : Bool). leb (interestTime a tsp) ts && b) (sym (same-included s (a .area) long bytes words z o tree x m))
+
+-- Matches of a well-formed store are met from the latest: in time-first order no later one is of an earlier time, so that the first of them is the least.
+time-first : (a b : Stored) → tspLess a b ≡ true → a .entry .rank .timestamp ≤ b .entry .rank .timestamp
+unfolding tspOrder below tripleOf
+time-first a b e = ⊎-elim
+    (λ l. let h = number-is-less (a .entry .rank .timestamp) (b .entry .rank .timestamp) l in omega arith)
+    (λ l. let h = number-linear .equal (a .entry .rank .timestamp) (b .entry .rank .timestamp) (l .0) in omega arith)
+    (then-less-view (byNumber (a .entry .rank .timestamp) (b .entry .rank .timestamp)) _ (is-less _ e))
+
+abbrev inTime : Stored → Stored → Bool
+inTime a b = leb (a .entry .rank .timestamp) (b .entry .rank .timestamp)
+
+ascends-as : {A : Type 0} (test other : A → A → Bool) → ((a b : A) → test a b ≡ true → other a b ≡ true) → (l : List A) → Ascends test l → Ascends other l
+unfolding Ascends
+ascends-as test other h [] s = tt
+ascends-as test other h (a ∷ l) s = ((λ x m. h a x (s .0 x m)), ascends-as test other h l (s .1))
+
+module _ (s : Store) (area : Area) (w : wellFormedStore field s ≡ true) (tree : (o : KeyOrder) → Bytes (treeOf field o s)) where
+  pub matches-ascend : Ascends inTime (keep (inArea area) (held field Tsp s))
+  unfolding heldBy
+  matches-ascend =
+      ascends-as tspLess inTime (λ a b e. le-leb _ _ (time-first a b e)) (keep (inArea area) (held field Tsp s))
+      (keep-ascends tspLess (inArea area) (held field Tsp s) (held-fit field s w tree .sound .tsp-ascends))
+
+  pub least-match : (given : ℕ) (x : Stored) → x ∈ keep (inArea area) (held field Tsp s) → leastTime given (keep (inArea area) (held field Tsp s)) ≤ x .entry .rank .timestamp
+  least-match given x m = go (keep (inArea area) (held field Tsp s)) matches-ascend m
+    where
+      go : (l : List Stored) → Ascends inTime l → x ∈ l → leastTime given l ≤ x .entry .rank .timestamp
+      go [] a m = absurd (none-in m)
+      go (y ∷ l) a m = unfold Ascends leastTime in ⊎-elim (λ (e : x ≡ y). rw e (omega arith)) (λ n. leb-true _ _ (a .0 x n)) (uncons m)

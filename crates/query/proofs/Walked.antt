@@ -41,7 +41,7 @@ use Rattle.query.specs.Lookup.{notFound, foundOf, entryFound}
 use Rattle.query.specs.Walk.{Walks, matching, Lists, Finds}
 use Rattle.query.specs.declared.answer.EntryFound.{EntryFound}
 use Rattle.query.specs.declared.answer.Listed.{Listed}
-use Rattle.query.specs.declared.answer.Listed.the-variants.{Match, Finished, Refused}
+use Rattle.query.specs.declared.answer.Listed.the-variants.{Match, Finished}
 use Rattle.query.proofs.Tested.{read-tested, formed-spt}
 use Rattle.query.proofs.FoundLaws.{match-below}
 use Rattle.query.proofs.NextLaws.{next-drop, keep-same, unflagged-area, unflagged-range}
