@@ -2,15 +2,15 @@
 use mathlib.Core.Path.{_≡_, refl, sym, ap, _∙_}
 use mathlib.Core.Logic.{_↔_}
 use mathlib.Core.List.{List, [], _∷_}
-use mathlib.Core.Bool.{true, false, not, _&&_}
+use mathlib.Core.Bool.{true, not, _&&_}
 use lib.Dec.{leb}
 use borrow.Author.Tests.{leb-true, le-leb}
-use Rattle.laws.specs.Sorted.{_∈_, all}
+use Rattle.laws.specs.Sorted.{all}
 use Rattle.laws.proofs.Truth.{clash, refute, and-true, not-true}
 use Rattle.laws.proofs.Sorted.{all-view, all-make}
 use Rattle.data_model.specs.Path.{Figures, samePath}
 use Rattle.data_model.specs.Subspace.{sameSubspace}
-use Rattle.data_model.specs.Entry.{Entry, prunes}
+use Rattle.data_model.specs.Entry.{Entry}
 use Rattle.data_model.proofs.Orders.{path-equality, subspace-equality}
 use Rattle.tree.specs.Stored.{Stored}
 use Rattle.tree.specs.Tree.{WellFormed, within}
@@ -20,6 +20,8 @@ use Rattle.tree.specs.declared.stored.KeyOrder.the-variants.{Spt, Tsp}
 use Rattle.tree.proofs.WellFormedLaws.{well-formed}
 use Rattle.tree.proofs.AgreeLaws.{within-view, within-make}
 use Rattle.store.specs.Store.{Store, treeOf, dirOf, held, wellFormedTree, sameEntries, wellFormedStore}
+use Rattle.store.proofs.Meaning.{none-prunes}
+use Rattle.store.proofs.WellStore.{prunes-view}
 use Rattle.convergence.specs.WellFormed.{NoTwice, WellFormedStore}
 
 -- Places.
@@ -49,16 +51,6 @@ twice-make (a ∷ l) h = cc (
   all-make (λ (b : Stored). not (samePlace (a .entry) (b .entry))) l (λ b m. ap not (refute _ λ e. let k = same-place (a .entry) (b .entry) e in h .0 b m (k .0) (k .1))),
   twice-make l (h .1),
 )
-
-prunes-view : (l : List Stored) → nonePrunes l ≡ true → (x y : Stored) → x ∈ l → y ∈ l → prunes (x .entry) (y .entry) ≡ false
-unfolding nonePrunes
-prunes-view l e x y m n =
-    not-true (prunes (x .entry) (y .entry))
-    (all-view (λ (b : Stored). not (prunes (x .entry) (b .entry))) l (all-view (λ (a : Stored). all (λ (b : Stored). not (prunes (a .entry) (b .entry))) l) l e m) n)
-
-prunes-make : (l : List Stored) → ((x y : Stored) → x ∈ l → y ∈ l → prunes (x .entry) (y .entry) ≡ false) → nonePrunes l ≡ true
-unfolding nonePrunes
-prunes-make l h = all-make _ l λ x m. all-make (λ (b : Stored). not (prunes (x .entry) (b .entry))) l λ y n. ap not (h x y m n)
 
 module _ (f : Figures) (s : Store) where
   tree-facts : (o : KeyOrder) → (wellFormedTree f o s ≡ true) ↔ WellFormed o f (s .state .count) (dirOf o s) (treeOf f o s)
@@ -100,7 +92,7 @@ module _ (f : Figures) (s : Store) where
     within-make (held f Spt s) (held f Tsp s) (λ x. h .same x .0),
     within-make (held f Tsp s) (held f Spt s) (λ x. h .same x .1),
     twice-make (held f Spt s) (h .no-twice),
-    prunes-make (held f Spt s) (h .apart),
+    none-prunes (held f Spt s) (h .apart),
   )
 
   pub well-formed-store : (wellFormedStore f s ≡ true) ↔ WellFormedStore f s

@@ -13,16 +13,14 @@ use lib.Dec.{leb}
 use borrow.Author.Tests.{leb-true, le-leb}
 use Rattle.laws.specs.Sorted.{_∈_, Ascends}
 use Rattle.laws.proofs.Truth.{and-true}
-use Rattle.laws.proofs.Sorted.{any-make}
 use Rattle.layout.specs.Layout.{records, joined, treeBytes, dirNumbers}
 use Rattle.layout.proofs.LaidLaws.{length-tree, length-dir}
-use Rattle.laws.proofs.Sorted.{all-make}
 use Rattle.data_model.specs.Path.{Figures}
-use Rattle.tree.specs.Stored.{Stored, contents, recordOf, orderIn, keyBelow, sameStored}
-use Rattle.tree.specs.Tree.{wellFormed, within}
+use Rattle.tree.specs.Stored.{Stored, contents, recordOf, orderIn, keyBelow}
+use Rattle.tree.specs.Tree.{wellFormed}
 use Rattle.tree.specs.declared.stored.KeyOrder.{KeyOrder}
 use Rattle.tree.specs.declared.stored.KeyOrder.the-variants.{Spt, Tsp}
-use Rattle.tree.proofs.RecordLaws.{stored-equality}
+use Rattle.tree.proofs.AgreeLaws.{within-make}
 use Rattle.store.specs.Store.{Lent, Store, recordMost, treeRoom, dirRoom, treeOf, dirOf, held, wellFormedTree, sameEntries, wellFormedStore, Held, heldBy, treeHolding, dirHolding, holding}
 use Rattle.store.specs.Refusal.{roomy}
 use Rattle.store.proofs.Meaning.{SoundHeld, sound-length, none-prunes, places-once}
@@ -150,9 +148,6 @@ module _ (f : Figures) (s : Store) (h : Held) (v : Fit f (s .state .«namespace_
       let e : sameEntries (h .spt) (h .tsp) ≡ true = same-entries (h .spt) (h .tsp) (v .sound .both) in
       rw (hs, ht, c, well-tree Spt, well-tree Tsp, e, places-once (h .spt) (v .sound .spt-ascends) (v .sound .apart) (v .sound .named), none-prunes (h .spt) (v .sound .apart))
     where
-      within-make : (l m : List Stored) → ((x : Stored) → x ∈ l → x ∈ m) → within l m ≡ true
-      within-make l m sub = unfold within in all-make _ l λ x k. any-make (sameStored x) m (sub x k) (stored-equality .self x)
-
       same-entries : (l m : List Stored) → ((x : Stored) → x ∈ l ↔ x ∈ m) → sameEntries l m ≡ true
       same-entries l m both = unfold sameEntries in cc (within-make l m (λ x. both x .0), within-make m l (λ x. both x .1))
 

@@ -10,20 +10,21 @@ use lib.Seq.{length-take-le}
 use lib.Dec.{leb}
 use borrow.Author.Tests.{leb-true}
 use Rattle.laws.specs.Order.{below}
-use Rattle.laws.specs.Sorted.{_∈_, any, all, Ascends}
+use Rattle.laws.specs.Sorted.{_∈_, all, Ascends}
 use Rattle.laws.proofs.Truth.{and-true, not-true}
-use Rattle.laws.proofs.Sorted.{all-view, any-view}
+use Rattle.laws.proofs.Sorted.{all-view}
 use Rattle.layout.specs.Layout.{records, treeBytes, dirNumbers}
 use Rattle.data_model.specs.Path.{Figures}
 use Rattle.data_model.specs.Entry.{prunes}
 use Rattle.key_laws.specs.Bytes.{Bytes}
 use Rattle.key_laws.proofs.Fits.{bytes-take, bytes-drop}
-use Rattle.tree.specs.Stored.{Stored, stored, contents, recordOf, orderIn, keyBelow, sameStored}
+use Rattle.tree.specs.Stored.{Stored, stored, contents, recordOf, orderIn, keyBelow}
 use Rattle.tree.specs.Tree.{within, WellFormed}
 use Rattle.tree.specs.Apart.{noPlaceTwice, nonePrunes}
 use Rattle.tree.specs.declared.stored.KeyOrder.{KeyOrder}
 use Rattle.tree.specs.declared.stored.KeyOrder.the-variants.{Spt, Tsp}
-use Rattle.tree.proofs.RecordLaws.{Says, record-forth, record-ordered, stored-equality, contents-length, contents-view}
+use Rattle.tree.proofs.AgreeLaws.{within-view}
+use Rattle.tree.proofs.RecordLaws.{Says, record-forth, record-ordered, contents-length, contents-view}
 use Rattle.tree.proofs.WellFormedLaws.{well-formed}
 use Rattle.store.specs.Store.{Store, treeRoom, dirRoom, treeOf, dirOf, held, wellFormedTree, sameEntries, wellFormedStore, heldBy}
 use Rattle.store.proofs.Meaning.{SoundHeld}
@@ -102,17 +103,11 @@ module _ (f : Figures) (o : KeyOrder) (s : Store) (w : wellFormedTree f o s ≡ 
   tree-numbers l = facts .numbers ∙ ap₂ dirNumbers l (sym tree-again)
 
 -- What the tests of a store say.
-within-view : (l m : List Stored) → within l m ≡ true → (x : Stored) → x ∈ l → x ∈ m
-unfolding within
-within-view l m e x k =
-    let y = any-view (sameStored x) m (all-view (λ (a : Stored). any (sameStored a) m) l e k) in
-    subst (_∈ m) (sym (stored-equality .equal x (y .0) (y .2))) (y .1)
-
 same-view : (l m : List Stored) → sameEntries l m ≡ true → (x : Stored) → x ∈ l ↔ x ∈ m
 unfolding sameEntries
 same-view l m e x = let k = and-true (within l m) (within m l) e in (within-view l m (k .0) x, within-view m l (k .1) x)
 
-prunes-view : (l : List Stored) → nonePrunes l ≡ true → (x y : Stored) → x ∈ l → y ∈ l → prunes (x .entry) (y .entry) ≡ false
+pub prunes-view : (l : List Stored) → nonePrunes l ≡ true → (x y : Stored) → x ∈ l → y ∈ l → prunes (x .entry) (y .entry) ≡ false
 unfolding nonePrunes
 prunes-view l e x y m n =
     not-true (prunes (x .entry) (y .entry))
