@@ -59,7 +59,7 @@ module _ (s : Subspace) (p : Components) where
       let b = place-view y f in
       rw (a .0, a .1, b .0, b .1) (ap₂ _&&_ (subspace-equality .self s) (path-equality .self p))
 
-  only-one : (l : List Stored) → noPlaceTwice l ≡ true → (x y : Stored) → x ∈ l → y ∈ l → standsAt s p x ≡ true → standsAt s p y ≡ true → x ≡ y
+  pub only-one : (l : List Stored) → noPlaceTwice l ≡ true → (x y : Stored) → x ∈ l → y ∈ l → standsAt s p x ≡ true → standsAt s p y ≡ true → x ≡ y
   unfolding noPlaceTwice
   only-one [] h x y m n e f = absurd (none-in m)
   only-one (a ∷ l) h x y m n e f =

@@ -91,7 +91,7 @@ module _ {A : Type 0} (p : A → Bool) where
   first-there [] e = clash e refl
   first-there (a ∷ l) e = split (p a) (λ q. (a, rw q)) (λ q. let k = first-there l (rw q at e) in (k .0, rw q (k .1)))
 
-  first-at : (l : List A) (d : A) → firstMark (marksOf p l) < length l → firstThat p l ≡ some (getD l (firstMark (marksOf p l)) d)
+  pub first-at : (l : List A) (d : A) → firstMark (marksOf p l) < length l → firstThat p l ≡ some (getD l (firstMark (marksOf p l)) d)
   unfolding firstThat
   first-at [] d h = absurd (omega arith)
   first-at (a ∷ l) d h =
@@ -156,7 +156,7 @@ module _ (limit : ℕ) (l : List Stored) (e : Entry) (prevent : Bool) where
       (g, omega arith))))
 
 -- What stands at a place of a tree that was tested.
-stands-at : {count : ℕ} {dir tree : List ℕ} (v : Formed Spt count dir tree) (ns : List ℕ) (k : ℕ) → k < count → (x : Stored)
+pub stands-at : {count : ℕ} {dir tree : List ℕ} (v : Formed Spt count dir tree) (ns : List ℕ) (k : ℕ) → k < count → (x : Stored)
     → getD (contents Spt field ns (records count dir tree)) k x ≡ stored Spt field ns (recordAt k dir tree)
 stands-at {count} {dir} {tree} v ns k h x =
     let l = contents Spt field ns (records count dir tree) in

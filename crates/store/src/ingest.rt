@@ -150,7 +150,7 @@ fn decide(
     PlaceDecision::Take(n)
 }
 
-fn zero_entry() -> Entry
+pub fn zero_entry() -> Entry
     ensures { λ r. ⌜ r ≡ noEntry ⌝ }
 {
     let path = Path {

@@ -1,0 +1,110 @@
+-- What is found at a place by its first mark, and the record of a match is there. Assumes nothing.
+use Prim.Native.Nat.{ℕ, _+_, _≤_, _<_}
+use mathlib.Core.Path.{_≡_, refl, sym, ap, subst, _∙_}
+use mathlib.Core.Option.{Option, some, none}
+use mathlib.Core.List.{List, []}
+use mathlib.Core.Bool.{Bool, true, false, cond}
+use native.Mathlib.Omega.{arith}
+use lib.ListN.{length, take, drop}
+use lib.Dec.{eqb}
+use borrow.Author.Tests.{eqb-true}
+use Rattle.laws.specs.Lists.{put}
+use Rattle.laws.proofs.Truth.{split}
+use Rattle.layout.specs.Layout.{recordAt}
+use Rattle.layout.specs.Marks.{marksOf, firstMark}
+use Rattle.layout.proofs.MarkLaws.{first-none}
+use Rattle.data_model.specs.Path.{Components, field}
+use Rattle.data_model.specs.declared.parameters.Subspace.{Subspace}
+use Rattle.tree.specs.Stored.{Stored, stored, lengthy, storedOf}
+use Rattle.tree.specs.Tree.{Formed}
+use Rattle.tree.specs.Matching.{standsAt, letThrough}
+use Rattle.tree.specs.declared.matching.QueryIgnoreParams.{QueryIgnoreParams}
+use Rattle.tree.specs.declared.stored.KeyOrder.the-variants.{Spt}
+use Rattle.tree.specs.declared.stored.LengthyAuthorisedEntry.{LengthyAuthorisedEntry}
+use Rattle.tree.proofs.FormedLaws.{formed-bounds}
+use Rattle.tree.proofs.FormedContents.{formed-many}
+use Rattle.store.specs.Store.{Store, treeRoom, dirRoom, treeOf, dirOf, held}
+use Rattle.store.specs.Change.{inTree}
+use Rattle.store.specs.Ingest.{firstThat}
+use Rattle.store.proofs.DecideLaws.{marks-first}
+use Rattle.store.proofs.IngestLaws.{first-absent, first-at, stands-at}
+use Rattle.query.specs.Reading.{readRefusal}
+use Rattle.query.specs.Listing.{listed, part, HasPart, RecordThere}
+use Rattle.query.specs.Lookup.{notFound, foundOf, foundIn}
+use Rattle.query.specs.declared.answer.EntryFound.{EntryFound}
+use Rattle.query.specs.declared.answer.Listed.{Listed}
+use Rattle.query.specs.declared.answer.Listed.the-variants.{Match, Finished, Refused}
+use Rattle.query.proofs.Tested.{read-tested, formed-spt, heldSpt}
+use Rattle.query.proofs.NextLaws.{next-below}
+
+-- The first mark of a place: none stands there, or the one at the mark.
+module _ {count : ℕ} {dir tree : List ℕ} (v : Formed Spt count dir tree) (ns : List ℕ) (s : Subspace) (p : Components) (ignore : QueryIgnoreParams) (marks old : List ℕ)
+    (em : marks ≡ put (marksOf (standsAt s p) (inTree Spt ns count dir tree)) old) (k : ℕ) (ek : k ≡ 0 + firstMark (drop 0 (take count marks))) where
+  at-first : k ≡ firstMark (marksOf (standsAt s p) (inTree Spt ns count dir tree))
+  at-first = marks-first (standsAt s p) (inTree Spt ns count dir tree) count (formed-many v ns) marks old em k ek
+
+  pub found-none : count ≤ k → (r : EntryFound) → r ≡ notFound 0 → r ≡ foundIn s p ignore (inTree Spt ns count dir tree)
+  unfolding foundOf
+  found-none h r er =
+      let l = inTree Spt ns count dir tree in
+      er ∙ sym (ap (foundOf ignore) (first-absent (standsAt s p) l (first-none (standsAt s p) l (omega (arith, at-first, formed-many v ns)))))
+
+  module _ (h : k < count) (a : LengthyAuthorisedEntry) (ea : a ≡ lengthy (stored Spt field ns (recordAt k dir tree)))
+      (es : storedOf a ≡ stored Spt field ns (recordAt k dir tree)) (t : Bool) (et : t ≡ letThrough ignore (storedOf a)) where
+    first-is : firstThat (standsAt s p) (inTree Spt ns count dir tree) ≡ some (stored Spt field ns (recordAt k dir tree))
+    first-is =
+        let l = inTree Spt ns count dir tree in
+        let x = stored Spt field ns (recordAt k dir tree) in
+        first-at (standsAt s p) l x (omega (arith, at-first, formed-many v ns))
+        ∙ ap some (stands-at v ns (firstMark (marksOf (standsAt s p) l)) (omega (arith, at-first)) x
+        ∙ ap (λ (j : ℕ). stored Spt field ns (recordAt j dir tree)) (sym at-first))
+
+    through : letThrough ignore (stored Spt field ns (recordAt k dir tree)) ≡ t
+    through = ap (letThrough ignore) (sym es) ∙ sym et
+
+    pub found-one : t ≡ true → record { refusal = 0; found = true; lengthy = a } ≡ foundIn s p ignore (inTree Spt ns count dir tree)
+    unfolding foundOf
+    found-one w = rw (first-is, through, w, ea)
+
+    pub found-ignored : t ≡ false → (r : EntryFound) → r ≡ notFound 0 → r ≡ foundIn s p ignore (inTree Spt ns count dir tree)
+    unfolding foundOf
+    found-ignored w r er = rw (first-is, through, w) er
+
+-- The record of what a listing answers is there.
+module _ (s : Store) (b : Bool) (test : Stored → Bool) (place : ℕ) where
+  match-there : (k : ℕ) → listed field s (readRefusal field s b) test place ≡ Match k → RecordThere (s .state .limit) (s .sptDir) (s .spt) k
+  unfolding listed held treeOf dirOf
+  match-there k e = split (eqb (readRefusal field s b) 0)
+      (λ q.
+      let p = read-tested s b (eqb-true (readRefusal field s b) 0 q) .0 in
+      let v = formed-spt s p in
+      let h = next-below test place (heldSpt s) 0 k (rw q at e) in
+      record {
+        most = p .most;
+        numbers = p .room .sptDir;
+        bytes = p .room .spt;
+        bounds = formed-bounds v k (omega (arith, formed-many v (s .state .«namespace_id»)));
+      })
+      (λ q. absurd (let w : Refused (readRefusal field s b) ≡ Match k = rw q at e in let z : _≡_ {A = ℕ} 0 1 = cc in omega arith))
+
+  pub has-part : (r : Listed) → r ≡ listed field s (readRefusal field s b) test place → HasPart (s .state .limit) (s .sptDir) (s .spt) r
+  has-part (Match k) e = match-there k (sym e)
+  has-part Finished e = tt
+  has-part (Refused n) e = tt
+
+-- The part of each answer.
+module _ (limit : ℕ) (dir tree : List ℕ) (l : Listed) where
+  pub record-there : (k : ℕ) → l ≡ Match k → HasPart limit dir tree l → RecordThere limit dir tree k
+  record-there k e h = subst (HasPart limit dir tree) e h
+
+  pub part-match : (k : ℕ) → l ≡ Match k → (r : List ℕ) → r ≡ recordAt k (take (dirRoom limit) dir) (take (treeRoom field limit) tree) → r ≡ part field limit dir tree l
+  unfolding part
+  part-match k e r er = er ∙ sym (ap (part field limit dir tree) e)
+
+  pub part-finished : l ≡ Finished → [] ≡ part field limit dir tree l
+  unfolding part
+  part-finished e = sym (ap (part field limit dir tree) e)
+
+  pub part-refused : (n : ℕ) → l ≡ Refused n → [] ≡ part field limit dir tree l
+  unfolding part
+  part-refused n e = sym (ap (part field limit dir tree) e)

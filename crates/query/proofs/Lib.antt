@@ -1,0 +1,3 @@
+pub mod Tested
+pub mod NextLaws
+pub mod FoundLaws

@@ -1,0 +1,46 @@
+-- `count_in_area` meets its contract: by the marks of what matches. Assumes nothing.
+use Prim.Native.Nat.{ℕ}
+use mathlib.Core.Path.{_≡_, sym}
+use native.Mathlib.Omega.{arith}
+use lib.ListN.{length, take, length-replicate}
+use lib.Seq.{length-take-le}
+use Rattle.tree.specs.Matching.{inArea, listedInArea}
+use Rattle.tree.proofs.FormedContents.{formed-many}
+use Rattle.query.specs.Reading.{noFlags}
+use Rattle.query.proofs.NextLaws.{count-marked, unflagged-area}
+use borrow.Author.Needs.{needs}
+use Rattle.query.proofs.count.count_in_area.Statement.{statement}
+use Rattle.query.proofs.count.count_in_area.Tie as tie
+
+-- The marks of the records are a part of the buffer.
+front : (c : tie.After-mark-area) → _≡_ {A = ℕ} ((c .before .before .before .before) .args .count) (length (take ((c .before .before .before .before) .args .count) (c .mark-area .last .1 .1 .1 .1 .1 .1 .1 .0)))
+front c = sym (length-take-le ((c .before .before .before .before) .args .count) (c .mark-area .last .1 .1 .1 .1 .1 .1 .1 .0) (omega (arith, (c .before .before .before .before) .pre .1, c .mark-area .kept .1 .1 .1 .1 .1 .1 .1 .0, length-replicate {A = ℕ} 1024 0)))
+
+slice-aggregate-mark-area : tie.Need-slice-aggregate-mark-area
+slice-aggregate-mark-area c = search needs
+
+mark-area-requires : tie.Need-mark-area-requires
+mark-area-requires c κs = search needs
+
+array-share-prefix-marks : tie.Need-array-share-prefix-marks
+array-share-prefix-marks c = search needs
+
+slice-aggregate-count-marked : tie.Need-slice-aggregate-count-marked
+slice-aggregate-count-marked c = front ((c .before .before))
+
+count-marked-requires : tie.Need-count-marked-requires
+count-marked-requires c κs = search needs
+
+returns : tie.Need-returns
+returns c = let p = (c .before .before .before .before .before .before .before) in let m = c .before .before .before .mark-area in count-marked (listedInArea (p .args .area) noFlags) _ (p .args .count) (formed-many (p .pre .0) (p .args .namespace)) _ _ (m .ensures) (inArea (p .args .area)) (unflagged-area (p .args .area)) _ (c .count-marked .ensures)
+
+pub count-in-area-spec : {M : Type 1} → statement M
+count-in-area-spec =
+    tie.close
+    (tie.spec
+    slice-aggregate-mark-area
+    mark-area-requires
+    array-share-prefix-marks
+    slice-aggregate-count-marked
+    count-marked-requires
+    returns)

@@ -1,0 +1,65 @@
+-- `part_of` meets its contract. Assumes nothing.
+use mathlib.Core.Path.{sym}
+use native.Mathlib.Omega.{arith}
+use lib.Seq.{length-take-le}
+use Rattle.query.proofs.FoundLaws.{record-there, part-match, part-finished, part-refused}
+use borrow.Author.Needs.{needs}
+use Rattle.query.proofs.listing.part_of.Statement.{statement}
+use Rattle.query.proofs.listing.part_of.Tie as tie
+
+enum-known-listed : tie.Need-enum-known-listed
+enum-known-listed c = search needs
+
+mul-t : tie.Need-mul-t
+mul-t c = let p = (c .before .before .before .before .before) in let m = record-there (p .args .limit) (p .args .«spt-dir» .now) (p .args .spt .now) (p .args .listed) _ (c .before .listed .given .1) (p .pre) .most in omega arith
+
+mul-d : tie.Need-mul-d
+mul-d c = let p = (c .before .before .before .before .before) in let m = record-there (p .args .limit) (p .args .«spt-dir» .now) (p .args .spt .now) (p .args .listed) _ (c .before .listed .given .1) (p .pre) .most in omega arith
+
+slice-aggregate-record-at : tie.Need-slice-aggregate-record-at
+slice-aggregate-record-at c = let p = (c .before .before .before .before .before .before) in sym (length-take-le _ _ (record-there (p .args .limit) (p .args .«spt-dir» .now) (p .args .spt .now) (p .args .listed) _ (c .before .before .listed .given .1) (p .pre) .bytes))
+
+slice-aggregate-record-at-2 : tie.Need-slice-aggregate-record-at-2
+slice-aggregate-record-at-2 c = let p = (c .before .before .before .before .before .before .before) in sym (length-take-le _ _ (record-there (p .args .limit) (p .args .«spt-dir» .now) (p .args .spt .now) (p .args .listed) _ (c .before .before .before .listed .given .1) (p .pre) .numbers))
+
+record-at-requires : tie.Need-record-at-requires
+record-at-requires c κs = let p = (c .before .before .before .before .before .before .before) in record-there (p .args .limit) (p .args .«spt-dir» .now) (p .args .spt .now) (p .args .listed) _ (c .before .before .before .listed .given .1) (p .pre) .bounds
+
+enum-told : tie.Need-enum-told
+enum-told c = search needs
+
+slice-aggregate-result : tie.Need-slice-aggregate-result
+slice-aggregate-result c = search needs
+
+enum-told-2 : tie.Need-enum-told-2
+enum-told-2 c = search needs
+
+slice-aggregate-result-2 : tie.Need-slice-aggregate-result-2
+slice-aggregate-result-2 c = search needs
+
+returns : tie.Need-returns
+returns c = let p = (c .before .before .before .before .before .before .before .before) in part-match (p .args .limit) (p .args .«spt-dir» .now) (p .args .spt .now) (p .args .listed) _ (c .before .before .before .before .listed .given .1) _ (c .record-at .ensures)
+
+returns-2 : tie.Need-returns-2
+returns-2 c = let p = (c .before .before .before .before .before) in part-finished (p .args .limit) (p .args .«spt-dir» .now) (p .args .spt .now) (p .args .listed) (c .before .enum-told .given .1)
+
+returns-3 : tie.Need-returns-3
+returns-3 c = let p = (c .before .before .before .before .before) in part-refused (p .args .limit) (p .args .«spt-dir» .now) (p .args .spt .now) (p .args .listed) _ (c .before .enum-told2 .given .1)
+
+pub part-of-spec : {M : Type 1} → statement M
+part-of-spec =
+    tie.close
+    (tie.spec
+    enum-known-listed
+    mul-t
+    mul-d
+    slice-aggregate-record-at
+    slice-aggregate-record-at-2
+    record-at-requires
+    enum-told
+    slice-aggregate-result
+    enum-told-2
+    slice-aggregate-result-2
+    returns
+    returns-2
+    returns-3)

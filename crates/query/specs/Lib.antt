@@ -1,0 +1,6 @@
+pub mod Reading
+pub mod Listing
+pub mod Count
+pub mod Lookup
+pub mod Interest
+pub mod Walk

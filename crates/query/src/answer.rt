@@ -1,0 +1,29 @@
+// What the calls that only read answer.
+use data_model::range_3d::Range3d;
+use tree::stored::LengthyAuthorisedEntry;
+
+// Refusal 0, whether there is an entry, and it with its token and available length; all else 0 where there is none or the call is refused.
+pub struct EntryFound {
+    pub refusal: u8,
+    pub found: bool,
+    pub lengthy: LengthyAuthorisedEntry,
+}
+
+// The place of a listing's next match; or there is none; or the refusal.
+pub enum Listed {
+    Match(usize),
+    Finished,
+    Refused(u8),
+}
+
+// Refusal 0 and the count; or the refusal and 0.
+pub struct Counted {
+    pub refusal: u8,
+    pub count: usize,
+}
+
+// Refusal 0 and the range; or the refusal and the range that includes nothing.
+pub struct InterestRange {
+    pub refusal: u8,
+    pub range: Range3d,
+}

@@ -1,0 +1,9 @@
+// The store's reading half. The public entries are `entry::entry`, `listing::query_area`, `listing::query_area_place`, `listing::query_range`,
+// `listing::query_range_place`, `count::count_area`, `count::summarise` and `interest::area_of_interest_to_range`: they have no `requires`,
+// are lent the store's buffers shared, and write nothing.
+pub mod answer;
+pub mod check;
+pub mod count;
+pub mod entry;
+pub mod interest;
+pub mod listing;
