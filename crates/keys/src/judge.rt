@@ -9,15 +9,53 @@ use data_model::path::MCC;
 use data_model::path::MCL;
 use data_model::path::MPL;
 ghost use mathlib.Core.Path.{_≡_};
+ghost use mathlib.Core.Bool.{true};
+ghost use Prim.Native.Nat.{_+_, _≤_};
+ghost use lib.ListN.{length};
 ghost use Rattle.data_model.specs.Path.{field};
-ghost use Rattle.keys.specs.Decode.{readComponent, readComponents, partOf, readSpt, readTsp, wasRead};
+ghost use Rattle.keys.specs.Decode.{readComponent, readComponents, partOf, readSpt, readTsp, wasRead, NoZero};
+
+// Whether none of the 8 bytes from i on is 00.
+fn no_zero_8(k: &[u8], i: usize) -> bool
+    requires { ⌜ i + 8 ≤ length (now k) ⌝ }
+    ensures { λ r. ⌜ (r ≡ true → NoZero i (i + 8) (now (k .entry))) ⌝ }
+{
+    let mut j = 0;
+    let mut ok = true;
+    while j < 8 {
+        ok = ok & (k[i + j] != 0);
+        j += 1;
+    }
+    ok
+}
+
+// How many bytes at the front, in steps of 8 and at most lim, are not 00: each of them is itself a byte of a component.
+fn pass_run(k: &[u8], lim: usize) -> usize
+    ensures { λ r. ⌜ (r ≤ lim) × (r ≤ length (now (k .entry))) × NoZero 0 r (now (k .entry)) ⌝ }
+{
+    let mut i: usize = 0;
+    while i < lim {
+        if lim - i < 8 {
+            return i;
+        }
+        if k.len() - i < 8 {
+            return i;
+        }
+        if !no_zero_8(k, i) {
+            return i;
+        }
+        i += 8;
+    }
+    i
+}
 
 // How long a component of at most lim bytes is, and how many bytes it takes with its end.
 fn pass_component(k: &[u8], lim: usize) -> Part
     ensures { λ r. ⌜ r ≡ partOf (readComponent lim (now (k .entry))) ⌝ }
 {
-    let mut at: usize = 0;
-    let mut n: usize = 0;
+    let run = pass_run(k, lim);
+    let mut at = run;
+    let mut n = run;
     while at < k.len() {
         let t = token_at(k, at);
         match t {

@@ -5,10 +5,10 @@ use mathlib.Core.Path.{_≡_, refl, sym, ap, ap₂, subst, _∙_}
 use mathlib.Core.List.{List, [], _∷_, _++_, append-assoc, append-nil}
 use mathlib.Core.Bool.{Bool, true, false, not, _&&_}
 use native.Mathlib.Omega.{arith}
-use lib.Dec.{leb}
-use borrow.Author.Tests.{lt-leb, le-leb}
-use lib.ListN.{length, take, drop, length-append, length-drop}
-use lib.Seq.{take-all, take-at, drop-at, take-take, length-take-le}
+use lib.Dec.{leb, eqb}
+use borrow.Author.Tests.{lt-leb, le-leb, eq-eqb}
+use lib.ListN.{length, take, drop, getD, length-append, length-drop}
+use lib.Seq.{take-all, take-at, drop-at, take-take, getD-take, length-take-le}
 use Rattle.laws.specs.Lists.{put}
 use Rattle.laws.specs.Prefix.{sameNumber, sameList, prefixOf}
 use Rattle.laws.proofs.Truth.{and-true, not-true, clash, refute}
@@ -87,6 +87,14 @@ module _ (front place : List ℕ) where
 
   pub begins-long : length front ≤ length place → (t : Bool) → t ≡ sameList sameNumber front (take (length front) place) → t ≡ prefixOf sameNumber front place
   begins-long h t e = e ∙ sym (prefix-take sameNumber front place ∙ ap (λ (b : Bool). b && sameList sameNumber front (take (length front) place)) (le-leb (length front) (length place) h))
+
+-- What differs at a place does not begin alike.
+pub begins-not : (front place : List ℕ) (i : ℕ) → i < length front → eqb (getD place i 0) (getD front i 0) ≡ false → prefixOf sameNumber front place ≡ false
+begins-not front place i h e = refute (prefixOf sameNumber front place) λ t.
+    let k = and-true (leb (length front) (length place)) (sameList sameNumber front (take (length front) place)) (sym (prefix-take sameNumber front place) ∙ t) in
+    let q : front ≡ take (length front) place = component-equality .equal front (take (length front) place) (k .1) in
+    let d : getD place i 0 ≡ getD front i 0 = sym (getD-take (length front) place i 0 h) ∙ ap (λ (l : List ℕ). getD l i 0) (sym q) in
+    clash (eq-eqb (getD place i 0) (getD front i 0) d) e
 
 -- The key of a record that was tested is that of what it says.
 pub key-says : (o : KeyOrder) (r : List ℕ) → Bytes r → isRecord o field r ≡ true → (keyOf r ≡ keyIn o (tripleAt o r)) × Sized (tripleAt o r)

@@ -8,7 +8,7 @@ use data_model::path::Path;
 use keys::number::read_u64;
 use layout::bytes::same;
 ghost use mathlib.Core.Path.{_≡_};
-ghost use mathlib.Core.Bool.{true};
+ghost use mathlib.Core.Bool.{true, false};
 ghost use Prim.Native.Nat.{_≤_, _<_};
 ghost use lib.ListN.{length, take};
 ghost use Rattle.laws.specs.Prefix.{sameNumber, prefixOf};
@@ -62,12 +62,27 @@ pub fn time_at(order: KeyOrder, count: usize, dir: &[u32], tree: &[u8], k: usize
     }
 }
 
+// Places differ mostly in the last byte of the last component, which stands before its end: a difference there tells at once.
+fn alike_near_end(place: &[u8], front: &[u8]) -> bool
+    requires { ⌜ length (now front) ≤ length (now place) ⌝ }
+    ensures { λ r. ⌜ (r ≡ false → prefixOf sameNumber (now (front .entry)) (now (place .entry)) ≡ false) ⌝ }
+{
+    let n = front.len();
+    if n < 3 {
+        return true;
+    }
+    place[n - 3] == front[n - 3]
+}
+
 // Whether a place begins with these bytes.
 pub fn begins(place: &[u8], front: &[u8]) -> bool
     ensures { λ r. ⌜ r ≡ prefixOf sameNumber (now (front .entry)) (now (place .entry)) ⌝ }
 {
     let n = front.len();
     if place.len() < n {
+        return false;
+    }
+    if !alike_near_end(place, front) {
         return false;
     }
     same(front, &place[..n])
