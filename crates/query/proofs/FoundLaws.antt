@@ -1,11 +1,11 @@
 -- What is found at a place by its first mark, and the record of a match is there. Assumes nothing.
 use Prim.Native.Nat.{ℕ, _+_, _≤_, _<_}
-use mathlib.Core.Path.{_≡_, refl, sym, ap, subst, _∙_}
-use mathlib.Core.Option.{Option, some, none}
+use mathlib.Core.Path.{_≡_, sym, ap, subst, _∙_}
+use mathlib.Core.Option.{some}
 use mathlib.Core.List.{List, []}
-use mathlib.Core.Bool.{Bool, true, false, cond}
+use mathlib.Core.Bool.{Bool, true, false}
 use native.Mathlib.Omega.{arith}
-use lib.ListN.{length, take, drop}
+use lib.ListN.{take, drop}
 use lib.Dec.{eqb}
 use borrow.Author.Tests.{eqb-true}
 use Rattle.laws.specs.Lists.{put}
@@ -26,10 +26,11 @@ use Rattle.tree.proofs.FormedContents.{formed-many}
 use Rattle.store.specs.Store.{Store, treeRoom, dirRoom, treeOf, dirOf, held}
 use Rattle.store.specs.Change.{inTree}
 use Rattle.store.specs.Ingest.{firstThat}
+use Rattle.store.proofs.CheckLaws.{Passed}
 use Rattle.store.proofs.DecideLaws.{marks-first}
 use Rattle.store.proofs.IngestLaws.{first-absent, first-at, stands-at}
 use Rattle.query.specs.Reading.{readRefusal}
-use Rattle.query.specs.Listing.{listed, part, HasPart, RecordThere}
+use Rattle.query.specs.Listing.{listed, part, partOf, HasPart, RecordThere}
 use Rattle.query.specs.Lookup.{notFound, foundOf, foundIn}
 use Rattle.query.specs.declared.answer.EntryFound.{EntryFound}
 use Rattle.query.specs.declared.answer.Listed.{Listed}
@@ -72,20 +73,19 @@ module _ {count : ℕ} {dir tree : List ℕ} (v : Formed Spt count dir tree) (ns
 
 -- The record of what a listing answers is there.
 module _ (s : Store) (b : Bool) (test : Stored → Bool) (place : ℕ) where
-  match-there : (k : ℕ) → listed field s (readRefusal field s b) test place ≡ Match k → RecordThere (s .state .limit) (s .sptDir) (s .spt) k
+  pub match-below : (k : ℕ) → listed field s (readRefusal field s b) test place ≡ Match k → Passed s × (k < s .state .count)
   unfolding listed held treeOf dirOf
-  match-there k e = split (eqb (readRefusal field s b) 0)
+  match-below k e = split (eqb (readRefusal field s b) 0)
       (λ q.
       let p = read-tested s b (eqb-true (readRefusal field s b) 0 q) .0 in
-      let v = formed-spt s p in
       let h = next-below test place (heldSpt s) 0 k (rw q at e) in
-      record {
-        most = p .most;
-        numbers = p .room .sptDir;
-        bytes = p .room .spt;
-        bounds = formed-bounds v k (omega (arith, formed-many v (s .state .«namespace_id»)));
-      })
+      (p, omega (arith, formed-many (formed-spt s p) (s .state .«namespace_id»))))
       (λ q. absurd (let w : Refused (readRefusal field s b) ≡ Match k = rw q at e in let z : _≡_ {A = ℕ} 0 1 = cc in omega arith))
+
+  match-there : (k : ℕ) → listed field s (readRefusal field s b) test place ≡ Match k → RecordThere (s .state .limit) (s .sptDir) (s .spt) k
+  match-there k e =
+      let p = match-below k e .0 in
+      record { most = p .most; numbers = p .room .sptDir; bytes = p .room .spt; bounds = formed-bounds (formed-spt s p) k (match-below k e .1) }
 
   pub has-part : (r : Listed) → r ≡ listed field s (readRefusal field s b) test place → HasPart (s .state .limit) (s .sptDir) (s .spt) r
   has-part (Match k) e = match-there k (sym e)
@@ -108,3 +108,7 @@ module _ (limit : ℕ) (dir tree : List ℕ) (l : Listed) where
   pub part-refused : (n : ℕ) → l ≡ Refused n → [] ≡ part field limit dir tree l
   unfolding part
   part-refused n e = sym (ap (part field limit dir tree) e)
+
+pub part-listed : (s : Store) (l l′ : Listed) → l ≡ l′ → (r : List ℕ) → r ≡ part field (s .state .limit) (s .sptDir) (s .spt) l → r ≡ partOf field s l′
+unfolding partOf
+part-listed s l l′ e r er = er ∙ ap (part field (s .state .limit) (s .sptDir) (s .spt)) e

@@ -1,3 +1,6 @@
 pub mod Tested
 pub mod NextLaws
 pub mod FoundLaws
+pub mod Walked
+pub mod AreaAsRange
+pub mod TimeSaid

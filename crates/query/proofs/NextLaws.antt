@@ -1,4 +1,4 @@
--- The next match, by marks; where it stands; what no flags and all flags let through. Over any list. Assumes nothing.
+-- The next match, by marks, and where it stands; that no flags let everything through. Assumes nothing.
 use Prim.Native.Nat.{ℕ, zero, suc, _+_, _≤_, _<_}
 use mathlib.Core.Path.{_≡_, refl, sym, ap, _∙_}
 use mathlib.Core.List.{List, [], _∷_, reverse}
@@ -6,24 +6,23 @@ use mathlib.Core.Bool.{Bool, true, false, cond, _&&_}
 use native.Mathlib.Omega.{arith}
 use lib.ListN.{length, take, drop}
 use lib.Dec.{leb, eqb}
-use borrow.Author.Tests.{lt-leb, le-leb, leb-true, eq-eqb, ne-eqb}
+use borrow.Author.Tests.{lt-leb, le-leb}
 use Rattle.laws.specs.Lists.{put}
 use Rattle.laws.specs.Sorted.{keep}
 use Rattle.laws.proofs.Truth.{split}
 use Rattle.layout.specs.Marks.{marksOf, selected, firstMark, countMarks}
 use Rattle.layout.proofs.MarkLaws.{selected-marks}
 use Rattle.data_model.specs.declared.area.Area.{Area}
-use Rattle.data_model.specs.declared.«area_of_interest».AreaOfInterest.{AreaOfInterest}
 use Rattle.data_model.specs.declared.«range_3d».Range3d.{Range3d}
 use Rattle.tree.specs.Stored.{Stored}
 use Rattle.tree.specs.Matching.{inArea, inRange, letThrough, listedInArea, listedInRange}
 use Rattle.tree.specs.Interest.{interestFrom}
+use Rattle.tree.specs.declared.matching.QueryIgnoreParams.{QueryIgnoreParams}
 use Rattle.store.proofs.DecideLaws.{marks-front, marks-number}
 use Rattle.query.specs.Reading.{noFlags}
 use Rattle.query.specs.Listing.{next, isMark}
-use Rattle.query.specs.Interest.{interestTime}
 use Rattle.query.specs.declared.answer.Listed.{Listed}
-use Rattle.query.specs.declared.answer.Listed.the-variants.{Match, Finished, Refused}
+use Rattle.query.specs.declared.answer.Listed.the-variants.{Match, Finished}
 
 module _ {A : Type 0} (test : A → Bool) (place : ℕ) where
   -- Places before the one given are passed over.
@@ -97,13 +96,14 @@ and-all : (b : Bool) → (b && true) ≡ b
 and-all true = refl
 and-all false = refl
 
-pub unflagged-area : (area : Area) (x : Stored) → listedInArea area noFlags x ≡ inArea area x
-unfolding listedInArea letThrough
-unflagged-area area x = and-all (inArea area x)
+module _ (g : QueryIgnoreParams) (e : g ≡ noFlags) where
+  pub unflagged-area : (area : Area) (x : Stored) → listedInArea area g x ≡ inArea area x
+  unfolding listedInArea letThrough
+  unflagged-area area x = ap (λ (h : QueryIgnoreParams). listedInArea area h x) e ∙ and-all (inArea area x)
 
-pub unflagged-range : (range : Range3d) (x : Stored) → listedInRange range noFlags x ≡ inRange range x
-unfolding listedInRange letThrough
-unflagged-range range x = and-all (inRange range x)
+  pub unflagged-range : (range : Range3d) (x : Stored) → listedInRange range g x ≡ inRange range x
+  unfolding listedInRange letThrough
+  unflagged-range range x = ap (λ (h : QueryIgnoreParams). listedInRange range h x) e ∙ and-all (inRange range x)
 
 -- What the marks of a test in a buffer give: the next match, how many, and from which time on.
 module _ (p : Stored → Bool) (l : List Stored) (n : ℕ) (many : length l ≡ n) (marks old : List ℕ) (e : marks ≡ put (marksOf p l) old) where

@@ -1,12 +1,12 @@
 -- The tests that every call that only reads begins with: which refusal comes of which, what is known where nothing is refused, and the
 -- answer of each call, refused or not, by what its inner function answers. Assumes nothing.
 use Prim.Native.Nat.{ℕ}
-use mathlib.Core.Path.{_≡_, refl, sym, ap, _∙_}
+use mathlib.Core.Path.{_≡_, sym, ap, _∙_}
 use mathlib.Core.List.{List}
 use mathlib.Core.Bool.{Bool, true, false}
 use native.Mathlib.Omega.{arith}
 use lib.ListN.{length, take}
-use borrow.Author.Tests.{eq-eqb, ne-eqb}
+use borrow.Author.Tests.{ne-eqb}
 use Rattle.laws.specs.Sorted.{keep}
 use Rattle.data_model.specs.Path.{field, legal, components}
 use Rattle.data_model.specs.Area.{areaRange, areaRangeAnswer, emptyRange}
@@ -29,7 +29,7 @@ use Rattle.query.specs.Count.{counted}
 use Rattle.query.specs.Lookup.{notFound, foundIn, entryFound}
 use Rattle.query.specs.Interest.{interestTime, startingAt, interestRange}
 use Rattle.query.specs.declared.answer.Listed.{Listed}
-use Rattle.query.specs.declared.answer.Listed.the-variants.{Match, Finished, Refused}
+use Rattle.query.specs.declared.answer.Listed.the-variants.{Refused}
 use Rattle.query.specs.declared.answer.EntryFound.{EntryFound}
 use Rattle.query.specs.declared.answer.InterestRange.{InterestRange}
 

@@ -1,14 +1,19 @@
--- What the listings say as a whole: a walk from place 0, each step from the place after the last match.
+-- What the calls say as a whole: a listing walked from place 0, each step from the place after the last match; and the entry that is found.
 use Prim.Native.Nat.{ℕ, _+_}
 use mathlib.Core.Path.{_≡_}
 use mathlib.Core.List.{List, [], _∷_}
-use mathlib.Core.Bool.{Bool}
-use Rattle.laws.specs.Sorted.{keep, Ascends}
+use mathlib.Core.Bool.{Bool, true, false}
+use Rattle.laws.specs.Sorted.{_∈_, keep, Ascends}
 use Rattle.layout.specs.Layout.{records}
-use Rattle.data_model.specs.Path.{Figures}
-use Rattle.tree.specs.Stored.{Stored, stored, contents, keyBelow}
+use Rattle.data_model.specs.Path.{Figures, components}
+use Rattle.data_model.specs.declared.path.Path.{Path}
+use Rattle.data_model.specs.declared.parameters.Subspace.{Subspace}
+use Rattle.tree.specs.Stored.{Stored, stored, contents, lengthy, keyBelow}
+use Rattle.tree.specs.Matching.{standsAt, letThrough}
+use Rattle.tree.specs.declared.matching.QueryIgnoreParams.{QueryIgnoreParams}
 use Rattle.tree.specs.declared.stored.KeyOrder.the-variants.{Spt}
 use Rattle.store.specs.Store.{Store, treeOf, dirOf, held}
+use Rattle.query.specs.Lookup.{notFound, entryFound}
 use Rattle.query.specs.declared.answer.Listed.{Listed}
 use Rattle.query.specs.declared.answer.Listed.the-variants.{Match, Finished}
 
@@ -27,3 +32,11 @@ pub record Lists (f : Figures) (s : Store) (test : Stored → Bool) (places : �
   pub walks : Walks places parts 0 (matching f s test)
   pub ascends : Ascends keyBelow (matching f s test)
   pub entries : contents Spt f (s .state .«namespace_id») (matching f s test) ≡ keep test (held f Spt s)
+
+-- Something is found exactly if a stored entry stands at the place and the flags let it through, and it is that entry. Else all is 0.
+pub record Finds (f : Figures) (s : Store) (subspace : Subspace) (path : Path) (ignore : QueryIgnoreParams) : Type 0 where
+  pub there : (x : Stored) → x ∈ held f Spt s → standsAt subspace (components path) x ≡ true → letThrough ignore x ≡ true
+      → entryFound f s subspace path ignore ≡ record { refusal = 0; found = true; lengthy = lengthy x }
+  pub stored : entryFound f s subspace path ignore .found ≡ true
+      → (x : Stored) × x ∈ held f Spt s × (standsAt subspace (components path) x ≡ true) × (letThrough ignore x ≡ true) × (entryFound f s subspace path ignore .lengthy ≡ lengthy x)
+  pub absent : entryFound f s subspace path ignore .found ≡ false → entryFound f s subspace path ignore ≡ notFound 0

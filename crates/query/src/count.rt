@@ -1,5 +1,6 @@
 // Counts: of an area, and of a 3d range.
 use crate::answer::Counted;
+use crate::check::no_flags;
 use crate::check::read_refusal;
 use data_model::area::Area;
 use data_model::range_3d::Range3d;
@@ -9,7 +10,6 @@ use store::state::State;
 use tree::by_value::is_legal;
 use tree::by_value::is_legal_range;
 use tree::marks::count_marked;
-use tree::matching::QueryIgnoreParams;
 use tree::matching::mark_area;
 use tree::matching::mark_range;
 use tree::stored::KeyOrder;
@@ -38,10 +38,7 @@ fn count_in_area(
     requires { ⌜ (Formed Spt count (now «spt_dir») (now spt)) × (count ≤ limitMost) × (legal field (area .path) ≡ true) ⌝ }
     ensures { λ r. ⌜ r ≡ length (keep (inArea area) (inTree Spt namespace count (now («spt_dir» .entry)) (now (spt .entry)))) ⌝ }
 {
-    let ignore = QueryIgnoreParams {
-        ignore_incomplete_payloads: false,
-        ignore_empty_payloads: false,
-    };
+    let ignore = no_flags();
     let mut marks = [0u8; LIMIT_MOST];
     mark_area(
         KeyOrder::Spt,
@@ -66,10 +63,7 @@ fn count_in_range(
     requires { ⌜ (Formed Spt count (now «spt_dir») (now spt)) × (count ≤ limitMost) × (legalRange field (range .paths) ≡ true) ⌝ }
     ensures { λ r. ⌜ r ≡ length (keep (inRange range) (inTree Spt namespace count (now («spt_dir» .entry)) (now (spt .entry)))) ⌝ }
 {
-    let ignore = QueryIgnoreParams {
-        ignore_incomplete_payloads: false,
-        ignore_empty_payloads: false,
-    };
+    let ignore = no_flags();
     let mut marks = [0u8; LIMIT_MOST];
     mark_range(
         KeyOrder::Spt,

@@ -1,5 +1,6 @@
 // The 3d range of an area of interest.
 use crate::answer::InterestRange;
+use crate::check::no_flags;
 use crate::check::read_refusal;
 use data_model::area::Area;
 use data_model::area_of_interest::AreaOfInterest;
@@ -19,7 +20,6 @@ use store::state::State;
 use tree::by_value::area_range;
 use tree::by_value::is_legal;
 use tree::interest::interest_start;
-use tree::matching::QueryIgnoreParams;
 use tree::matching::mark_area;
 use tree::stored::KeyOrder;
 ghost use mathlib.Core.Path.{_≡_};
@@ -46,10 +46,7 @@ fn interest_time(
 {
     let area = aoi.area;
     let times = area.times;
-    let ignore = QueryIgnoreParams {
-        ignore_incomplete_payloads: false,
-        ignore_empty_payloads: false,
-    };
+    let ignore = no_flags();
     let mut marks = [0u8; LIMIT_MOST];
     mark_area(
         KeyOrder::Tsp,

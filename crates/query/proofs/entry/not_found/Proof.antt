@@ -2,7 +2,6 @@
 use mathlib.Core.Path.{ap}
 use lib.ListN.{replicate}
 use Rattle.data_model.specs.declared.entry.Entry.{Entry}
-use Rattle.query.specs.declared.answer.EntryFound.{EntryFound}
 use mathlib.Core.Bool.{false}
 use borrow.Author.Needs.{needs}
 use Rattle.query.proofs.entry.not_found.Statement.{statement}

@@ -6,15 +6,17 @@ use lib.ListN.{length, take, length-replicate}
 use lib.Seq.{length-take-le}
 use Rattle.tree.specs.Matching.{inArea, listedInArea}
 use Rattle.tree.proofs.FormedContents.{formed-many}
-use Rattle.query.specs.Reading.{noFlags}
 use Rattle.query.proofs.NextLaws.{interest-marked, unflagged-area}
 use borrow.Author.Needs.{needs}
 use Rattle.query.proofs.interest.interest_time.Statement.{statement}
 use Rattle.query.proofs.interest.interest_time.Tie as tie
 
 -- The marks of the records are a part of the buffer.
-front : (c : tie.After-mark-area) → _≡_ {A = ℕ} ((c .before .before .before .before .before .before) .args .count) (length (take ((c .before .before .before .before .before .before) .args .count) (c .mark-area .last .1 .1 .1 .1 .1 .1 .1 .0)))
-front c = sym (length-take-le ((c .before .before .before .before .before .before) .args .count) (c .mark-area .last .1 .1 .1 .1 .1 .1 .1 .0) (omega (arith, (c .before .before .before .before .before .before) .pre .1, c .mark-area .kept .1 .1 .1 .1 .1 .1 .1 .0, length-replicate {A = ℕ} 1024 0)))
+front : (c : tie.After-mark-area) → _≡_ {A = ℕ} ((c .before .before .before .before .before .before .before) .args .count) (length (take ((c .before .before .before .before .before .before .before) .args .count) (c .mark-area .last .1 .1 .1 .1 .1 .1 .1 .0)))
+front c = sym (length-take-le ((c .before .before .before .before .before .before .before) .args .count) (c .mark-area .last .1 .1 .1 .1 .1 .1 .1 .0) (omega (arith, (c .before .before .before .before .before .before .before) .pre .1, c .mark-area .kept .1 .1 .1 .1 .1 .1 .1 .0, length-replicate {A = ℕ} 1024 0)))
+
+no-flags-requires : tie.Need-no-flags-requires
+no-flags-requires c κs = search needs
 
 slice-aggregate-mark-area : tie.Need-slice-aggregate-mark-area
 slice-aggregate-mark-area c = search needs
@@ -29,15 +31,16 @@ slice-aggregate-interest-start : tie.Need-slice-aggregate-interest-start
 slice-aggregate-interest-start c = front ((c .before .before))
 
 interest-start-requires : tie.Need-interest-start-requires
-interest-start-requires c κs = ((c .before .before .before .before .before .before .before .before) .pre .0, sym (front ((c .before .before))))
+interest-start-requires c κs = ((c .before .before .before .before .before .before .before .before .before) .pre .0, sym (front ((c .before .before))))
 
 returns : tie.Need-returns
-returns c = let p = (c .before .before .before .before .before .before .before .before .before) in let m = c .before .before .before .mark-area in interest-marked (listedInArea (p .args .aoi .area) noFlags) _ (p .args .count) (formed-many (p .pre .0) (p .args .namespace)) _ _ (m .ensures) (inArea (p .args .aoi .area)) (unflagged-area (p .args .aoi .area)) _ _ _ _ (c .interest-start .ensures)
+returns c = let p = (c .before .before .before .before .before .before .before .before .before .before) in let m = c .before .before .before .mark-area in interest-marked (listedInArea (p .args .aoi .area) (c .before .before .before .before .before .no-flags .result)) _ (p .args .count) (formed-many (p .pre .0) (p .args .namespace)) _ _ (m .ensures) (inArea (p .args .aoi .area)) (unflagged-area (c .before .before .before .before .before .no-flags .result) (c .before .before .before .before .before .no-flags .ensures) (p .args .aoi .area)) _ _ _ _ (c .interest-start .ensures)
 
 pub interest-time-spec : {M : Type 1} → statement M
 interest-time-spec =
     tie.close
     (tie.spec
+    no-flags-requires
     slice-aggregate-mark-area
     mark-area-requires
     array-share-prefix-marks

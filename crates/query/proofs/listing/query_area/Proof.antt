@@ -1,10 +1,9 @@
 -- `query_area` meets its contract: the part of the place that was answered. Assumes nothing.
-use mathlib.Core.Path.{ap, _∙_}
 use Rattle.data_model.specs.Path.{field, legal}
 use Rattle.tree.specs.Matching.{listedInArea}
 use Rattle.store.specs.Store.{Store, storeOf}
-use Rattle.query.specs.Listing.{part, partOf}
-use Rattle.query.proofs.FoundLaws.{has-part}
+use Rattle.query.specs.Listing.{areaListed}
+use Rattle.query.proofs.FoundLaws.{has-part, part-listed}
 use borrow.Author.Needs.{needs}
 use Rattle.query.proofs.listing.query_area.Statement.{statement}
 use Rattle.query.proofs.listing.query_area.Tie as tie
@@ -20,8 +19,7 @@ part-of-requires : tie.Need-part-of-requires
 part-of-requires c κs = let p = (c .before .before .before .before .before) in has-part (lent p) (legal field (p .args .area .path)) (listedInArea (p .args .area) (p .args .ignore)) (p .args .place) _ (c .query-area-place .ensures)
 
 returns : tie.Need-returns
-unfolding partOf
-returns c = let p = (c .before .before .before .before .before .before) in c .part-of .ensures ∙ ap (part field (p .args .state .limit) (p .args .«spt-dir» .now) (p .args .spt .now)) (c .before .query-area-place .ensures)
+returns c = let p = (c .before .before .before .before .before .before) in part-listed (lent p) _ (areaListed field (lent p) (p .args .area) (p .args .ignore) (p .args .place)) (c .before .query-area-place .ensures) _ (c .part-of .ensures)
 
 pub query-area-spec : {M : Type 1} → statement M
 query-area-spec = tie.close (tie.spec query-area-place-requires part-of-requires returns)

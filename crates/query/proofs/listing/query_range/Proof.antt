@@ -1,11 +1,10 @@
 -- `query_range` meets its contract: the part of the place that was answered. Assumes nothing.
-use mathlib.Core.Path.{ap, _∙_}
 use Rattle.data_model.specs.Path.{field}
 use Rattle.data_model.specs.Range.{legalRange}
 use Rattle.tree.specs.Matching.{listedInRange}
 use Rattle.store.specs.Store.{Store, storeOf}
-use Rattle.query.specs.Listing.{part, partOf}
-use Rattle.query.proofs.FoundLaws.{has-part}
+use Rattle.query.specs.Listing.{rangeListed}
+use Rattle.query.proofs.FoundLaws.{has-part, part-listed}
 use borrow.Author.Needs.{needs}
 use Rattle.query.proofs.listing.query_range.Statement.{statement}
 use Rattle.query.proofs.listing.query_range.Tie as tie
@@ -21,8 +20,7 @@ part-of-requires : tie.Need-part-of-requires
 part-of-requires c κs = let p = (c .before .before .before .before .before) in has-part (lent p) (legalRange field (p .args .range .paths)) (listedInRange (p .args .range) (p .args .ignore)) (p .args .place) _ (c .query-range-place .ensures)
 
 returns : tie.Need-returns
-unfolding partOf
-returns c = let p = (c .before .before .before .before .before .before) in c .part-of .ensures ∙ ap (part field (p .args .state .limit) (p .args .«spt-dir» .now) (p .args .spt .now)) (c .before .query-range-place .ensures)
+returns c = let p = (c .before .before .before .before .before .before) in part-listed (lent p) _ (rangeListed field (lent p) (p .args .range) (p .args .ignore) (p .args .place)) (c .before .query-range-place .ensures) _ (c .part-of .ensures)
 
 pub query-range-spec : {M : Type 1} → statement M
 query-range-spec = tie.close (tie.spec query-range-place-requires part-of-requires returns)
