@@ -81,17 +81,17 @@ fn is_at(
 
 // Where to look first: entries of one time stand in one order in both trees, so each is looked for right behind the last of its time.
 // A table by times, without regard to clashes, says where; a wrong place only costs the search.
-pub const SLOTS: usize = 4093;
+pub const SLOTS: usize = 16381;
 
 fn slot(time: u64) -> usize
-    ensures { λ r. ⌜ r < 4093 ⌝ }
+    ensures { λ r. ⌜ r < 16381 ⌝ }
 {
-    (time % 4093) as usize
+    (time % 16381) as usize
 }
 
 // The first place of each time.
 fn first_places(count: usize, tsp_dir: &[u32], tsp: &[u8], next: &mut [usize])
-    requires { ⌜ (Formed Tsp count (now «tsp_dir») (now tsp)) × (4093 ≤ length (now next)) ⌝ }
+    requires { ⌜ (Formed Tsp count (now «tsp_dir») (now tsp)) × (16381 ≤ length (now next)) ⌝ }
 {
     let mut k = count;
     while 0 < k {
@@ -131,7 +131,7 @@ fn within_by(
     tsp: &[u8],
     next: &mut [usize],
 ) -> bool
-    requires { ⌜ (Formed Spt count (now «spt_dir») (now spt)) × (Formed Tsp count (now «tsp_dir») (now tsp)) × (4093 ≤ length (now next)) ⌝ }
+    requires { ⌜ (Formed Spt count (now «spt_dir») (now spt)) × (Formed Tsp count (now «tsp_dir») (now tsp)) × (16381 ≤ length (now next)) ⌝ }
     ensures { λ r. ⌜ r ≡ within (contents Spt field namespace (records count (now («spt_dir» .entry)) (now (spt .entry)))) (contents Tsp field namespace (records count (now («tsp_dir» .entry)) (now (tsp .entry)))) ⌝ }
 {
     let mut k: usize = 0;
