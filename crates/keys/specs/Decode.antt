@@ -1,9 +1,9 @@
 -- Reading a path's bytes, and a key's, back: what an encoder writes is taken, all else is refused with 5.
-use Prim.Native.Nat.{ℕ, zero, suc, _+_, _-_, _*_, min}
+use Prim.Native.Nat.{ℕ, zero, suc, _+_, _-_, _*_, _≤_, _<_, min}
 use mathlib.Core.Path.{_≡_}
 use mathlib.Core.List.{List, [], _∷_, _++_}
 use mathlib.Core.Bool.{Bool, true, false, cond}
-use lib.ListN.{length, take, drop, replicate}
+use lib.ListN.{length, take, drop, replicate, getD}
 use lib.Dec.{eqb}
 use Rattle.laws.specs.Lists.{put}
 use Rattle.data_model.specs.Path.{Figures, field, Component, Components, pathOf}
@@ -52,6 +52,10 @@ more f n (took a u) = took (f a) (n + u)
 unfoldable pub bind : {A B : Type 0} → Taken A → (A → ℕ → Taken B) → Taken B
 bind refused f = refused
 bind (took a u) f = f a u
+
+unfoldable pub wasRead : {A : Type 0} → Taken A → Bool
+wasRead refused = false
+wasRead (took a u) = true
 
 -- A component of at most lim bytes and its end.
 unfoldable pub readComponent : ℕ → List ℕ → Taken Component
@@ -132,3 +136,7 @@ partOf (took c u) = part.Took (length c) u
 abbrev pub Filled : {A : Type 0} → (A → List ℕ) → Taken A → List ℕ → List ℕ → Type 0
 Filled f refused old new = Unit
 Filled f (took a u) old new = new ≡ put (f a) old
+
+-- None of the bytes from one place up to another is 00.
+abbrev pub NoZero : (from to : ℕ) → List ℕ → Type 0
+NoZero from to k = (i : ℕ) → from ≤ i → i < to → getD k i 0 ≡ 0 → ⊥
