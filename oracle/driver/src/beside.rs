@@ -168,12 +168,14 @@ impl Rust {
     }
 }
 
-/// How an entry's path looks: two components of 6 and 2 bytes; eight of 16; the same of bytes 00, each of which takes two in a key.
+/// How an entry's path looks: two components of 6 and 2 bytes; eight of 16; the same of bytes 00, each of which takes two in a key; the first
+/// kind with another time for each entry.
 #[derive(Clone, Copy, PartialEq)]
 enum Shape {
     Short,
     Long,
     Zeros,
+    Times,
 }
 fn sub(i: u32, subs: u32) -> Sub {
     let mut s = Sub([0; 16]);
@@ -183,7 +185,7 @@ fn sub(i: u32, subs: u32) -> Sub {
 fn path(i: u32, shape: Shape) -> P {
     let last = i.to_be_bytes();
     match shape {
-        Shape::Short => Path::from_slices(&[&b"season"[..], &last[2..]]).unwrap(),
+        Shape::Short | Shape::Times => Path::from_slices(&[&b"season"[..], &last[2..]]).unwrap(),
         Shape::Long | Shape::Zeros => {
             let mut c = [[if shape == Shape::Long { b'a' } else { 0 }; 16]; 8];
             c[7][12..].copy_from_slice(&last);
@@ -196,8 +198,11 @@ fn entry(i: u32, subs: u32, shape: Shape, t: u64) -> AuthorisedEntry<64, 8, 128,
     let e = Entry::new(Ns([0; 16]), sub(i, subs), path(i, shape), t, 3, Dig([10; 32]));
     AuthorisedEntry::new(e, Tok([5; 64])).unwrap()
 }
-fn time(i: u32) -> u64 {
-    100 + (i % 2) as u64
+fn time(i: u32, shape: Shape) -> u64 {
+    match shape {
+        Shape::Times => 1_700_000_000_000_000 + (i as u64 + 1).wrapping_mul(0x9e37_79b9_7f4a_7c15) % 100_000_000_000,
+        _ => 100 + (i % 2) as u64,
+    }
 }
 /// The subspace-first key and the value.
 fn encoded(i: u32, subs: u32, shape: Shape, t: u64) -> (Vec<u8>, Vec<u8>) {
@@ -251,7 +256,7 @@ fn same(port: &Port, rust: &Rust, what: &str) {
 fn filled(n: u32, subs: u32, shape: Shape, limit: usize) -> (Port, Rust) {
     let (mut port, rust) = (Port::open(limit), Rust::open());
     for i in 0..n {
-        rust.ingest(entry(i, subs, shape, time(i)));
+        rust.ingest(entry(i, subs, shape, time(i, shape)));
     }
     for (k, v) in rust.raw(false) {
         let got = port.ingest(&k, &v);
@@ -272,7 +277,7 @@ fn rows(n: u32, subs: u32, shape: Shape, secs: f64, out: &mut Vec<Row>) {
     let i = n / 2 + 1;
 
     // The last of n entries: the store has one less.
-    let (k, v) = encoded(i, subs, shape, time(i));
+    let (k, v) = encoded(i, subs, shape, time(i, shape));
     let less = {
         let mut p = full.clone();
         assert_eq!(p.forget_entry(&k), n as u64 - 1);
@@ -285,7 +290,7 @@ fn rows(n: u32, subs: u32, shape: Shape, secs: f64, out: &mut Vec<Row>) {
         secs,
         || {
             block_on(rust.store.forget_entry(&sub(i, subs), &path(i, shape), None)).unwrap();
-            entry(i, subs, shape, time(i))
+            entry(i, subs, shape, time(i, shape))
         },
         |e| rust.ingest(e),
     );
@@ -294,7 +299,7 @@ fn rows(n: u32, subs: u32, shape: Shape, secs: f64, out: &mut Vec<Row>) {
     push("ingest", a, b, check_less);
 
     let a = best_of(secs, &mut port, &full, |p| assert_eq!(p.ingest(&k, &v), n as u64));
-    let b = best(secs, || entry(i, subs, shape, time(i)), |e| rust.ingest(e));
+    let b = best(secs, || entry(i, subs, shape, time(i, shape)), |e| rust.ingest(e));
     same(&port, &rust, "resend");
     push("resend", a, b, check);
 
@@ -305,7 +310,7 @@ fn rows(n: u32, subs: u32, shape: Shape, secs: f64, out: &mut Vec<Row>) {
         secs,
         || {
             block_on(rust.store.forget_entry(&sub(i, subs), &path(i, shape), None)).unwrap();
-            rust.ingest(entry(i, subs, shape, time(i)));
+            rust.ingest(entry(i, subs, shape, time(i, shape)));
             entry(i, subs, shape, 900)
         },
         |e| rust.ingest(e),
@@ -438,7 +443,7 @@ fn main() {
     }
     println!("## Validation of a full store beside one memcmp pass over its buffers\n");
     println!("| entries | bytes a record | bytes of records | bytes in all | validation | memcmp | factor |\n|---|---|---|---|---|---|---|");
-    for shape in [Shape::Short, Shape::Long, Shape::Zeros] {
+    for shape in [Shape::Short, Shape::Times, Shape::Long, Shape::Zeros] {
         for n in [64, 256, 1024] {
             validation(n, shape, secs);
         }
