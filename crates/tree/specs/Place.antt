@@ -26,3 +26,7 @@ placeAt o r = placeKey (tripleAt o r .subspace) (tripleAt o r .path)
 
 abbrev pub openAt : KeyOrder → List ℕ → List ℕ
 openAt o r = openKey (tripleAt o r .subspace) (tripleAt o r .path)
+
+-- The slots of the table of times by which a record is looked for first. Nothing is asked of what stands in them.
+abbrev pub slots : ℕ
+slots = 16381

@@ -16,6 +16,7 @@ ghost use Rattle.laws.specs.Sorted.{any};
 ghost use Rattle.layout.specs.Layout.{records, recordAt};
 ghost use Rattle.data_model.specs.Path.{field};
 ghost use Rattle.tree.specs.Stored.{contents, stored, sameStored};
+ghost use Rattle.tree.specs.Place.{slots};
 ghost use Rattle.tree.specs.Tree.{Formed, within};
 ghost use Rattle.tree.specs.declared.stored.KeyOrder.the-variants.{Spt, Tsp};
 
@@ -84,14 +85,14 @@ fn is_at(
 pub const SLOTS: usize = 16381;
 
 fn slot(time: u64) -> usize
-    ensures { λ r. ⌜ r < 16381 ⌝ }
+    ensures { λ r. ⌜ r < slots ⌝ }
 {
-    (time % 16381) as usize
+    (time % (SLOTS as u64)) as usize
 }
 
 // The first place of each time.
 fn first_places(count: usize, tsp_dir: &[u32], tsp: &[u8], next: &mut [usize])
-    requires { ⌜ (Formed Tsp count (now «tsp_dir») (now tsp)) × (16381 ≤ length (now next)) ⌝ }
+    requires { ⌜ (Formed Tsp count (now «tsp_dir») (now tsp)) × (slots ≤ length (now next)) ⌝ }
 {
     let mut k = count;
     while 0 < k {
@@ -131,7 +132,7 @@ fn within_by(
     tsp: &[u8],
     next: &mut [usize],
 ) -> bool
-    requires { ⌜ (Formed Spt count (now «spt_dir») (now spt)) × (Formed Tsp count (now «tsp_dir») (now tsp)) × (16381 ≤ length (now next)) ⌝ }
+    requires { ⌜ (Formed Spt count (now «spt_dir») (now spt)) × (Formed Tsp count (now «tsp_dir») (now tsp)) × (slots ≤ length (now next)) ⌝ }
     ensures { λ r. ⌜ r ≡ within (contents Spt field namespace (records count (now («spt_dir» .entry)) (now (spt .entry)))) (contents Tsp field namespace (records count (now («tsp_dir» .entry)) (now (tsp .entry)))) ⌝ }
 {
     let mut k: usize = 0;
