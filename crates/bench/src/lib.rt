@@ -1,4 +1,7 @@
-// The port's functions for drivers in C. Each tests what it is handed before it calls the tree. For measurements alone.
+// The port's functions for drivers in C and Rust. Those here test what they are handed before they call the tree; `calls` has the store's.
+// For measurements alone.
+pub mod calls;
+
 use layout::directory::offset;
 use layout::directory::size;
 use tree::edit::insert_at;

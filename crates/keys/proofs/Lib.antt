@@ -2,3 +2,4 @@ pub mod Encoding
 pub mod Reading
 pub mod Walking
 pub mod Decoding
+pub mod Passing

@@ -53,6 +53,10 @@ unfoldable pub bind : {A B : Type 0} → Taken A → (A → ℕ → Taken B) →
 bind refused f = refused
 bind (took a u) f = f a u
 
+unfoldable pub wasRead : {A : Type 0} → Taken A → Bool
+wasRead refused = false
+wasRead (took a u) = true
+
 -- A component of at most lim bytes and its end.
 unfoldable pub readComponent : ℕ → List ℕ → Taken Component
 readComponent lim [] = refused

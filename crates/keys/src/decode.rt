@@ -94,14 +94,14 @@ pub fn token_at(key: &[u8], at: usize) -> Token
 }
 
 // How many bytes a byte of a component takes.
-fn width(b: u8) -> usize
+pub fn width(b: u8) -> usize
     ensures { λ r. ⌜ r ≡ length (escaped b) ⌝ }
 {
     if b == 0 { 2 } else { 1 }
 }
 
 // Whether a path ends here.
-fn ends_path(key: &[u8], at: usize) -> bool
+pub fn ends_path(key: &[u8], at: usize) -> bool
     ensures { λ r. ⌜ r ≡ endsPath (tokenOf (drop at (now (key .entry)))) ⌝ }
 {
     let t = token_at(key, at);
@@ -145,7 +145,7 @@ fn read_component(k: &[u8], lim: usize, bytes: &mut [u8]) -> Part
     Part::Refused
 }
 
-fn lesser(a: usize, b: usize) -> usize
+pub fn lesser(a: usize, b: usize) -> usize
     ensures { λ r. ⌜ r ≡ min a b ⌝ }
 {
     if a < b { a } else { b }

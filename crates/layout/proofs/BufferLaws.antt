@@ -1,6 +1,6 @@
 -- Turns of the loops that move, clear, write, test and compare runs of a buffer, over plain lists. Assumes nothing.
 use mathlib.Core.Path.{_≡_, refl, sym, ap, _∙_}
-use mathlib.Core.List.{List, [], _∷_, _++_}
+use mathlib.Core.List.{List, [], _∷_, _++_, append-assoc}
 use mathlib.Core.Bool.{Bool, true, false, _&&_}
 use Prim.Native.Nat.{ℕ, zero, suc, _+_, _-_, _≤_, _<_}
 use native.Mathlib.Nat.{add-suc, add-zero, sub-zero, not-suc-le-zero}
@@ -230,3 +230,14 @@ rest-compares a b i e =
     ap (λ (l : List ℕ). byElements byNumber l (take (length b - i) (drop i b))) (take-all (length a - i) (drop i a) (omega (arith, length-drop i a)))
     ∙ ap (byElements byNumber (drop i a)) (take-all (length b - i) (drop i b) (omega (arith, length-drop i b)))
     ∙ sym e
+
+-- What is moved to where it stands.
+pub moved-there : (from to n : ℕ) (l : List ℕ) → from ≡ to → l ≡ moved from to n l
+unfolding moved
+moved-there from to n l e =
+    let p : take to l ++ (take n (drop to l) ++ drop (to + n) l) ≡ l
+    = ap (λ (x : List ℕ). take to l ++ (take n (drop to l) ++ x)) (sym (drop-drop n to l))
+    ∙ ap (take to l ++_) (take-append-drop n (drop to l))
+    ∙ take-append-drop to l in
+    let q : moved to to n l ≡ l = append-assoc (take to l) (take n (drop to l)) (drop (to + n) l) ∙ p in
+    sym (ap (λ (f : ℕ). moved f to n l) e ∙ q)

@@ -11,8 +11,7 @@ ghost use Rattle.laws.specs.Prefix.{sameNumber, sameList};
 ghost use Rattle.layout.specs.Buffers.{moved, cleared, written, allZero};
 ghost use Rattle.data_model.specs.Path.{byBytes};
 
-// Moves n bytes from `from` down to `to`.
-pub fn shift_down(buf: &mut [u8], from: usize, to: usize, n: usize)
+fn move_down(buf: &mut [u8], from: usize, to: usize, n: usize)
     requires { ⌜ (to ≤ from) × (from + n ≤ length (now buf)) ⌝ }
     ensures { λ _. ⌜ now (buf .exit) ≡ moved from to n (now (buf .entry)) ⌝ }
 {
@@ -20,6 +19,16 @@ pub fn shift_down(buf: &mut [u8], from: usize, to: usize, n: usize)
     while i < n {
         buf[to + i] = buf[from + i];
         i += 1;
+    }
+}
+
+// Moves n bytes from `from` down to `to`. What stands there already is not touched.
+pub fn shift_down(buf: &mut [u8], from: usize, to: usize, n: usize)
+    requires { ⌜ (to ≤ from) × (from + n ≤ length (now buf)) ⌝ }
+    ensures { λ _. ⌜ now (buf .exit) ≡ moved from to n (now (buf .entry)) ⌝ }
+{
+    if from != to {
+        move_down(buf, from, to, n);
     }
 }
 
@@ -86,8 +95,22 @@ fn alike(a: &[u8], b: &[u8], i: usize) -> bool
     ok
 }
 
+// The same of 8 bytes.
+fn alike_8(a: &[u8], b: &[u8], i: usize) -> bool
+    requires { ⌜ (i + 8 ≤ length (now a)) × (i + 8 ≤ length (now b)) ⌝ }
+    ensures { λ r. ⌜ (r ≡ true → take 8 (drop i (now (a .entry))) ≡ take 8 (drop i (now (b .entry)))) ⌝ }
+{
+    let mut j = 0;
+    let mut ok = true;
+    while j < 8 {
+        ok = ok & (a[i + j] == b[i + j]);
+        j += 1;
+    }
+    ok
+}
+
 // How many bytes at the front, in steps of 32, do not decide.
-fn skip(a: &[u8], b: &[u8]) -> usize
+fn skip_32(a: &[u8], b: &[u8]) -> usize
     ensures { λ r. ⌜ (r ≤ length (now (a .entry))) × (r ≤ length (now (b .entry))) × (byBytes (now (a .entry)) (now (b .entry)) ≡ byBytes (drop r (now (a .entry))) (drop r (now (b .entry)))) ⌝ }
 {
     let mut i = 0;
@@ -101,6 +124,31 @@ fn skip(a: &[u8], b: &[u8]) -> usize
         i += 32;
     }
     i
+}
+
+// The same in steps of 8, from where nothing before decides.
+fn skip_8(a: &[u8], b: &[u8], from: usize) -> usize
+    requires { ⌜ (from ≤ length (now a)) × (from ≤ length (now b)) × (byBytes (now a) (now b) ≡ byBytes (drop from (now a)) (drop from (now b))) ⌝ }
+    ensures { λ r. ⌜ (r ≤ length (now (a .entry))) × (r ≤ length (now (b .entry))) × (byBytes (now (a .entry)) (now (b .entry)) ≡ byBytes (drop r (now (a .entry))) (drop r (now (b .entry)))) ⌝ }
+{
+    let mut i = from;
+    while i + 8 <= a.len() {
+        if b.len() < i + 8 {
+            return i;
+        }
+        if !alike_8(a, b, i) {
+            return i;
+        }
+        i += 8;
+    }
+    i
+}
+
+// How many bytes at the front do not decide, but for the last few.
+fn skip(a: &[u8], b: &[u8]) -> usize
+    ensures { λ r. ⌜ (r ≤ length (now (a .entry))) × (r ≤ length (now (b .entry))) × (byBytes (now (a .entry)) (now (b .entry)) ≡ byBytes (drop r (now (a .entry))) (drop r (now (b .entry)))) ⌝ }
+{
+    skip_8(a, b, skip_32(a, b))
 }
 
 // Whether a stands before b: the first difference decides, and a beginning stands before the whole.

@@ -10,14 +10,12 @@ use Rattle.laws.proofs.Truth.{not-true, not-false}
 use Rattle.layout.specs.Layout.{records, recordAt}
 use Rattle.layout.proofs.LaidLaws.{records-many, records-at}
 use Rattle.data_model.specs.Path.{Figures, field}
-use Rattle.data_model.specs.Entry.{entryOf}
 use Rattle.key_laws.specs.Bytes.{Bytes}
-use Rattle.tree.specs.Stored.{orderIn, Stored, storedFrom, stored, contents, storedOf}
+use Rattle.tree.specs.Stored.{orderIn, Stored, storedFrom, stored, contents}
 use Rattle.tree.specs.Tree.{Formed}
 use Rattle.tree.specs.Apart.{apart, clearBehind, allClear}
 use Rattle.tree.specs.declared.stored.KeyOrder.{KeyOrder}
 use Rattle.tree.specs.declared.stored.KeyOrder.the-variants.{Spt}
-use Rattle.tree.specs.declared.stored.LengthyAuthorisedEntry.{LengthyAuthorisedEntry}
 use Rattle.tree.proofs.FormedLaws.{formed-ascends}
 use Rattle.tree.proofs.RecordLaws.{contents-length, contents-drop, contents-view}
 use Rattle.tree.proofs.WithinLaws.{formed-recorded}
@@ -53,20 +51,14 @@ formed-walk {count} {dir} {tree} v ns b =
 
 -- The walk from each entry, turn by turn: record k is the next.
 module _ {count : ℕ} {dir tree : List ℕ} (v : Formed Spt count dir tree) (ns : List ℕ) (k : ℕ) (there : k < count)
-    (a : LengthyAuthorisedEntry) (q : storedOf a ≡ stored Spt field ns (recordAt k dir tree))
     (whole : Bool) (w : whole ≡ allClear (drop k (contents Spt field ns (records count dir tree))))
-    (t : Bool) (h : t ≡ clearBehind (entryOf (a .entry)) (drop (k + 1) (contents Spt field (a .entry .«namespace_id») (records count dir tree)))) where
-  own-namespace : a .entry .«namespace_id» ≡ ns
-  unfolding storedOf entryOf stored storedFrom
-  own-namespace = ap (λ (s : Stored). s .entry .namespace) q
-
+    (t : Bool) (h : t ≡ clearBehind (stored Spt field ns (recordAt k dir tree) .entry) (drop (k + 1) (contents Spt field ns (records count dir tree)))) where
   all-next : whole ≡ (t && allClear (drop (k + 1) (contents Spt field ns (records count dir tree))))
-  unfolding allClear storedOf
+  unfolding allClear
   all-next =
       let rest = drop (k + 1) (contents Spt field ns (records count dir tree)) in
       w
-      ∙ ap allClear (formed-next v ns k there ∙ ap (_∷ rest) (sym q))
-      ∙ ap (λ (m : List ℕ). clearBehind (entryOf (a .entry)) (drop (k + 1) (contents Spt field m (records count dir tree))) && allClear rest) (sym own-namespace)
+      ∙ ap allClear (formed-next v ns k there)
       ∙ ap (λ (b : Bool). b && allClear rest) (sym h)
 
   pub all-stops : not t ≡ true → false ≡ whole

@@ -12,3 +12,5 @@ pub mod WithinLaws
 pub mod AgreeLaws
 pub mod FormedContents
 pub mod MarkingLaws
+pub mod PlaceLaws
+pub mod ClearLaws

@@ -66,5 +66,11 @@ module _ {o : KeyOrder} {count : ℕ} {dir tree : List ℕ} (v : Formed o count 
   mark-turn h w a q b e i =
       marking-next p (contents o field ns (records count dir tree)) m₀ m k (stored o field ns (recordAt k dir tree)) b (formed-next v ns k h) (omega (arith, i .long)) (e ∙ ap p q) i
 
+  pub mark-next : k < count → count ≤ length m₀ → (b : Bool) → b ≡ p (stored o field ns (recordAt k dir tree))
+      → Marking p (contents o field ns (records count dir tree)) m₀ m k
+      → Marking p (contents o field ns (records count dir tree)) m₀ (set m k (boolByte b)) (k + 1)
+  mark-next h w b e i =
+      marking-next p (contents o field ns (records count dir tree)) m₀ m k (stored o field ns (recordAt k dir tree)) b (formed-next v ns k h) (omega (arith, i .long)) e i
+
   pub mark-end : count ≤ k → Marking p (contents o field ns (records count dir tree)) m₀ m k → m ≡ put (marksOf p (contents o field ns (records count dir tree))) m₀
   mark-end h i = marking-end p (contents o field ns (records count dir tree)) m₀ m k (omega (arith, formed-many v ns)) i

@@ -2,9 +2,9 @@
 use Prim.Native.Nat.{ℕ, zero, suc, _+_, _*_, _-_, _^_, _≤_, _<_}
 use mathlib.Core.Path.{_≡_, refl, sym, ap, ap₂, _∙_}
 use mathlib.Core.List.{List, [], _∷_, _++_, append-assoc, append-nil}
-use mathlib.Core.Bool.{true, false}
+use mathlib.Core.Bool.{Bool, true, false}
 use native.Mathlib.Omega.{arith}
-use lib.Dec.{leb, eqb}
+use lib.Dec.{leb}
 use borrow.Author.Tests.{le-leb, lt-leb}
 use lib.ListN.{length, take, drop, getD, replicate, length-append, length-drop, length-replicate, drop-of-length-le}
 use lib.Seq.{take-nil, take-take, drop-drop, length-take-le}
@@ -17,7 +17,7 @@ use Rattle.layout.specs.Layout.{recordAt}
 use Rattle.data_model.specs.Path.{Figures, field, joined, components, legal, isPath}
 use Rattle.data_model.specs.Entry.{entryOf, rankOf}
 use Rattle.keys.specs.Encode.{be, Triple, triple, sptKey, tspKey, keyMost, encoded, encodedIn, roomy}
-use Rattle.keys.specs.Decode.{Taken, refused, took, readSpt, readTsp, number, decoded}
+use Rattle.keys.specs.Decode.{Taken, refused, took, readSpt, readTsp, number, decoded, wasRead}
 use Rattle.data_model.specs.declared.path.Path.{Path}
 use Rattle.data_model.specs.declared.parameters.Subspace.{Subspace}
 use Rattle.keys.specs.declared.encode.Encoded.{Encoded}
@@ -54,14 +54,20 @@ module _ (o : KeyOrder) (f : Figures) (k : List ℕ) (r : Decoded) where
   unfolding readIn
   read-tsp e h = rw e h
 
--- What is read has refusal 0, and nothing else has.
-pub key-read : (o : KeyOrder) (f : Figures) (k : List ℕ) (d : Decoded) → d ≡ decoded (readIn o f k) → eqb (d .refusal) 0 ≡ isKey o f k
-unfolding isKey wasTaken decoded
-key-read o f k d e = ap (λ (d : Decoded). eqb (d .refusal) 0) e ∙ go (readIn o f k)
-  where
-    go : (t : Taken Triple) → eqb (decoded t .refusal) 0 ≡ wasTaken t
-    go refused = refl
-    go (took t u) = refl
+-- A key is judged in its order.
+was-taken : (t : Taken Triple) → wasRead t ≡ wasTaken t
+unfolding wasRead wasTaken
+was-taken refused = refl
+was-taken (took t u) = refl
+
+module _ (o : KeyOrder) (f : Figures) (k : List ℕ) (r : Bool) where
+  pub judged-spt : o ≡ Spt → r ≡ wasRead (readSpt f k) → r ≡ isKey o f k
+  unfolding isKey readIn
+  judged-spt e h = rw e (h ∙ was-taken (readSpt f k))
+
+  pub judged-tsp : o ≡ Tsp → r ≡ wasRead (readTsp f k) → r ≡ isKey o f k
+  unfolding isKey readIn
+  judged-tsp e h = rw e (h ∙ was-taken (readTsp f k))
 
 pub value-read : (b last : List ℕ) (m n : ℕ) → last ≡ drop 104 b → m ≡ number last → n ≡ number b → leb m n ≡ isValue (readValue b)
 unfolding isValue readValue

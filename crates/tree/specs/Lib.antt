@@ -4,3 +4,4 @@ pub mod Tree
 pub mod Apart
 pub mod Matching
 pub mod Interest
+pub mod Place

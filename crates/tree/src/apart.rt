@@ -3,6 +3,9 @@
 use crate::by_value::covers;
 use crate::by_value::is_newer;
 use crate::by_value::same_place;
+use crate::place::begins;
+use crate::place::open_at;
+use crate::place::place_at;
 use crate::stored::KeyOrder;
 use crate::stored::stored_at;
 use data_model::entry::Entry;
@@ -10,10 +13,10 @@ ghost use mathlib.Core.Path.{_≡_};
 ghost use mathlib.Core.Bool.{true, not, _&&_};
 ghost use Prim.Native.Nat.{_+_, _≤_, _<_};
 ghost use lib.ListN.{drop};
-ghost use Rattle.layout.specs.Layout.{records};
+ghost use Rattle.layout.specs.Layout.{records, recordAt};
 ghost use Rattle.data_model.specs.Path.{field, legal};
 ghost use Rattle.data_model.specs.Entry.{entryOf, newer};
-ghost use Rattle.tree.specs.Stored.{contents};
+ghost use Rattle.tree.specs.Stored.{contents, stored};
 ghost use Rattle.tree.specs.Tree.{Formed};
 ghost use Rattle.tree.specs.Apart.{samePlace, clearBehind, apart};
 ghost use Rattle.tree.specs.declared.stored.KeyOrder.the-variants.{Spt};
@@ -50,15 +53,29 @@ fn clear_behind(e: Entry, count: usize, dir: &[u32], tree: &[u8], from: usize) -
     true
 }
 
+// The same of the entry at record k and those behind it. Mostly the bytes of the next place tell that it covers none.
+fn clear_at(namespace: [u8; 16], count: usize, dir: &[u32], tree: &[u8], k: usize) -> bool
+    requires { ⌜ (Formed Spt count (now dir) (now tree)) × (k < count) ⌝ }
+    ensures { λ r. ⌜ r ≡ clearBehind (stored Spt field namespace (recordAt k (now (dir .entry)) (now (tree .entry))) .entry) (drop (k + 1) (contents Spt field namespace (records count (now (dir .entry)) (now (tree .entry))))) ⌝ }
+{
+    if count <= k + 1 {
+        return true;
+    }
+    let front = open_at(KeyOrder::Spt, count, dir, tree, k);
+    if !begins(place_at(KeyOrder::Spt, count, dir, tree, k + 1), front) {
+        return true;
+    }
+    let a = stored_at(KeyOrder::Spt, namespace, dir, tree, k);
+    clear_behind(a.entry, count, dir, tree, k + 1)
+}
+
 pub fn apart(namespace: [u8; 16], count: usize, dir: &[u32], tree: &[u8]) -> bool
     requires { ⌜ Formed Spt count (now dir) (now tree) ⌝ }
     ensures { λ r. ⌜ r ≡ apart (contents Spt field namespace (records count (now (dir .entry)) (now (tree .entry)))) ⌝ }
 {
     let mut k: usize = 0;
     while k < count {
-        let a = stored_at(KeyOrder::Spt, namespace, dir, tree, k);
-        let e = a.entry;
-        if !clear_behind(e, count, dir, tree, k + 1) {
+        if !clear_at(namespace, count, dir, tree, k) {
             return false;
         }
         k += 1;

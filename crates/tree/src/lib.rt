@@ -7,6 +7,7 @@ pub mod edit;
 pub mod interest;
 pub mod marks;
 pub mod matching;
+pub mod place;
 pub mod search;
 pub mod shape;
 pub mod stored;

@@ -13,6 +13,8 @@ use keys::decode::decode_tsp_entry_key;
 use keys::encode::Encoded;
 use keys::encode::encode_spt_entry_key;
 use keys::encode::encode_tsp_entry_key;
+use keys::judge::is_spt_key;
+use keys::judge::is_tsp_key;
 use layout::directory::offset;
 use layout::directory::size;
 ghost use mathlib.Core.Path.{_≡_};
@@ -73,8 +75,10 @@ pub fn encode_key(order: KeyOrder, s: Subspace, p: Path, t: u64, out: &mut [u8])
 pub fn is_key(order: KeyOrder, key: &[u8]) -> bool
     ensures { λ r. ⌜ r ≡ isKey order field (now (key .entry)) ⌝ }
 {
-    let d = decode_key(order, key);
-    d.refusal == 0
+    match order {
+        KeyOrder::Spt => is_spt_key(key),
+        KeyOrder::Tsp => is_tsp_key(key),
+    }
 }
 
 // Whether bytes are a record: a key that an encoder writes, and a value.

@@ -1,12 +1,17 @@
 // Whether what one tree holds stands in the other, in its order.
+use crate::place::place_at;
+use crate::place::time_at;
 use crate::search::has_record;
 use crate::stored::KeyOrder;
 use crate::stored::encode_key;
 use crate::stored::stored_at;
 use crate::stored::value_at;
 use keys::encode::KEY_MOST;
+use layout::bytes::same;
 ghost use mathlib.Core.Path.{_≡_};
-ghost use Prim.Native.Nat.{_<_};
+ghost use mathlib.Core.Bool.{true};
+ghost use Prim.Native.Nat.{_≤_, _<_};
+ghost use lib.ListN.{length};
 ghost use Rattle.laws.specs.Sorted.{any};
 ghost use Rattle.layout.specs.Layout.{records, recordAt};
 ghost use Rattle.data_model.specs.Path.{field};
@@ -43,6 +48,105 @@ fn stands_in(
     )
 }
 
+// Whether record k of the subspace-first tree is record j of the time-first tree.
+fn is_at(
+    namespace: [u8; 16],
+    count: usize,
+    spt_dir: &[u32],
+    spt: &[u8],
+    tsp_dir: &[u32],
+    tsp: &[u8],
+    k: usize,
+    j: usize,
+) -> bool
+    requires { ⌜ (Formed Spt count (now «spt_dir») (now spt)) × (Formed Tsp count (now «tsp_dir») (now tsp)) × (k < count) ⌝ }
+    ensures { λ r. ⌜ (r ≡ true → any (sameStored (stored Spt field namespace (recordAt k (now («spt_dir» .entry)) (now (spt .entry))))) (contents Tsp field namespace (records count (now («tsp_dir» .entry)) (now (tsp .entry)))) ≡ true) ⌝ }
+{
+    if count <= j {
+        return false;
+    }
+    if time_at(KeyOrder::Spt, count, spt_dir, spt, k)
+        != time_at(KeyOrder::Tsp, count, tsp_dir, tsp, j)
+    {
+        return false;
+    }
+    if !same(
+        place_at(KeyOrder::Spt, count, spt_dir, spt, k),
+        place_at(KeyOrder::Tsp, count, tsp_dir, tsp, j),
+    ) {
+        return false;
+    }
+    same(value_at(tsp, tsp_dir, j), value_at(spt, spt_dir, k))
+}
+
+// Where to look first: entries of one time stand in one order in both trees, so each is looked for right behind the last of its time.
+// A table by times, without regard to clashes, says where; a wrong place only costs the search.
+pub const SLOTS: usize = 4093;
+
+fn slot(time: u64) -> usize
+    ensures { λ r. ⌜ r < 4093 ⌝ }
+{
+    (time % 4093) as usize
+}
+
+// The first place of each time.
+fn first_places(count: usize, tsp_dir: &[u32], tsp: &[u8], next: &mut [usize])
+    requires { ⌜ (Formed Tsp count (now «tsp_dir») (now tsp)) × (4093 ≤ length (now next)) ⌝ }
+{
+    let mut k = count;
+    while 0 < k {
+        k -= 1;
+        let at = slot(time_at(KeyOrder::Tsp, count, tsp_dir, tsp, k));
+        next[at] = k;
+    }
+}
+
+// Whether record k stands there, looked for at a place first.
+fn stands_near(
+    namespace: [u8; 16],
+    count: usize,
+    spt_dir: &[u32],
+    spt: &[u8],
+    tsp_dir: &[u32],
+    tsp: &[u8],
+    k: usize,
+    j: usize,
+) -> bool
+    requires { ⌜ (Formed Spt count (now «spt_dir») (now spt)) × (Formed Tsp count (now «tsp_dir») (now tsp)) × (k < count) ⌝ }
+    ensures { λ r. ⌜ r ≡ any (sameStored (stored Spt field namespace (recordAt k (now («spt_dir» .entry)) (now (spt .entry))))) (contents Tsp field namespace (records count (now («tsp_dir» .entry)) (now (tsp .entry)))) ⌝ }
+{
+    if is_at(namespace, count, spt_dir, spt, tsp_dir, tsp, k, j) {
+        return true;
+    }
+    stands_in(namespace, count, spt_dir, spt, tsp_dir, tsp, k)
+}
+
+// The same for all, by the table.
+fn within_by(
+    namespace: [u8; 16],
+    count: usize,
+    spt_dir: &[u32],
+    spt: &[u8],
+    tsp_dir: &[u32],
+    tsp: &[u8],
+    next: &mut [usize],
+) -> bool
+    requires { ⌜ (Formed Spt count (now «spt_dir») (now spt)) × (Formed Tsp count (now «tsp_dir») (now tsp)) × (4093 ≤ length (now next)) ⌝ }
+    ensures { λ r. ⌜ r ≡ within (contents Spt field namespace (records count (now («spt_dir» .entry)) (now (spt .entry)))) (contents Tsp field namespace (records count (now («tsp_dir» .entry)) (now (tsp .entry)))) ⌝ }
+{
+    let mut k: usize = 0;
+    while k < count {
+        let at = slot(time_at(KeyOrder::Spt, count, spt_dir, spt, k));
+        let j = next[at];
+        if !stands_near(namespace, count, spt_dir, spt, tsp_dir, tsp, k, j) {
+            return false;
+        }
+        next[at] = j % 65536 + 1;
+        k += 1;
+    }
+    true
+}
+
 pub fn within(
     namespace: [u8; 16],
     count: usize,
@@ -54,12 +158,7 @@ pub fn within(
     requires { ⌜ (Formed Spt count (now «spt_dir») (now spt)) × (Formed Tsp count (now «tsp_dir») (now tsp)) ⌝ }
     ensures { λ r. ⌜ r ≡ within (contents Spt field namespace (records count (now («spt_dir» .entry)) (now (spt .entry)))) (contents Tsp field namespace (records count (now («tsp_dir» .entry)) (now (tsp .entry)))) ⌝ }
 {
-    let mut k: usize = 0;
-    while k < count {
-        if !stands_in(namespace, count, spt_dir, spt, tsp_dir, tsp, k) {
-            return false;
-        }
-        k += 1;
-    }
-    true
+    let mut next = [0usize; SLOTS];
+    first_places(count, tsp_dir, tsp, &mut next);
+    within_by(namespace, count, spt_dir, spt, tsp_dir, tsp, &mut next)
 }

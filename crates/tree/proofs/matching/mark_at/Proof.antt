@@ -1,64 +1,33 @@
--- `mark_at` meets its contract. Assumes nothing.
-use Prim.Native.Nat.{_≤_, _-_}
+-- `mark_at` meets its contract: the place is written once. Assumes nothing.
+use Prim.Native.Nat.{ℕ, _-_}
+use mathlib.Core.Path.{refl, sym}
 use native.Mathlib.Omega.{arith}
-use Rattle.layout.specs.Layout.{records}
-use Rattle.data_model.specs.Path.{field, components}
-use Rattle.tree.specs.Stored.{contents}
-use Rattle.tree.specs.Matching.{standsAt}
-use Rattle.tree.proofs.FormedLaws.{formed-bounds}
-use Rattle.tree.proofs.MarkingLaws.{Marking, marking-start, mark-turn, mark-end}
+use lib.ListN.{length-replicate}
+use lib.Seq.{length-take-le}
+use borrow.Author.Needs.{needs}
 use Rattle.tree.proofs.matching.mark_at.Statement.{statement}
 use Rattle.tree.proofs.matching.mark_at.Tie as tie
 
-abbrev Inv-loop : tie.InvT-loop
-Inv-loop order namespace count dir tree subspace path marks₀ k₀ marks k = (k ≤ count) × Marking (standsAt subspace (components path)) (contents order field namespace (records count dir tree)) marks₀ marks k
+slice-aggregate-write-place : tie.Need-slice-aggregate-write-place
+slice-aggregate-write-place c = search needs
 
-abbrev μ-loop : tie.MeasureT-loop
-μ-loop order namespace count dir tree subspace path marks₀ k₀ marks k = count - k
+write-place-requires : tie.Need-write-place-requires
+write-place-requires c κs = search needs
 
-loop-holds : tie.Need-loop-holds Inv-loop μ-loop
-loop-holds c = (omega arith, marking-start _ _ _)
+array-share-prefix-key : tie.Need-array-share-prefix-key
+array-share-prefix-key c = omega (arith, c .before .write-place .ensures .1)
 
-stored-at-requires : tie.Need-stored-at-requires Inv-loop μ-loop
-stored-at-requires c κs = formed-bounds (c .before .before .before .before .before .pre .0) _ (omega arith)
+slice-aggregate-standing-from : tie.Need-slice-aggregate-standing-from
+slice-aggregate-standing-from c = sym (length-take-le (c .before .before .write-place .result) (c .before .before .write-place .last .1 .1 .0) (omega (arith, c .before .before .write-place .ensures .1, c .before .before .write-place .kept .1 .1 .0, length-replicate {A = ℕ} 298 0)))
 
-stands-at-requires : tie.Need-stands-at-requires Inv-loop μ-loop
-stands-at-requires c κs = (c .before .before .before .before .before .before .pre .2, c .stored-at .ensures .1 .0)
+standing-from-requires : tie.Need-standing-from-requires
+standing-from-requires c κs = (c .before .before .before .before .before .before .before .before .pre .0, c .before .before .before .before .before .before .before .before .pre .1, c .before .before .before .before .before .before .before .before .pre .2, c .before .before .before .write-place .ensures .2)
 
-cast-marks : tie.Need-cast-marks Inv-loop μ-loop
-cast-marks c = tt
+same-length : tie.Need-same-length
+same-length c = search needs
 
-slice-write-marks : tie.Need-slice-write-marks Inv-loop μ-loop
-slice-write-marks c = omega arith
-
-add-k : tie.Need-add-k Inv-loop μ-loop
-add-k c = omega arith
-
-loop-less : tie.Need-loop-less Inv-loop μ-loop
-loop-less c = omega arith
-
-loop-again : tie.Need-loop-again Inv-loop μ-loop
-loop-again c = (omega arith, mark-turn (c .before .before .before .before .before .before .before .pre .0) _ _ _ _ _ (omega arith) (omega arith) _ (c .before .stored-at .ensures .1 .1) _ (c .stands-at .ensures) (c .before .before .before .loop .inv .1))
-
-same-length : tie.Need-same-length Inv-loop μ-loop
-same-length c = omega arith
-
-returns : tie.Need-returns Inv-loop μ-loop
-returns c = mark-end (c .before .before .before .before .before .pre .0) _ _ _ _ _ (omega arith) (c .before .loop .inv .1)
+returns : tie.Need-returns
+returns c = search needs
 
 pub mark-at-spec : {M : Type 1} → statement M
-mark-at-spec =
-    tie.close
-    (tie.spec
-    Inv-loop
-    μ-loop
-    loop-holds
-    stored-at-requires
-    stands-at-requires
-    cast-marks
-    slice-write-marks
-    add-k
-    loop-less
-    loop-again
-    same-length
-    returns)
+mark-at-spec = tie.close (tie.spec slice-aggregate-write-place write-place-requires array-share-prefix-key slice-aggregate-standing-from standing-from-requires same-length returns)

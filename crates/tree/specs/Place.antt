@@ -1,0 +1,28 @@
+-- A place: the bytes of a subspace and a path, as they stand in both keys; and the same without the path's end.
+use Prim.Native.Nat.{ℕ}
+use mathlib.Core.List.{List, [], _∷_, _++_}
+use Rattle.data_model.specs.Path.{field, Components}
+use Rattle.data_model.specs.declared.parameters.Subspace.{Subspace}
+use Rattle.keys.specs.Encode.{componentKey, pathKey, subspaceKey, Triple}
+use Rattle.tree.specs.Stored.{readIn, keyOf, tripleRead}
+use Rattle.tree.specs.declared.stored.KeyOrder.{KeyOrder}
+
+unfoldable pub placeKey : Subspace → Components → List ℕ
+placeKey s p = subspaceKey s ++ pathKey p
+
+unfoldable pub openPath : Components → List ℕ
+openPath [] = []
+openPath (c ∷ cs) = componentKey c ++ openPath cs
+
+unfoldable pub openKey : Subspace → Components → List ℕ
+openKey s p = subspaceKey s ++ openPath p
+
+-- What the key of a record says, its place, and that without its end.
+abbrev pub tripleAt : KeyOrder → List ℕ → Triple
+tripleAt o r = tripleRead (readIn o field (keyOf r))
+
+abbrev pub placeAt : KeyOrder → List ℕ → List ℕ
+placeAt o r = placeKey (tripleAt o r .subspace) (tripleAt o r .path)
+
+abbrev pub openAt : KeyOrder → List ℕ → List ℕ
+openAt o r = openKey (tripleAt o r .subspace) (tripleAt o r .path)

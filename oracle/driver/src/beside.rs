@@ -1,0 +1,445 @@
+//! The port and the customer's Rust side by side, in one run on one thread: the same calls on the same stores, each answer compared,
+//! and the best time of many rounds of each. Built by bench/beside, which links the port's static library.
+mod params;
+use either::Either;
+use params::*;
+use std::hint::black_box;
+use std::rc::Rc;
+use std::time::Instant;
+use ufotofu::Producer;
+use ufotofu_codec::block_on;
+use wgps::RbsrStore;
+use willow_data_model::{grouping as g, *};
+use willow_sideload::SideloadStore;
+use willow_store_simple_sled::StoreSimpleSled;
+
+type P = Path<64, 8, 128>;
+type Ar = g::Area<64, 8, 128, Sub>;
+
+extern "C" {
+    fn store_check(n: usize, limit: usize, a: *const u8, al: usize, b: *const u32, bl: usize, c: *const u8, cl: usize, d: *const u32, dl: usize) -> u64;
+    fn store_open(limit: usize, a: *mut u8, al: usize, b: *mut u32, bl: usize, c: *mut u8, cl: usize, d: *mut u32, dl: usize) -> u64;
+    fn store_ingest(n: usize, limit: usize, a: *mut u8, al: usize, b: *mut u32, bl: usize, c: *mut u8, cl: usize, d: *mut u32, dl: usize, p: *mut u32, pl: usize, k: *const u8, kl: usize, v: *const u8, vl: usize) -> u64;
+    fn store_forget_entry(n: usize, limit: usize, a: *mut u8, al: usize, b: *mut u32, bl: usize, c: *mut u8, cl: usize, d: *mut u32, dl: usize, k: *const u8, kl: usize) -> u64;
+    fn store_forget_area(n: usize, limit: usize, a: *mut u8, al: usize, b: *mut u32, bl: usize, c: *mut u8, cl: usize, d: *mut u32, dl: usize, any: bool, k: *const u8, kl: usize, start: u64) -> u64;
+    fn store_count_area(n: usize, limit: usize, a: *const u8, al: usize, b: *const u32, bl: usize, c: *const u8, cl: usize, d: *const u32, dl: usize, any: bool, k: *const u8, kl: usize, start: u64) -> u64;
+    fn store_list(n: usize, limit: usize, a: *const u8, al: usize, b: *const u32, bl: usize, c: *const u8, cl: usize, d: *const u32, dl: usize, any: bool, k: *const u8, kl: usize, start: u64, place: usize) -> u64;
+    fn store_interest(n: usize, limit: usize, a: *const u8, al: usize, b: *const u32, bl: usize, c: *const u8, cl: usize, d: *const u32, dl: usize, any: bool, k: *const u8, kl: usize, start: u64, max_count: u64, max_size: u64) -> u64;
+    fn memcmp(a: *const u8, b: *const u8, n: usize) -> i32;
+}
+const RECORD: usize = 410;
+const FINISHED: u64 = u64::MAX - 13;
+
+/// The port's buffers.
+#[derive(Clone)]
+struct Port {
+    n: usize,
+    limit: usize,
+    spt: Vec<u8>,
+    spt_dir: Vec<u32>,
+    tsp: Vec<u8>,
+    tsp_dir: Vec<u32>,
+    prune: Vec<u32>,
+}
+macro_rules! call {
+    ($f:ident, $s:expr $(, $x:expr)*) => {
+        unsafe {
+            $f($s.n, $s.limit, $s.spt.as_ptr(), $s.spt.len(), $s.spt_dir.as_ptr(), $s.spt_dir.len(), $s.tsp.as_ptr(), $s.tsp.len(),
+                $s.tsp_dir.as_ptr(), $s.tsp_dir.len() $(, $x)*)
+        }
+    };
+}
+macro_rules! call_mut {
+    ($f:ident, $s:expr $(, $x:expr)*) => {
+        unsafe {
+            $f($s.n, $s.limit, $s.spt.as_mut_ptr(), $s.spt.len(), $s.spt_dir.as_mut_ptr(), $s.spt_dir.len(), $s.tsp.as_mut_ptr(),
+                $s.tsp.len(), $s.tsp_dir.as_mut_ptr(), $s.tsp_dir.len() $(, $x)*)
+        }
+    };
+}
+impl Port {
+    fn open(limit: usize) -> Port {
+        // Not zero before it is opened.
+        let mut s = Port {
+            n: 0,
+            limit,
+            spt: vec![7; RECORD * limit],
+            spt_dir: vec![7; 2 * limit],
+            tsp: vec![7; RECORD * limit],
+            tsp_dir: vec![7; 2 * limit],
+            prune: vec![0; 2 * limit],
+        };
+        assert_eq!(s.reopen(), 0);
+        s
+    }
+    fn reopen(&mut self) -> u64 {
+        let s = self;
+        unsafe {
+            store_open(s.limit, s.spt.as_mut_ptr(), s.spt.len(), s.spt_dir.as_mut_ptr(), s.spt_dir.len(), s.tsp.as_mut_ptr(),
+                s.tsp.len(), s.tsp_dir.as_mut_ptr(), s.tsp_dir.len())
+        }
+    }
+    fn check(&self) -> u64 {
+        call!(store_check, self)
+    }
+    fn ingest(&mut self, k: &[u8], v: &[u8]) -> u64 {
+        call_mut!(store_ingest, self, self.prune.as_mut_ptr(), self.prune.len(), k.as_ptr(), k.len(), v.as_ptr(), v.len())
+    }
+    fn forget_entry(&mut self, k: &[u8]) -> u64 {
+        call_mut!(store_forget_entry, self, k.as_ptr(), k.len())
+    }
+    fn forget_area(&mut self, any: bool, k: &[u8], start: u64) -> u64 {
+        call_mut!(store_forget_area, self, any, k.as_ptr(), k.len(), start)
+    }
+    fn count_area(&self, any: bool, k: &[u8], start: u64) -> u64 {
+        call!(store_count_area, self, any, k.as_ptr(), k.len(), start)
+    }
+    fn list(&self, any: bool, k: &[u8], start: u64, place: usize) -> u64 {
+        call!(store_list, self, any, k.as_ptr(), k.len(), start, place)
+    }
+    fn interest(&self, any: bool, k: &[u8], start: u64, count: u64, size: u64) -> u64 {
+        call!(store_interest, self, any, k.as_ptr(), k.len(), start, count, size)
+    }
+    /// Puts back what a call changed.
+    fn restore(&mut self, from: &Port) {
+        self.n = from.n;
+        self.spt.copy_from_slice(&from.spt);
+        self.spt_dir.copy_from_slice(&from.spt_dir);
+        self.tsp.copy_from_slice(&from.tsp);
+        self.tsp_dir.copy_from_slice(&from.tsp_dir);
+    }
+    fn records(&self, tsp: bool) -> Vec<&[u8]> {
+        let (tree, dir) = if tsp { (&self.tsp, &self.tsp_dir) } else { (&self.spt, &self.spt_dir) };
+        (0..self.n).map(|k| &tree[dir[2 * k] as usize..][..dir[2 * k + 1] as usize]).collect()
+    }
+}
+
+/// The Rust's store over the stand-in for sled.
+struct Rust {
+    store: Rc<StoreSimpleSled<64, 8, 128, Ns, Sub, Dig, Tok>>,
+    db: sled::Db,
+}
+type Raw = Vec<(sled::IVec, sled::IVec)>;
+impl Rust {
+    fn open() -> Rust {
+        let db = sled::Db::default();
+        Rust { store: Rc::new(StoreSimpleSled::new(&Ns([0; 16]), db.clone()).unwrap()), db }
+    }
+    fn tree(&self, tsp: bool) -> sled::Tree {
+        self.db.open_tree([tsp as u8]).unwrap()
+    }
+    fn raw(&self, tsp: bool) -> Raw {
+        self.tree(tsp).iter().flatten().collect()
+    }
+    fn ingest(&self, e: AuthorisedEntry<64, 8, 128, Ns, Sub, Dig, Tok>) {
+        let r = block_on(self.store.ingest_entry(e, false, EntryOrigin::Local));
+        assert!(matches!(r, Ok(EntryIngestionSuccess::Success)));
+    }
+    fn restore(&self, from: &[Raw; 2]) {
+        for tsp in [false, true] {
+            let t = self.tree(tsp);
+            t.take_journal();
+            t.clear().unwrap();
+            for (k, v) in &from[tsp as usize] {
+                t.insert(k, v).unwrap();
+            }
+        }
+    }
+    /// A listing of all: how many it gives, `most` at most.
+    fn list(&self, most: usize) -> usize {
+        let range = g::Range3d::new_full();
+        let mut p = RbsrStore::<64, 8, 128, Ns, Sub, Dig, Tok, NoPrint>::query_range(self.store.clone(), &range, QueryIgnoreParams::default());
+        let mut n = 0;
+        while n < most {
+            match block_on(p.produce()) {
+                Ok(Either::Left(e)) => black_box(e),
+                _ => break,
+            };
+            n += 1;
+        }
+        n
+    }
+    fn interest(&self, area: &Ar, count: u64, size: u64) -> u64 {
+        let aoi = g::AreaOfInterest::new(area.clone(), count, size);
+        // The area's range ending as document 01 says: oracle/README.md, "Calls that end in 01".
+        PathBuilder::<64, 8, 128>::refuse_once();
+        let r = block_on(RbsrStore::<64, 8, 128, Ns, Sub, Dig, Tok, NoPrint>::area_of_interest_to_range(&*self.store, &aoi));
+        r.times().start
+    }
+}
+
+/// How an entry's path looks: two components of 6 and 2 bytes; or eight of 16.
+#[derive(Clone, Copy, PartialEq)]
+enum Shape {
+    Short,
+    Long,
+}
+fn sub(i: u32, subs: u32) -> Sub {
+    let mut s = Sub([0; 16]);
+    s.0[15] = (i % subs) as u8;
+    s
+}
+fn path(i: u32, shape: Shape) -> P {
+    let last = i.to_be_bytes();
+    match shape {
+        Shape::Short => Path::from_slices(&[&b"season"[..], &last[2..]]).unwrap(),
+        Shape::Long => {
+            let mut c = [[b'a'; 16]; 8];
+            c[7][12..].copy_from_slice(&last);
+            Path::from_slices(&[&c[0][..], &c[1][..], &c[2][..], &c[3][..], &c[4][..], &c[5][..], &c[6][..], &c[7][..]]).unwrap()
+        }
+    }
+}
+/// Entry i at time t: the even ones are of another time than the odd ones.
+fn entry(i: u32, subs: u32, shape: Shape, t: u64) -> AuthorisedEntry<64, 8, 128, Ns, Sub, Dig, Tok> {
+    let e = Entry::new(Ns([0; 16]), sub(i, subs), path(i, shape), t, 3, Dig([10; 32]));
+    AuthorisedEntry::new(e, Tok([5; 64])).unwrap()
+}
+fn time(i: u32) -> u64 {
+    100 + (i % 2) as u64
+}
+/// The subspace-first key and the value.
+fn encoded(i: u32, subs: u32, shape: Shape, t: u64) -> (Vec<u8>, Vec<u8>) {
+    let one = Rust::open();
+    one.ingest(entry(i, subs, shape, t));
+    let (k, v) = one.raw(false).remove(0);
+    (k.to_vec(), v.to_vec())
+}
+fn area_key(s: Sub) -> Vec<u8> {
+    let mut k = s.0.to_vec();
+    k.extend([0; 10]);
+    k
+}
+
+/// The same for a call that changes the port's store, which is put back before each round.
+fn best_of(most: f64, port: &mut Port, from: &Port, work: impl Fn(&mut Port)) -> f64 {
+    let port = std::cell::RefCell::new(port);
+    best(most, || port.borrow_mut().restore(from), |_| work(&mut port.borrow_mut()))
+}
+/// Microseconds, the best of many rounds within a time.
+fn best<S>(most: f64, mut before: impl FnMut() -> S, mut work: impl FnMut(S)) -> f64 {
+    let (start, mut best, mut rounds) = (Instant::now(), f64::MAX, 0);
+    while rounds < 5 || (start.elapsed().as_secs_f64() < most && rounds < 3000) {
+        let s = before();
+        let t = Instant::now();
+        work(s);
+        best = best.min(t.elapsed().as_secs_f64() * 1e6);
+        rounds += 1;
+    }
+    best
+}
+
+struct Row {
+    call: &'static str,
+    subs: u32,
+    n: u32,
+    port: f64,
+    rust: f64,
+    check: f64,
+}
+
+fn same(port: &Port, rust: &Rust, what: &str) {
+    for tsp in [false, true] {
+        let want: Vec<Vec<u8>> = rust.raw(tsp).iter().map(|(k, v)| [&k[..], &v[..]].concat()).collect();
+        assert!(port.records(tsp) == want, "{what}: the trees differ");
+    }
+    assert_eq!(port.check(), 0, "{what}: not well-formed");
+}
+
+/// A store of n entries in both, filled by the calls themselves where that is quick.
+fn filled(n: u32, subs: u32, shape: Shape, limit: usize) -> (Port, Rust) {
+    let (mut port, rust) = (Port::open(limit), Rust::open());
+    for i in 0..n {
+        rust.ingest(entry(i, subs, shape, time(i)));
+    }
+    for (k, v) in rust.raw(false) {
+        let got = port.ingest(&k, &v);
+        port.n += 1;
+        assert_eq!(got, port.n as u64);
+    }
+    same(&port, &rust, "filled");
+    (port, rust)
+}
+
+fn rows(n: u32, subs: u32, shape: Shape, secs: f64, out: &mut Vec<Row>) {
+    let limit = n as usize;
+    let (full, rust) = filled(n, subs, shape, limit);
+    let raws = [rust.raw(false), rust.raw(true)];
+    let check = best(secs, || (), |_| assert_eq!(black_box(full.check()), 0));
+    let mut port = full.clone();
+    let mut push = |call, port, rust, check| out.push(Row { call, subs, n, port, rust, check });
+    let i = n / 2 + 1;
+
+    // The last of n entries: the store has one less.
+    let (k, v) = encoded(i, subs, shape, time(i));
+    let less = {
+        let mut p = full.clone();
+        assert_eq!(p.forget_entry(&k), n as u64 - 1);
+        p.n -= 1;
+        p
+    };
+    let check_less = best(secs, || (), |_| assert_eq!(black_box(less.check()), 0));
+    let a = best_of(secs, &mut port, &less, |p| assert_eq!(p.ingest(&k, &v), n as u64));
+    let b = best(
+        secs,
+        || {
+            block_on(rust.store.forget_entry(&sub(i, subs), &path(i, shape), None)).unwrap();
+            entry(i, subs, shape, time(i))
+        },
+        |e| rust.ingest(e),
+    );
+    port.n = n as usize;
+    same(&port, &rust, "ingest");
+    push("ingest", a, b, check_less);
+
+    let a = best_of(secs, &mut port, &full, |p| assert_eq!(p.ingest(&k, &v), n as u64));
+    let b = best(secs, || entry(i, subs, shape, time(i)), |e| rust.ingest(e));
+    same(&port, &rust, "resend");
+    push("resend", a, b, check);
+
+    // A newer one at its place.
+    let (k9, v9) = encoded(i, subs, shape, 900);
+    let a = best_of(secs, &mut port, &full, |p| assert_eq!(p.ingest(&k9, &v9), n as u64));
+    let b = best(
+        secs,
+        || {
+            block_on(rust.store.forget_entry(&sub(i, subs), &path(i, shape), None)).unwrap();
+            rust.ingest(entry(i, subs, shape, time(i)));
+            entry(i, subs, shape, 900)
+        },
+        |e| rust.ingest(e),
+    );
+    same(&port, &rust, "replace");
+    push("replace", a, b, check);
+    rust.restore(&raws);
+
+    let a = best_of(secs, &mut port, &full, |p| assert_eq!(p.forget_entry(&k), n as u64 - 1));
+    let b = best(
+        secs,
+        || {
+            for tsp in [false, true] {
+                rust.tree(tsp).take_journal();
+            }
+            let (key, value) = &raws[0].iter().find(|r| r.0[..] == k[..]).unwrap();
+            rust.tree(false).insert(key, value).unwrap();
+            let tk = [&k[k.len() - 8..], &k[..k.len() - 8]].concat();
+            rust.tree(true).insert(tk, value).unwrap();
+        },
+        |_| block_on(rust.store.forget_entry(&sub(i, subs), &path(i, shape), None)).unwrap(),
+    );
+    port.n = n as usize - 1;
+    same(&port, &rust, "forget_entry");
+    push("forget_entry", a, b, check);
+    rust.restore(&raws);
+
+    // Half: those of the later time.
+    let any = area_key(Sub([0; 16]));
+    let half: Ar = g::Area::new(g::AreaSubspace::Any, Path::new_empty(), g::Range::new(101, g::RangeEnd::Open));
+    let a = best_of(secs, &mut port, &full, |p| assert_eq!(p.forget_area(true, &any, 101), n as u64 / 2));
+    let b = best(
+        secs,
+        || rust.restore(&raws),
+        |_| assert_eq!(block_on(rust.store.forget_area(&half, None)), Ok(n as usize / 2)),
+    );
+    port.n = n as usize / 2;
+    same(&port, &rust, "forget_area");
+    push("forget_area of half", a, b, check);
+    rust.restore(&raws);
+    port.restore(&full);
+
+    let all: Ar = g::Area::new_full();
+    let a = best(secs, || (), |_| assert_eq!(port.count_area(true, &any, 0), n as u64));
+    let b = best(secs, || (), |_| assert_eq!(block_on(rust.store.count_area(&all)), Ok(n as usize)));
+    push("count_area of all", a, b, check);
+
+    // A small area: the one path, of the one subspace.
+    let one: Ar = g::Area::new(g::AreaSubspace::Id(sub(i, subs)), path(i, shape), g::Range::new(0, g::RangeEnd::Open));
+    let a = best(secs, || (), |_| assert_eq!(port.count_area(false, &k, 0), 1));
+    let b = best(secs, || (), |_| assert_eq!(block_on(rust.store.count_area(&one)), Ok(1)));
+    push("count_area of one", a, b, check);
+
+    let mid = n as usize / 2;
+    let a = best(secs, || (), |_| assert_eq!(port.list(true, &any, 0, mid), mid as u64));
+    let b = best(secs, || (), |_| assert_eq!(rust.list(1), 1));
+    push("one listing step", a, b, check);
+
+    let a = best(
+        secs,
+        || (),
+        |_| {
+            let (mut place, mut found) = (0, 0);
+            loop {
+                match port.list(true, &any, 0, place) {
+                    FINISHED => break,
+                    k => {
+                        found += 1;
+                        place = k as usize + 1;
+                    }
+                }
+            }
+            assert_eq!(found, n);
+        },
+    );
+    let b = best(secs, || (), |_| assert_eq!(rust.list(usize::MAX), n as usize));
+    push("full listing", a, b, check * (n + 1) as f64);
+
+    let most = n as u64 / 4;
+    let a = best(secs, || (), |_| assert_eq!(port.interest(true, &any, 0, most, u64::MAX), 101));
+    let b = best(secs, || (), |_| assert_eq!(rust.interest(&all, most, u64::MAX), 101));
+    push("area_of_interest_to_range", a, b, check);
+}
+
+fn validation(n: u32, shape: Shape, secs: f64) {
+    let (port, _) = filled(n, 1, shape, n as usize);
+    let other = port.clone();
+    let check = best(secs, || (), |_| assert_eq!(black_box(port.check()), 0));
+    let bytes = |v: &Vec<u32>| unsafe { std::slice::from_raw_parts(v.as_ptr() as *const u8, 4 * v.len()).to_vec() };
+    let (d, e) = (bytes(&port.spt_dir), bytes(&port.tsp_dir));
+    let (d2, e2) = (d.clone(), e.clone());
+    let pairs = [(&port.spt, &other.spt), (&port.tsp, &other.tsp), (&d, &d2), (&e, &e2)];
+    let cmp = best(secs, || (), |_| {
+        for (a, b) in pairs {
+            assert_eq!(black_box(unsafe { memcmp(a.as_ptr(), b.as_ptr(), a.len()) }), 0);
+        }
+    });
+    let used: usize = port.records(false).iter().map(|r| r.len()).sum();
+    let total: usize = pairs.iter().map(|p| p.0.len()).sum();
+    println!("| {} | {} | {} | {} | {:.1} | {:.1} | {:.1} |", n, used / n as usize, 2 * used, total, check, cmp, check / cmp);
+}
+
+fn main() {
+    let secs: f64 = std::env::args().nth(1).map_or(0.3, |s| s.parse().unwrap());
+    println!("Microseconds, the best of many rounds. Ratio: the Rust's time by the port's, above 1 the port is ahead. Check: the share of the");
+    println!("port's time that is the validation of the store. Growth: the port's time at 1,024 by that at 256.\n");
+    for (shape, name) in [(Shape::Short, "paths of two components, 8 bytes"), (Shape::Long, "paths of eight components, 128 bytes")] {
+        let mut all: Vec<Row> = Vec::new();
+        for subs in [1, 16] {
+            for n in [64, 256, 1024] {
+                rows(n, subs, shape, secs, &mut all);
+            }
+        }
+        println!("## {name}\n");
+        println!("| call | subspaces | entries | port | Rust | ratio | check | growth |\n|---|---|---|---|---|---|---|---|");
+        let mut calls: Vec<&str> = Vec::new();
+        for r in &all {
+            if !calls.contains(&r.call) {
+                calls.push(r.call);
+            }
+        }
+        for c in calls {
+            for r in all.iter().filter(|r| r.call == c) {
+                let at = |n| all.iter().find(|x| x.call == c && x.subs == r.subs && x.n == n).unwrap().port;
+                let growth = if r.n == 1024 { format!("{:.2}", at(1024) / at(256)) } else { String::new() };
+                println!("| {} | {} | {} | {:.1} | {:.1} | {:.2} | {:.0}% | {} |", c, r.subs, r.n, r.port, r.rust, r.rust / r.port, 100.0 * r.check / r.port, growth);
+            }
+        }
+        println!();
+    }
+    println!("## Validation of a full store beside one memcmp pass over its buffers\n");
+    println!("| entries | bytes a record | bytes of records | bytes in all | validation | memcmp | factor |\n|---|---|---|---|---|---|---|");
+    for shape in [Shape::Short, Shape::Long] {
+        for n in [64, 256, 1024] {
+            validation(n, shape, secs);
+        }
+    }
+}
