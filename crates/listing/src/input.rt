@@ -7,9 +7,10 @@ ghost use lib.ListN.{length, take};
 ghost use Rattle.listing.specs.Input.{partAt, extended};
 
 // A line that was found: its bytes are in the line's buffer, cut to what that holds. Bytes from `at` to `end` of the input's buffer are
-// not looked at yet.
+// not looked at yet. Once the input has ended there is nothing left to read.
 pub struct Line {
     pub found: bool,
+    pub ended: bool,
     pub length: usize,
     pub at: usize,
     pub end: usize,
@@ -49,6 +50,7 @@ fn last_line(n: usize) -> Line
 {
     Line {
         found: 0 < n,
+        ended: true,
         length: n,
         at: 0,
         end: 0,
@@ -70,6 +72,7 @@ pub fn next_line(input: &mut [u8], at: usize, end: usize, line: &mut [u8]) -> Li
         if p.stop < e {
             return Line {
                 found: true,
+                ended: false,
                 length: n,
                 at: p.stop + 1,
                 end: e,

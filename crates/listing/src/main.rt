@@ -8,6 +8,7 @@ use store::state::RECORD_MOST;
 use store::state::State;
 use text::entry_line::LINE_MOST;
 ghost use mathlib.Core.Path.{_≡_};
+ghost use Prim.Native.Nat.{_<_};
 ghost use lib.ListN.{length};
 
 mod carry;
@@ -31,6 +32,17 @@ fn numbers() -> [u32; NUMBERS]
     ensures { λ r. ⌜ length r ≡ 128 ⌝ }
 {
     [0; NUMBERS]
+}
+
+// How many turns are left after one: none once the input has ended.
+fn turns_left(turns: u64, ended: bool) -> u64
+    requires { ⌜ 0 < turns ⌝ }
+    ensures { λ r. ⌜ r < turns ⌝ }
+{
+    if ended {
+        return 0;
+    }
+    turns - 1
 }
 
 // Answers every line of the input, and returns the state after the last.
@@ -61,7 +73,7 @@ fn answer_lines(
         say_answer(answer);
         let after = a.state;
         state = after;
-        turns -= 1;
+        turns = turns_left(turns, l.ended);
     }
     state
 }

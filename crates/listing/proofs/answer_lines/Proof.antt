@@ -57,17 +57,17 @@ carry-out-requires c κs = search needs
 say-answer-requires : tie.Need-say-answer-requires Inv-loop μ-loop
 say-answer-requires c κs = search needs
 
-sub-turns : tie.Need-sub-turns Inv-loop μ-loop
-sub-turns c = search needs
+turns-left-requires : tie.Need-turns-left-requires Inv-loop μ-loop
+turns-left-requires c κs = search needs
 
 loop-less : tie.Need-loop-less Inv-loop μ-loop
 loop-less c = search needs
 
 loop-again : tie.Need-loop-again Inv-loop μ-loop
 loop-again c =
-    let l = c .before .before .before .before .before .before .before .before .before .before .before .before .before .before .before .before .before .before .before .before .before .before .before .before .before .before .before .before .before .loop in
-    let w = c .before .before .before .before .before .before .before .before .before .before .before .before .before .before .before .before .before .before .before .before .before .before .before .before .before .next-line in
-    let g = c .before .before .before .before .before .before .before .before .before .before .before .before .carry-out in (
+    let l = c .before .before .before .before .before .before .before .before .before .before .before .before .before .before .before .before .before .before .before .before .before .before .before .before .before .before .before .before .before .before .loop in
+    let w = c .before .before .before .before .before .before .before .before .before .before .before .before .before .before .before .before .before .before .before .before .before .before .before .before .before .before .next-line in
+    let g = c .before .before .before .before .before .before .before .before .before .before .before .before .before .carry-out in (
       w .ensures .0,
       omega (arith, w .ensures .1, w .kept .0),
       g .kept .1 .1 .0 ∙ l .inv .2,
@@ -123,7 +123,7 @@ answer-lines-spec =
     slice-aggregate-carry-out
     carry-out-requires
     say-answer-requires
-    sub-turns
+    turns-left-requires
     loop-less
     loop-again
     same-length-8
