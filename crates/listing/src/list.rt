@@ -1,11 +1,12 @@
 // At the end: how many entries there are, and each of them in key order.
-use crate::say::say_number;
 use crate::say::say_record;
+use crate::say::write_numbered;
 use data_model::area::Area;
 use data_model::area::AreaSubspace;
 use data_model::path::Path;
 use data_model::range::RangeEnd;
 use data_model::range::TimesRange;
+use libc::STDOUT_FILENO;
 use query::answer::Listed;
 use query::count::count_area;
 use query::listing::query_area;
@@ -42,6 +43,12 @@ fn after(place: usize, k: usize, count: usize) -> usize
     k + 1
 }
 
+fn say_count(count: u64) {
+    let mut head = [0u8; 26];
+    let h = write_numbered(b"list ", count, &mut head);
+    io::write_all(STDOUT_FILENO, &head[..h]);
+}
+
 pub fn say_list(state: State, spt: &[u8], spt_dir: &[u32], tsp: &[u8], tsp_dir: &[u32]) {
     let area = everything();
     let ignore = QueryIgnoreParams {
@@ -49,7 +56,7 @@ pub fn say_list(state: State, spt: &[u8], spt_dir: &[u32], tsp: &[u8], tsp_dir: 
         ignore_empty_payloads: false,
     };
     let counted = count_area(state, spt, spt_dir, tsp, tsp_dir, area);
-    say_number(b"list ", counted.count as u64);
+    say_count(counted.count as u64);
     let count = state.count;
     let mut place: usize = 0;
     while place < count {

@@ -16,11 +16,8 @@ everything-requires c κs = search needs
 count-area-requires : tie.Need-count-area-requires Inv-loop μ-loop
 count-area-requires c κs = search needs
 
-slice-aggregate-say-number : tie.Need-slice-aggregate-say-number Inv-loop μ-loop
-slice-aggregate-say-number c = search needs
-
-say-number-requires : tie.Need-say-number-requires Inv-loop μ-loop
-say-number-requires c κs = search needs
+say-count-requires : tie.Need-say-count-requires Inv-loop μ-loop
+say-count-requires c κs = search needs
 
 loop-holds : tie.Need-loop-holds Inv-loop μ-loop
 loop-holds c = search needs
@@ -60,8 +57,7 @@ say-list-spec =
     μ-loop
     everything-requires
     count-area-requires
-    slice-aggregate-say-number
-    say-number-requires
+    say-count-requires
     loop-holds
     query-area-place-requires
     enum-known-l
