@@ -1,14 +1,15 @@
 // The listing program: lines `in S P T L D` from standard input, each answered on a line; then what the store holds, in key order.
 use crate::carry::carry_out;
 use crate::input::next_line;
-use crate::list::say_list;
+use crate::list::write_list;
 use crate::say::say_answer;
+use libc::STDOUT_FILENO;
 use store::open::open;
 use store::state::RECORD_MOST;
 use store::state::State;
 use text::entry_line::LINE_MOST;
 ghost use mathlib.Core.Path.{_≡_};
-ghost use Prim.Native.Nat.{_<_};
+ghost use Prim.Native.Nat.{_≤_, _<_};
 ghost use lib.ListN.{length};
 
 mod carry;
@@ -21,6 +22,9 @@ const LIMIT: usize = 64;
 const TREE: usize = RECORD_MOST * LIMIT;
 
 const NUMBERS: usize = 2 * LIMIT;
+
+// The first line has at most 26 bytes, each other one 321.
+const LIST: usize = 26 + 321 * LIMIT;
 
 fn tree_bytes() -> [u8; TREE]
     ensures { λ r. ⌜ length r ≡ 26240 ⌝ }
@@ -45,6 +49,13 @@ fn turns_left(turns: u64, ended: bool) -> u64
     turns - 1
 }
 
+// Room for the list of a full store.
+fn list_bytes() -> [u8; LIST]
+    ensures { λ r. ⌜ length r ≡ 20570 ⌝ }
+{
+    [0; LIST]
+}
+
 // Answers every line of the input, and returns the state after the last.
 fn answer_lines(
     opened: State,
@@ -55,7 +66,9 @@ fn answer_lines(
     prune: &mut [u32],
     input: &mut [u8],
     line: &mut [u8],
-) -> State {
+) -> State
+    ensures { λ r. ⌜ r .limit ≡ opened .limit ⌝ }
+{
     let mut state = opened;
     let mut at: usize = 0;
     let mut end: usize = 0;
@@ -76,6 +89,15 @@ fn answer_lines(
         turns = turns_left(turns, l.ended);
     }
     state
+}
+
+// Prints the list of a store of at most 64 entries.
+fn say_list(state: State, spt: &[u8], spt_dir: &[u32], tsp: &[u8], tsp_dir: &[u32])
+    requires { ⌜ state .limit ≤ 64 ⌝ }
+{
+    let mut out = list_bytes();
+    let n = write_list(state, spt, spt_dir, tsp, tsp_dir, &mut out);
+    io::write_all(STDOUT_FILENO, &out[..n]);
 }
 
 // The program over its buffers: the store's, the prune list, the input's and the line's.

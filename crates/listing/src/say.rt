@@ -20,12 +20,11 @@ ghost use Rattle.text.specs.Decimal.{decimalText};
 ghost use Rattle.text.specs.EntryLine.{listedTextMost};
 ghost use Rattle.tree.specs.Value.{valueLength};
 ghost use Rattle.listing.specs.Input.{newline};
+ghost use Rattle.listing.specs.List.{entryLineMost};
 ghost use Rattle.listing.specs.Say.{numbered, answerText, answerTextMost, entryText, recordText};
 
-// The most bytes of an answer, and of an entry listed.
+// The most bytes of an answer.
 const ANSWER: usize = 29;
-
-const LISTED: usize = 320;
 
 // A number and the line's end: at most 21 bytes.
 fn write_ended(x: u64, out: &mut [u8]) -> usize
@@ -74,7 +73,7 @@ pub fn say_answer(answer: Answer) {
 // `S P T L D`: of the subspace its last byte, of the digest its first.
 fn write_entry(e: Entry, out: &mut [u8]) -> usize
     requires { ⌜ (legal field (e .path) ≡ true) × (listedTextMost ≤ length (now out)) ⌝ }
-    ensures { λ r. ⌜ (r ≡ length (entryText (entryOf e))) × (now (out .exit) ≡ put (entryText (entryOf e)) (now (out .entry))) ⌝ }
+    ensures { λ r. ⌜ (r ≡ length (entryText (entryOf e))) × (r ≤ listedTextMost) × (now (out .exit) ≡ put (entryText (entryOf e)) (now (out .entry))) ⌝ }
 {
     let s = e.subspace_id;
     let p = e.path;
@@ -92,7 +91,7 @@ fn write_entry(e: Entry, out: &mut [u8]) -> usize
 // The entry that a record of the subspace-first tree says.
 fn write_record(rec: &[u8], out: &mut [u8]) -> usize
     requires { ⌜ (valueLength ≤ length (now rec)) × (listedTextMost ≤ length (now out)) ⌝ }
-    ensures { λ r. ⌜ (r ≡ length (recordText (now (rec .entry)))) × (now (out .exit) ≡ put (recordText (now (rec .entry))) (now (out .entry))) ⌝ }
+    ensures { λ r. ⌜ (r ≡ length (recordText (now (rec .entry)))) × (r ≤ listedTextMost) × (now (out .exit) ≡ put (recordText (now (rec .entry))) (now (out .entry))) ⌝ }
 {
     let n = rec.len() - VALUE;
     let a = stored_in(KeyOrder::Spt, [0; 16], &rec[..n], &rec[n..]);
@@ -100,15 +99,12 @@ fn write_record(rec: &[u8], out: &mut [u8]) -> usize
     write_entry(e, out)
 }
 
-pub fn say_record(rec: &[u8]) {
-    if rec.len() < VALUE {
-        return;
-    }
-    let mut out = [0u8; LISTED + 1];
-    let n = write_record(rec, &mut out);
-    if LISTED < n {
-        return;
-    }
+// The same, and the line's end.
+pub fn write_line(rec: &[u8], out: &mut [u8]) -> usize
+    requires { ⌜ (valueLength ≤ length (now rec)) × (listedTextMost < length (now out)) ⌝ }
+    ensures { λ r. ⌜ (r ≡ length (recordText (now (rec .entry)) ++ newline ∷ [])) × (r ≤ entryLineMost) × (now (out .exit) ≡ put (recordText (now (rec .entry)) ++ newline ∷ []) (now (out .entry))) ⌝ }
+{
+    let n = write_record(rec, out);
     out[n] = b'\n';
-    io::write_all(STDOUT_FILENO, &out[..n + 1]);
+    n + 1
 }
