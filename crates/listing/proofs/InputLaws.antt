@@ -2,6 +2,7 @@
 use Prim.Native.Nat.{ℕ, _+_, _-_, _≤_, _<_}
 use mathlib.Core.Path.{_≡_, refl, sym, ap, _∙_}
 use mathlib.Core.List.{List, [], _∷_, _++_}
+use mathlib.Core.Bool.{true, false}
 use native.Mathlib.Omega.{arith}
 use lib.ListN.{length, take, drop, length-append, length-take}
 use lib.Seq.{take-all, take-at, length-take-le, take-append-add}
@@ -10,7 +11,7 @@ use Rattle.laws.specs.Lists.{put, piece}
 use Rattle.laws.proofs.Lists.{Wrote, wrote-last}
 use Rattle.text.specs.Fields.{front}
 use Rattle.text.proofs.FieldLaws.{front-take}
-use Rattle.listing.specs.Input.{newline, partAt, extended}
+use Rattle.listing.specs.Input.{newline, partAt, extended, lineBytes, lineFound}
 
 -- What a writer leaves that was lent the buffer from n on.
 added : (line xs last : List ℕ) (n m : ℕ) → n ≤ length line → m ≡ length xs → n + m ≤ length line → last ≡ put xs (midOf n (length line - n) line)
@@ -40,3 +41,11 @@ pub part-is : (bytes : List ℕ) (at stop : ℕ) → stop ≡ at + length (partA
 part-is bytes at stop h =
     let e : stop - at ≡ length (partAt at bytes) = omega arith in
     ap (λ (k : ℕ). take k (drop at bytes)) e ∙ front-take newline (drop at bytes)
+
+-- A line that was taken as one part, its newline right behind it.
+pub line-found : (bytes line after : List ℕ) (at end stop n : ℕ) → end ≡ length bytes → stop ≡ at + length (partAt at bytes) → n ≤ length line → length after ≡ length line
+    → take n after ≡ extended line 0 (partAt at bytes)
+    → (record { found = true; ended = false; length = n; at = stop + 1; end = end } ≡ lineFound at bytes (length line)) × (take n after ≡ lineBytes at bytes (length line))
+line-found bytes line after at end stop n e s h l t =
+    let m : n ≡ length (lineBytes at bytes (length line)) = sym (length-take-le n after (omega arith)) ∙ ap length t in
+    (rw (e, s, ← m), t)
