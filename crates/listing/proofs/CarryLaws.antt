@@ -13,7 +13,6 @@ use Rattle.data_model.specs.Entry.{entryOf, Entry as EntryOf}
 use Rattle.store.specs.Store.{Store, storeOf, holding}
 use Rattle.store.specs.Open.{OpenOutcome, emptyState, openRefusal, openAnswer, opened, opening}
 use Rattle.store.specs.Ingest.{Decision, refuse, obsolete, take-it, IngestOutcome, carried, judged, ingested}
-use Rattle.store.specs.declared.ingest.Ingested.{Ingested}
 use Rattle.text.specs.EntryLine.{lineRead}
 use Rattle.text.specs.declared.path.Outcome.{Outcome}
 use Rattle.text.specs.declared.path.Outcome.the-variants as outcome

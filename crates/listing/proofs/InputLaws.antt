@@ -1,7 +1,7 @@
 -- A line's buffer as parts are added to it. Assumes nothing.
 use Prim.Native.Nat.{ℕ, _+_, _-_, _≤_, _<_}
 use mathlib.Core.Path.{_≡_, refl, sym, ap, _∙_}
-use mathlib.Core.List.{List, [], _∷_, _++_}
+use mathlib.Core.List.{List, _++_}
 use mathlib.Core.Bool.{true, false}
 use native.Mathlib.Omega.{arith}
 use lib.ListN.{length, take, drop, length-append, length-take}
@@ -9,7 +9,6 @@ use lib.Seq.{take-all, take-at, length-take-le, take-append-add}
 use borrow.Rule.Slice.PartMut.{putMid, midOf}
 use Rattle.laws.specs.Lists.{put, piece}
 use Rattle.laws.proofs.Lists.{Wrote, wrote-last}
-use Rattle.text.specs.Fields.{front}
 use Rattle.text.proofs.FieldLaws.{front-take}
 use Rattle.listing.specs.Input.{newline, partAt, extended, lineBytes, lineFound}
 

@@ -1,8 +1,8 @@
 -- The list of a store as it is written: all records match, and as many as were counted; a line more at each turn. Assumes nothing.
-use Prim.Native.Nat.{ℕ, zero, suc, _+_, _-_, _*_, _≤_, _<_}
+use Prim.Native.Nat.{ℕ, _+_, _-_, _*_, _≤_, _<_}
 use mathlib.Core.Path.{_≡_, refl, sym, ap, subst, _∙_}
 use mathlib.Core.List.{List, [], _∷_, _++_, append-assoc}
-use mathlib.Core.Bool.{Bool, true, false, _&&_}
+use mathlib.Core.Bool.{Bool, true}
 use native.Mathlib.Omega.{arith}
 use lib.ListN.{length, drop, length-append}
 use lib.Seq.{drop-at, drop-drop}
@@ -15,13 +15,13 @@ use Rattle.laws.specs.Prefix.{prefixOf}
 use Rattle.laws.specs.Sorted.{all, keep}
 use Rattle.laws.proofs.Truth.{split}
 use Rattle.laws.proofs.Lists.{Wrote, wrote-first, wrote-lent, wrote-length, wrote-all}
-use Rattle.data_model.specs.Path.{field, legal, components, joined, isPath, pathOf}
+use Rattle.data_model.specs.Path.{field, legal, joined, isPath, pathOf}
 use Rattle.data_model.specs.Range.{timesInclude, includes, beforeEnd, timesEnd}
 use Rattle.data_model.specs.Area.{areaSubspace, areaIncludes}
 use Rattle.data_model.specs.declared.area.Area.{Area}
 use Rattle.key_laws.proofs.Fits.{legal-of, components-of}
 use Rattle.tree.specs.Stored.{Stored, storedFrom, stored, contents}
-use Rattle.tree.specs.Matching.{inArea, listedInArea, letThrough}
+use Rattle.tree.specs.Matching.{inArea, listedInArea}
 use Rattle.tree.specs.declared.matching.QueryIgnoreParams.{QueryIgnoreParams}
 use Rattle.tree.specs.declared.stored.KeyOrder.the-variants.{Spt}
 use Rattle.tree.proofs.FormedContents.{formed-many}
@@ -31,10 +31,10 @@ use Rattle.store.specs.Refusal.{storeRefusal, unless, _orElse_}
 use Rattle.query.specs.Reading.{readRefusal, areaRefusal, noFlags}
 use Rattle.query.specs.Listing.{areaListed, areaPart}
 use Rattle.query.specs.Count.{counted, areaCounted}
-use Rattle.query.specs.Walk.{Walks, matching, Lists}
+use Rattle.query.specs.Walk.{Walks, matching}
 use Rattle.query.specs.declared.answer.Counted.{Counted}
 use Rattle.query.specs.declared.answer.Listed.{Listed}
-use Rattle.query.specs.declared.answer.Listed.the-variants.{Match, Finished, Refused}
+use Rattle.query.specs.declared.answer.Listed.the-variants.{Match}
 use Rattle.query.proofs.Tested.{read-tested, formed-spt}
 use Rattle.query.proofs.NextLaws.{unflagged-area}
 use Rattle.query.proofs.Walked.{area-lists, area-counts}

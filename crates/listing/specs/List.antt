@@ -14,7 +14,7 @@ use Rattle.store.specs.Store.{Store, held}
 use Rattle.store.specs.Refusal.{storeRefusal}
 use Rattle.text.specs.EntryLine.{space, listedTextMost}
 use Rattle.listing.specs.Input.{newline}
-use Rattle.listing.specs.Say.{numbered, entryText}
+use Rattle.listing.specs.Say.{numberMost, numbered, entryText}
 
 -- `list `.
 abbrev pub listWord : List ℕ
@@ -31,12 +31,16 @@ listText l = numbered listWord (length l) ++ entryLines l
 unfoldable pub storeListed : Figures → Store → List ℕ
 storeListed f s = cond (eqb (storeRefusal f s true) 0) (listText (held f Spt s)) []
 
--- The most bytes of a list of so many entries.
+-- The most bytes of an entry's line, and of a list of so many entries.
 abbrev pub entryLineMost : ℕ
 entryLineMost = listedTextMost + 1
 
 abbrev pub listTextMost : ℕ → ℕ
-listTextMost n = 5 + 20 + 1 + entryLineMost * n
+listTextMost n = 5 + numberMost + entryLineMost * n
+
+-- The limit that the program opens.
+abbrev pub programLimit : ℕ
+programLimit = 64
 
 -- The area that includes every entry.
 abbrev pub everyEntry : Area

@@ -12,6 +12,10 @@ use Rattle.listing.specs.Input.{newline}
 use Rattle.listing.specs.declared.carry.Answer.{Answer}
 use Rattle.listing.specs.declared.carry.Answer.the-variants.{Ok, Obsolete, Bad, Refused}
 
+-- The most bytes of a number and the line's end.
+abbrev pub numberMost : ℕ
+numberMost = 20 + 1
+
 -- A word with a space behind it, a number, and the line's end.
 unfoldable pub numbered : List ℕ → ℕ → List ℕ
 numbered word n = word ++ (decimalText n ++ newline ∷ [])
@@ -27,9 +31,9 @@ answerText Obsolete = 111 ∷ 98 ∷ 115 ∷ 111 ∷ 108 ∷ 101 ∷ 116 ∷ 101
 answerText Bad = 98 ∷ 97 ∷ 100 ∷ newline ∷ []
 answerText (Refused n) = numbered refusedWord n
 
--- The most bytes of it: the longest word, a number of 20 digits and the line's end.
+-- The most bytes of it: the longest word and a number.
 abbrev pub answerTextMost : ℕ
-answerTextMost = 8 + 20 + 1
+answerTextMost = 8 + numberMost
 
 -- An entry listed: `S P T L D`, S the subspace's last byte, D the digest's first.
 unfoldable pub entryText : Entry → List ℕ

@@ -11,6 +11,7 @@ use text::entry_line::LINE_MOST;
 ghost use mathlib.Core.Path.{_≡_};
 ghost use Prim.Native.Nat.{_≤_, _<_};
 ghost use lib.ListN.{length};
+ghost use Rattle.listing.specs.List.{listTextMost, programLimit};
 
 mod carry;
 mod input;
@@ -23,8 +24,12 @@ const TREE: usize = RECORD_MOST * LIMIT;
 
 const NUMBERS: usize = 2 * LIMIT;
 
-// The first line has at most 26 bytes, each other one 321.
-const LIST: usize = 26 + 321 * LIMIT;
+// The most bytes of the list's first line, of an entry's line, and of the list of a full store.
+const HEAD_LINE: usize = 26;
+
+const ENTRY_LINE: usize = 321;
+
+const LIST: usize = HEAD_LINE + ENTRY_LINE * LIMIT;
 
 fn tree_bytes() -> [u8; TREE]
     ensures { λ r. ⌜ length r ≡ 26240 ⌝ }
@@ -51,12 +56,12 @@ fn turns_left(turns: u64, ended: bool) -> u64
 
 // Room for the list of a full store.
 fn list_bytes() -> [u8; LIST]
-    ensures { λ r. ⌜ length r ≡ 20570 ⌝ }
+    ensures { λ r. ⌜ length r ≡ listTextMost programLimit ⌝ }
 {
     [0; LIST]
 }
 
-// Answers every line of the input, and returns the state after the last.
+// Answers every line of the input, and returns the state after the last. The limit stays.
 fn answer_lines(
     opened: State,
     spt: &mut [u8],
@@ -91,9 +96,9 @@ fn answer_lines(
     state
 }
 
-// Prints the list of a store of at most 64 entries.
+// Prints the list of a store of at most the program's limit.
 fn say_list(state: State, spt: &[u8], spt_dir: &[u32], tsp: &[u8], tsp_dir: &[u32])
-    requires { ⌜ state .limit ≤ 64 ⌝ }
+    requires { ⌜ state .limit ≤ programLimit ⌝ }
 {
     let mut out = list_bytes();
     let n = write_list(state, spt, spt_dir, tsp, tsp_dir, &mut out);

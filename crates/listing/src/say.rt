@@ -1,5 +1,6 @@
 // What the program prints: answers, and at the end the list.
 use crate::carry::Answer;
+use crate::carry::wide;
 use data_model::entry::Entry;
 use libc::STDOUT_FILENO;
 use text::decimal::write_number;
@@ -21,15 +22,15 @@ ghost use Rattle.text.specs.EntryLine.{listedTextMost};
 ghost use Rattle.tree.specs.Value.{valueLength};
 ghost use Rattle.listing.specs.Input.{newline};
 ghost use Rattle.listing.specs.List.{entryLineMost};
-ghost use Rattle.listing.specs.Say.{numbered, answerText, answerTextMost, entryText, recordText};
+ghost use Rattle.listing.specs.Say.{numberMost, numbered, answerText, answerTextMost, entryText, recordText};
 
 // The most bytes of an answer.
 const ANSWER: usize = 29;
 
-// A number and the line's end: at most 21 bytes.
+// A number and the line's end.
 fn write_ended(x: u64, out: &mut [u8]) -> usize
-    requires { ⌜ 20 < length (now out) ⌝ }
-    ensures { λ r. ⌜ (r ≡ length (decimalText x ++ newline ∷ [])) × (r ≤ 21) × (now (out .exit) ≡ put (decimalText x ++ newline ∷ []) (now (out .entry))) ⌝ }
+    requires { ⌜ numberMost ≤ length (now out) ⌝ }
+    ensures { λ r. ⌜ (r ≡ length (decimalText x ++ newline ∷ [])) × (r ≤ numberMost) × (now (out .exit) ≡ put (decimalText x ++ newline ∷ []) (now (out .entry))) ⌝ }
 {
     let n = write_number(x, out);
     out[n] = b'\n';
@@ -38,17 +39,11 @@ fn write_ended(x: u64, out: &mut [u8]) -> usize
 
 // A word, a number behind it, and the line's end.
 pub fn write_numbered(word: &[u8], x: u64, out: &mut [u8]) -> usize
-    requires { ⌜ length (now word) + 21 ≤ length (now out) ⌝ }
-    ensures { λ r. ⌜ (r ≡ length (numbered (now (word .entry)) x)) × (r ≤ length (now (word .entry)) + 21) × (now (out .exit) ≡ put (numbered (now (word .entry)) x) (now (out .entry))) ⌝ }
+    requires { ⌜ length (now word) + numberMost ≤ length (now out) ⌝ }
+    ensures { λ r. ⌜ (r ≡ length (numbered (now (word .entry)) x)) × (r ≤ length (now (word .entry)) + numberMost) × (now (out .exit) ≡ put (numbered (now (word .entry)) x) (now (out .entry))) ⌝ }
 {
     let n = write_bytes(word, out);
     n + write_ended(x, &mut out[n..])
-}
-
-fn wide(b: u8) -> u64
-    ensures { λ r. ⌜ r ≡ b ⌝ }
-{
-    b as u64
 }
 
 // The answer to a line, and the line's end.

@@ -1,6 +1,5 @@
 -- `next_line` meets its contract: the part up to the newline, or what is read on behind it. Assumes nothing.
 use native.Mathlib.Omega.{arith}
-use Prim.Native.Nat.{_≤_}
 use mathlib.Core.Path.{_≡_, refl, sym}
 use lib.ListN.{length, take}
 use lib.Seq.{length-take-le}

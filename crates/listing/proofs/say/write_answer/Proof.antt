@@ -1,9 +1,8 @@
 -- `write_answer` meets its contract. Assumes nothing.
 use native.Mathlib.Omega.{arith}
-use mathlib.Core.Path.{_≡_, sym, ap, _∙_}
-use lib.ListN.{length}
+use mathlib.Core.Path.{sym, ap, _∙_}
 use Rattle.listing.specs.Say.{refusedWord, numbered, answerText}
-use Rattle.listing.specs.declared.carry.Answer.the-variants.{Ok, Obsolete, Bad, Refused}
+use Rattle.listing.specs.declared.carry.Answer.the-variants.{Ok, Obsolete, Bad}
 use Rattle.listing.proofs.SayLaws.{answer-said}
 use borrow.Author.Needs.{needs}
 use Rattle.listing.proofs.say.write_answer.Statement.{statement}
