@@ -2,7 +2,7 @@
 use Prim.Native.Nat.{ℕ, _+_, _-_, _≤_, _<_}
 use mathlib.Core.Path.{_≡_, refl, sym, ap, _∙_}
 use mathlib.Core.List.{List, _++_}
-use mathlib.Core.Bool.{true, false}
+use mathlib.Core.Bool.{Bool, true}
 use native.Mathlib.Omega.{arith}
 use lib.ListN.{length, take, drop, length-append, length-take}
 use lib.Seq.{take-all, take-at, length-take-le, take-append-add}
@@ -42,9 +42,9 @@ part-is bytes at stop h =
     ap (λ (k : ℕ). take k (drop at bytes)) e ∙ front-take newline (drop at bytes)
 
 -- A line that was taken as one part, its newline right behind it.
-pub line-found : (bytes line after : List ℕ) (at end stop n : ℕ) → end ≡ length bytes → stop ≡ at + length (partAt at bytes) → n ≤ length line → length after ≡ length line
+pub line-found : (bytes line after : List ℕ) (at end stop n : ℕ) (ended : Bool) → end ≡ length bytes → stop ≡ at + length (partAt at bytes) → n ≤ length line → length after ≡ length line
     → take n after ≡ extended line 0 (partAt at bytes)
-    → (record { found = true; ended = false; length = n; at = stop + 1; end = end } ≡ lineFound at bytes (length line)) × (take n after ≡ lineBytes at bytes (length line))
-line-found bytes line after at end stop n e s h l t =
+    → (record { found = true; ended = ended; length = n; at = stop + 1; end = end } ≡ lineFound at bytes (length line) ended) × (take n after ≡ lineBytes at bytes (length line))
+line-found bytes line after at end stop n ended e s h l t =
     let m : n ≡ length (lineBytes at bytes (length line)) = sym (length-take-le n after (omega arith)) ∙ ap length t in
     (rw (e, s, ← m), t)

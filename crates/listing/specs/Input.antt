@@ -1,6 +1,6 @@
 -- Input in parts: a line's buffer has the line as far as it was read, cut to what the buffer holds.
 use Prim.Native.Nat.{ℕ, _+_, _<_}
-use mathlib.Core.Bool.{true, false}
+use mathlib.Core.Bool.{Bool, true}
 use mathlib.Core.List.{List, _++_}
 use lib.ListN.{length, take, drop}
 use Rattle.text.specs.Fields.{front}
@@ -25,11 +25,11 @@ Ended at bytes = at + length (partAt at bytes) < length bytes
 abbrev pub lineBytes : ℕ → List ℕ → (room : ℕ) → List ℕ
 lineBytes at bytes room = take room (partAt at bytes)
 
--- It is found, and the next one begins behind its newline.
-abbrev pub lineFound : ℕ → List ℕ → (room : ℕ) → Line
-lineFound at bytes room = record {
+-- It is found, and the next one begins behind its newline. Whether the input has ended stays.
+abbrev pub lineFound : ℕ → List ℕ → (room : ℕ) → (ended : Bool) → Line
+lineFound at bytes room ended = record {
   found = true;
-  ended = false;
+  ended = ended;
   length = length (lineBytes at bytes room);
   at = at + length (partAt at bytes) + 1;
   end = length bytes;

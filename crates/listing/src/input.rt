@@ -2,12 +2,13 @@
 use text::line::field_end;
 use text::line::write_bytes;
 ghost use mathlib.Core.Path.{_≡_};
+ghost use mathlib.Core.Bool.{true};
 ghost use Prim.Native.Nat.{_+_, _≤_};
 ghost use lib.ListN.{length, take};
 ghost use Rattle.listing.specs.Input.{partAt, extended, Ended, lineBytes, lineFound};
 
 // A line that was found: its bytes are in the line's buffer, cut to what that holds. Bytes from `at` to `end` of the input's buffer are
-// not looked at yet. Once the input has ended there is nothing left to read.
+// not looked at yet. Once the input has ended it is not read again.
 pub struct Line {
     pub found: bool,
     pub ended: bool,
@@ -57,7 +58,7 @@ fn last_line(n: usize) -> Line
     }
 }
 
-// Reads on behind the first n bytes of a line, up to its newline or the input's end.
+// Reads on behind the first n bytes of a line, up to its newline or the input's end. A read that does not fill the buffer was the last.
 fn read_on(input: &mut [u8], line: &mut [u8], so_far: usize) -> Line
     requires { ⌜ «so_far» ≤ length (now line) ⌝ }
     ensures { λ r. ⌜ (r .at ≤ r .end) × (r .end ≤ length (now (input .entry))) × (r .length ≤ length (now (line .entry))) ⌝ }
@@ -66,39 +67,43 @@ fn read_on(input: &mut [u8], line: &mut [u8], so_far: usize) -> Line
     let mut turns: u64 = 0xffff_ffff_ffff_ffff;
     while 0 < turns {
         let e = io::read_full(0, input);
-        if e == 0 {
-            return last_line(n);
-        }
+        let ended = e < input.len();
         let p = take_part(&input[..e], 0, line, n);
         n = p.length;
         if p.stop < e {
             return Line {
                 found: true,
-                ended: false,
+                ended,
                 length: n,
                 at: p.stop + 1,
                 end: e,
             };
+        }
+        if ended {
+            return last_line(n);
         }
         turns -= 1;
     }
     last_line(0)
 }
 
-// The next line. Nothing is read if its newline is among the bytes that are not looked at yet.
-pub fn next_line(input: &mut [u8], at: usize, end: usize, line: &mut [u8]) -> Line
+// The next line. Nothing is read if its newline is among the bytes that are not looked at yet, or if the input has ended.
+pub fn next_line(input: &mut [u8], at: usize, end: usize, ended: bool, line: &mut [u8]) -> Line
     requires { ⌜ (at ≤ end) × (end ≤ length (now input)) ⌝ }
-    ensures { λ r. ⌜ (r .at ≤ r .end) × (r .end ≤ length (now (input .entry))) × (r .length ≤ length (now (line .entry))) × (Ended at (take end (now (input .entry))) → (r ≡ lineFound at (take end (now (input .entry))) (length (now (line .entry)))) × (take (r .length) (now (line .exit)) ≡ lineBytes at (take end (now (input .entry))) (length (now (line .entry)))) × (now (input .exit) ≡ now (input .entry))) ⌝ }
+    ensures { λ r. ⌜ (r .at ≤ r .end) × (r .end ≤ length (now (input .entry))) × (r .length ≤ length (now (line .entry))) × (Ended at (take end (now (input .entry))) → (r ≡ lineFound at (take end (now (input .entry))) (length (now (line .entry))) ended) × (take (r .length) (now (line .exit)) ≡ lineBytes at (take end (now (input .entry))) (length (now (line .entry)))) × (now (input .exit) ≡ now (input .entry))) × (ended ≡ true → now (input .exit) ≡ now (input .entry)) ⌝ }
 {
     let p = take_part(&input[..end], at, line, 0);
     if p.stop < end {
         return Line {
             found: true,
-            ended: false,
+            ended,
             length: p.length,
             at: p.stop + 1,
             end,
         };
+    }
+    if ended {
+        return last_line(p.length);
     }
     read_on(input, line, p.length)
 }

@@ -7,6 +7,7 @@ use data_model::path::Path;
 use data_model::range::RangeEnd;
 use data_model::range::TimesRange;
 use query::answer::Listed;
+use query::check::no_flags;
 use query::count::count_area;
 use query::listing::query_area;
 use query::listing::query_area_place;
@@ -18,7 +19,6 @@ ghost use lib.ListN.{length};
 ghost use Rattle.laws.specs.Lists.{put};
 ghost use Rattle.data_model.specs.Path.{field};
 ghost use Rattle.store.specs.Store.{storeOf};
-ghost use Rattle.query.specs.Reading.{noFlags};
 ghost use Rattle.listing.specs.List.{listTextMost, everyEntry, storeListed};
 
 // The area that includes every entry.
@@ -33,15 +33,6 @@ fn everything() -> Area
             start: 0,
             end: RangeEnd::Open,
         },
-    }
-}
-
-fn no_flags() -> QueryIgnoreParams
-    ensures { λ r. ⌜ r ≡ noFlags ⌝ }
-{
-    QueryIgnoreParams {
-        ignore_incomplete_payloads: false,
-        ignore_empty_payloads: false,
     }
 }
 

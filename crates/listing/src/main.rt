@@ -9,7 +9,7 @@ use store::state::RECORD_MOST;
 use store::state::State;
 use text::entry_line::LINE_MOST;
 ghost use mathlib.Core.Path.{_≡_};
-ghost use Prim.Native.Nat.{_≤_, _<_};
+ghost use Prim.Native.Nat.{_≤_};
 ghost use lib.ListN.{length};
 ghost use Rattle.listing.specs.List.{listTextMost, programLimit};
 
@@ -43,17 +43,6 @@ fn numbers() -> [u32; NUMBERS]
     [0; NUMBERS]
 }
 
-// How many turns are left after one: none once the input has ended.
-fn turns_left(turns: u64, ended: bool) -> u64
-    requires { ⌜ 0 < turns ⌝ }
-    ensures { λ r. ⌜ r < turns ⌝ }
-{
-    if ended {
-        return 0;
-    }
-    turns - 1
-}
-
 // Room for the list of a full store.
 fn list_bytes() -> [u8; LIST]
     ensures { λ r. ⌜ length r ≡ listTextMost programLimit ⌝ }
@@ -77,21 +66,23 @@ fn answer_lines(
     let mut state = opened;
     let mut at: usize = 0;
     let mut end: usize = 0;
+    let mut ended = false;
     let mut turns: u64 = 0xffff_ffff_ffff_ffff;
     while 0 < turns {
-        let l = next_line(input, at, end, line);
+        let l = next_line(input, at, end, ended, line);
         if !l.found {
             return state;
         }
         at = l.at;
         end = l.end;
+        ended = l.ended;
         let n = l.length;
         let a = carry_out(&line[..n], state, spt, spt_dir, tsp, tsp_dir, prune);
         let answer = a.answer;
         say_answer(answer);
         let after = a.state;
         state = after;
-        turns = turns_left(turns, l.ended);
+        turns -= 1;
     }
     state
 }

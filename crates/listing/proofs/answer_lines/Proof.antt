@@ -11,11 +11,11 @@ use Rattle.listing.proofs.answer_lines.Statement.{statement}
 use Rattle.listing.proofs.answer_lines.Tie as tie
 
 abbrev Inv-loop : tie.InvT-loop
-Inv-loop spt₀ spt-dir₀ tsp₀ tsp-dir₀ prune₀ input₀ line₀ state₀ at₀ end₀ turns₀ spt spt-dir tsp tsp-dir prune input line state at end turns =
+Inv-loop spt₀ spt-dir₀ tsp₀ tsp-dir₀ prune₀ input₀ line₀ state₀ at₀ end₀ ended₀ turns₀ spt spt-dir tsp tsp-dir prune input line state at end ended turns =
     (at ≤ end) × (end ≤ length input) × (length spt ≡ length spt₀) × (length spt-dir ≡ length spt-dir₀) × (length tsp ≡ length tsp₀) × (length tsp-dir ≡ length tsp-dir₀) × (length prune ≡ length prune₀) × (length input ≡ length input₀) × (length line ≡ length line₀) × (state .limit ≡ state₀ .limit)
 
 abbrev μ-loop : tie.MeasureT-loop
-μ-loop spt₀ spt-dir₀ tsp₀ tsp-dir₀ prune₀ input₀ line₀ state₀ at₀ end₀ turns₀ spt spt-dir tsp tsp-dir prune input line state at end turns = turns
+μ-loop spt₀ spt-dir₀ tsp₀ tsp-dir₀ prune₀ input₀ line₀ state₀ at₀ end₀ ended₀ turns₀ spt spt-dir tsp tsp-dir prune input line state at end ended turns = turns
 
 loop-holds : tie.Need-loop-holds Inv-loop μ-loop
 loop-holds c = search needs
@@ -51,7 +51,7 @@ slice-reshare-prefix-carry-out : tie.Need-slice-reshare-prefix-carry-out Inv-loo
 slice-reshare-prefix-carry-out c = search needs
 
 slice-aggregate-carry-out : tie.Need-slice-aggregate-carry-out Inv-loop μ-loop
-slice-aggregate-carry-out c = let w = c .before .before .before .before .before .before .before .next-line in sym (length-take-le (w .result .length) (w .last .1 .1 .1 .0) (omega (arith, w .kept .1 .1 .1 .0, w .ensures .2)))
+slice-aggregate-carry-out c = let w = c .before .before .before .before .before .before .before .next-line in sym (length-take-le (w .result .length) (w .last .1 .1 .1 .1 .0) (omega (arith, w .kept .1 .1 .1 .1 .0, w .ensures .2)))
 
 carry-out-requires : tie.Need-carry-out-requires Inv-loop μ-loop
 carry-out-requires c κs = search needs
@@ -59,17 +59,17 @@ carry-out-requires c κs = search needs
 say-answer-requires : tie.Need-say-answer-requires Inv-loop μ-loop
 say-answer-requires c κs = search needs
 
-turns-left-requires : tie.Need-turns-left-requires Inv-loop μ-loop
-turns-left-requires c κs = search needs
+sub-turns : tie.Need-sub-turns Inv-loop μ-loop
+sub-turns c = search needs
 
 loop-less : tie.Need-loop-less Inv-loop μ-loop
 loop-less c = search needs
 
 loop-again : tie.Need-loop-again Inv-loop μ-loop
 loop-again c =
-    let l = c .before .before .before .before .before .before .before .before .before .before .before .before .before .before .before .before .before .before .before .before .before .before .before .before .before .before .before .before .before .before .loop in
-    let w = c .before .before .before .before .before .before .before .before .before .before .before .before .before .before .before .before .before .before .before .before .before .before .before .before .before .before .next-line in
-    let g = c .before .before .before .before .before .before .before .before .before .before .before .before .before .carry-out in (
+    let l = c .before .before .before .before .before .before .before .before .before .before .before .before .before .before .before .before .before .before .before .before .before .before .before .before .before .before .before .before .before .loop in
+    let w = c .before .before .before .before .before .before .before .before .before .before .before .before .before .before .before .before .before .before .before .before .before .before .before .before .before .next-line in
+    let g = c .before .before .before .before .before .before .before .before .before .before .before .before .carry-out in (
       w .ensures .0,
       omega (arith, w .ensures .1, w .kept .0),
       g .kept .1 .1 .0 ∙ l .inv .2,
@@ -78,7 +78,7 @@ loop-again c =
       g .kept .1 .1 .1 .1 .1 .0 ∙ l .inv .5,
       g .kept .1 .1 .1 .1 .1 .1 .0 ∙ l .inv .6,
       w .kept .0 ∙ l .inv .7,
-      w .kept .1 .1 .1 .0 ∙ l .inv .8,
+      w .kept .1 .1 .1 .1 .0 ∙ l .inv .8,
       limit-kept (storeOf (l .state) (l .spt) (l .«spt-dir») (l .tsp) (l .«tsp-dir»)) (l .prune) _ _ (g .ensures) ∙ l .inv .9,
     )
 
@@ -126,7 +126,7 @@ answer-lines-spec =
     slice-aggregate-carry-out
     carry-out-requires
     say-answer-requires
-    turns-left-requires
+    sub-turns
     loop-less
     loop-again
     same-length-8

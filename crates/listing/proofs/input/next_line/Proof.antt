@@ -1,8 +1,9 @@
--- `next_line` meets its contract: the part up to the newline, or what is read on behind it. Assumes nothing.
+-- `next_line` meets its contract: the part up to the newline; else, where the input has ended, the last line; else what is read on behind it. Assumes nothing.
 use native.Mathlib.Omega.{arith}
 use mathlib.Core.Path.{_≡_, refl, sym}
 use lib.ListN.{length, take}
 use lib.Seq.{length-take-le}
+use Rattle.laws.proofs.Truth.{clash}
 use Rattle.listing.proofs.InputLaws.{line-found}
 use borrow.Author.Needs.{needs}
 use Rattle.listing.proofs.input.next_line.Statement.{statement}
@@ -25,8 +26,8 @@ take-part-requires c κs =
     let e = length-take-le (a .end) (a .input .now) (p .pre .1) in
     (omega (arith, e, p .pre .0), omega arith)
 
-add-t11 : tie.Need-add-t11
-add-t11 c = search needs
+add-t12 : tie.Need-add-t12
+add-t12 c = search needs
 
 same-length : tie.Need-same-length
 same-length c = search needs
@@ -40,13 +41,13 @@ returns c =
     let a = p .args in
     let e = length-take-le (a .end) (a .input .now) (p .pre .1) in
     let w = c .before .before .before .before .before .take-part in
-    let t = c .before .if1 .taken in
     let k : length (w .last .1 .1 .0) ≡ length (a .line .now) = search needs in
-    let f = line-found (take (a .end) (a .input .now)) (a .line .now) (w .last .1 .1 .0) (a .at) (a .end) (w .result .stop) (w .result .length) (sym e) (w .ensures .0) (w .ensures .2) k (w .ensures .3) in
-    (omega (arith, t), p .pre .1, w .ensures .2, λ _. (f .0, f .1, refl))
+    let t = c .before .if1 .taken in
+    let f = line-found (take (a .end) (a .input .now)) (a .line .now) (w .last .1 .1 .0) (a .at) (a .end) (w .result .stop) (w .result .length) (a .ended) (sym e) (w .ensures .0) (w .ensures .2) k (w .ensures .3) in
+    (omega (arith, t), p .pre .1, w .ensures .2, λ _. (f .0, f .1, refl), λ _. refl)
 
-read-on-requires : tie.Need-read-on-requires
-read-on-requires c κs = search needs
+last-line-requires : tie.Need-last-line-requires
+last-line-requires c κs = search needs
 
 same-length-3 : tie.Need-same-length-3
 same-length-3 c = search needs
@@ -56,14 +57,35 @@ same-length-4 c = search needs
 
 returns-2 : tie.Need-returns-2
 returns-2 c =
-    let p = (c .before .before .before .before .before .before .before .before .before .before .before .before .before .before .before .before) in
+    let p = (c .before .before .before .before .before .before .before .before .before .before .before) in
     let a = p .args in
     let e = length-take-le (a .end) (a .input .now) (p .pre .1) in
-    let w = c .before .before .before .before .before .before .before .before .before .before .before .take-part in
-    let t = c .before .before .before .before .before .before .before .if1 .left in
-    let g = c .before .before .before .before .read-on in
+    let w = c .before .before .before .before .before .before .take-part in
     let k : length (w .last .1 .1 .0) ≡ length (a .line .now) = search needs in
-    (g .ensures .0, g .ensures .1, omega (arith, k, g .ensures .2), λ h. absurd (omega (arith, h, t, w .ensures .0, e)))
+    let t = c .before .before .if1 .left in
+    let g = c .last-line in
+    (omega (arith, g .ensures .0, g .ensures .1), omega (arith, g .ensures .1), omega (arith, g .ensures .2, w .ensures .2), λ h. absurd (omega (arith, h, t, w .ensures .0, e)), λ _. refl)
+
+read-on-requires : tie.Need-read-on-requires
+read-on-requires c κs = search needs
+
+same-length-5 : tie.Need-same-length-5
+same-length-5 c = search needs
+
+same-length-6 : tie.Need-same-length-6
+same-length-6 c = search needs
+
+returns-3 : tie.Need-returns-3
+returns-3 c =
+    let p = (c .before .before .before .before .before .before .before .before .before .before .before .before .before .before .before .before .before) in
+    let a = p .args in
+    let e = length-take-le (a .end) (a .input .now) (p .pre .1) in
+    let w = c .before .before .before .before .before .before .before .before .before .before .before .before .take-part in
+    let k : length (w .last .1 .1 .0) ≡ length (a .line .now) = search needs in
+    let t = c .before .before .before .before .before .before .before .before .if1 .left in
+    let o = c .before .before .before .before .before .before .before .if2 .left in
+    let g = c .before .before .before .before .read-on in
+    (g .ensures .0, g .ensures .1, omega (arith, k, g .ensures .2), λ h. absurd (omega (arith, h, t, w .ensures .0, e)), λ q. clash q o)
 
 pub next-line-spec : {M : Type 1} → statement M
 next-line-spec =
@@ -72,11 +94,15 @@ next-line-spec =
     slice-reshare-prefix-take-part
     slice-aggregate-take-part
     take-part-requires
-    add-t11
+    add-t12
     same-length
     same-length-2
     returns
-    read-on-requires
+    last-line-requires
     same-length-3
     same-length-4
-    returns-2)
+    returns-2
+    read-on-requires
+    same-length-5
+    same-length-6
+    returns-3)

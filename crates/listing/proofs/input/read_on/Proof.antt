@@ -20,8 +20,20 @@ loop-holds c = search needs
 read-full-requires : tie.Need-read-full-requires Inv-loop μ-loop
 read-full-requires c κs = search needs
 
-last-line-requires : tie.Need-last-line-requires Inv-loop μ-loop
-last-line-requires c κs = search needs
+slice-reshare-prefix-take-part : tie.Need-slice-reshare-prefix-take-part Inv-loop μ-loop
+slice-reshare-prefix-take-part c = search needs
+
+slice-aggregate-take-part : tie.Need-slice-aggregate-take-part Inv-loop μ-loop
+slice-aggregate-take-part c =
+    let w = c .before .before .before .read-full in
+    let h : w .result ≤ length (w .last .1 .0) = search needs in
+    sym (length-take-le (w .result) (w .last .1 .0) h)
+
+take-part-requires : tie.Need-take-part-requires Inv-loop μ-loop
+take-part-requires c κs = (omega arith, c .before .before .before .before .before .before .before .loop .inv .0)
+
+add-t17 : tie.Need-add-t17 Inv-loop μ-loop
+add-t17 c = search needs
 
 same-length : tie.Need-same-length Inv-loop μ-loop
 same-length c = search needs
@@ -32,20 +44,8 @@ same-length-2 c = search needs
 returns : tie.Need-returns Inv-loop μ-loop
 returns c = search needs
 
-slice-reshare-prefix-take-part : tie.Need-slice-reshare-prefix-take-part Inv-loop μ-loop
-slice-reshare-prefix-take-part c = search needs
-
-slice-aggregate-take-part : tie.Need-slice-aggregate-take-part Inv-loop μ-loop
-slice-aggregate-take-part c =
-    let w = c .before .before .before .before .read-full in
-    let h : w .result ≤ length (w .last .1 .0) = search needs in
-    sym (length-take-le (w .result) (w .last .1 .0) h)
-
-take-part-requires : tie.Need-take-part-requires Inv-loop μ-loop
-take-part-requires c κs = (omega arith, c .before .before .before .before .before .before .before .before .loop .inv .0)
-
-add-t15 : tie.Need-add-t15 Inv-loop μ-loop
-add-t15 c = search needs
+last-line-requires : tie.Need-last-line-requires Inv-loop μ-loop
+last-line-requires c κs = search needs
 
 same-length-3 : tie.Need-same-length-3 Inv-loop μ-loop
 same-length-3 c = search needs
@@ -85,14 +85,14 @@ read-on-spec =
     μ-loop
     loop-holds
     read-full-requires
-    last-line-requires
-    same-length
-    same-length-2
-    returns
     slice-reshare-prefix-take-part
     slice-aggregate-take-part
     take-part-requires
-    add-t15
+    add-t17
+    same-length
+    same-length-2
+    returns
+    last-line-requires
     same-length-3
     same-length-4
     returns-2
