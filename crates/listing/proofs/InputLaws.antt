@@ -10,7 +10,8 @@ use borrow.Rule.Slice.PartMut.{putMid, midOf}
 use Rattle.laws.specs.Lists.{put, piece}
 use Rattle.laws.proofs.Lists.{Wrote, wrote-last}
 use Rattle.text.proofs.FieldLaws.{front-take}
-use Rattle.listing.specs.Input.{newline, partAt, extended, lineBytes, lineFound}
+use Rattle.listing.specs.Input.{newline, partAt, extended, lineBytes, lineFound, lastLine}
+use Rattle.listing.specs.declared.input.Line.{Line}
 
 -- What a writer leaves that was lent the buffer from n on.
 added : (line xs last : List ℕ) (n m : ℕ) → n ≤ length line → m ≡ length xs → n + m ≤ length line → last ≡ put xs (midOf n (length line - n) line)
@@ -41,10 +42,14 @@ part-is bytes at stop h =
     let e : stop - at ≡ length (partAt at bytes) = omega arith in
     ap (λ (k : ℕ). take k (drop at bytes)) e ∙ front-take newline (drop at bytes)
 
--- A line that was taken as one part, its newline right behind it.
-pub line-found : (bytes line after : List ℕ) (at end stop n : ℕ) (ended : Bool) → end ≡ length bytes → stop ≡ at + length (partAt at bytes) → n ≤ length line → length after ≡ length line
-    → take n after ≡ extended line 0 (partAt at bytes)
-    → (record { found = true; ended = ended; length = n; at = stop + 1; end = end } ≡ lineFound at bytes (length line) ended) × (take n after ≡ lineBytes at bytes (length line))
-line-found bytes line after at end stop n ended e s h l t =
-    let m : n ≡ length (lineBytes at bytes (length line)) = sym (length-take-le n after (omega arith)) ∙ ap length t in
-    (rw (e, s, ← m), t)
+-- A line that was taken as one part: its newline right behind it, or the last.
+module _ (bytes line after : List ℕ) (at n : ℕ) (h : n ≤ length line) (l : length after ≡ length line) (t : take n after ≡ extended line 0 (partAt at bytes)) where
+  part-length : n ≡ length (lineBytes at bytes (length line))
+  part-length = sym (length-take-le n after (omega arith)) ∙ ap length t
+
+  pub line-found : (end stop : ℕ) (ended : Bool) → end ≡ length bytes → stop ≡ at + length (partAt at bytes)
+      → (record { found = true; ended = ended; length = n; at = stop + 1; end = end } ≡ lineFound at bytes (length line) ended) × (take n after ≡ lineBytes at bytes (length line))
+  line-found end stop ended e s = (rw (e, s, ← part-length), t)
+
+  pub line-last : (r : Line) → r ≡ lastLine n → (r ≡ lastLine (length (lineBytes at bytes (length line)))) × (take (r .length) after ≡ lineBytes at bytes (length line))
+  line-last r e = (e ∙ ap lastLine part-length, ap (λ (x : Line). take (x .length) after) e ∙ t)

@@ -3,6 +3,7 @@ use Prim.Native.Nat.{ℕ, _+_, _<_}
 use mathlib.Core.Bool.{Bool, true}
 use mathlib.Core.List.{List, _++_}
 use lib.ListN.{length, take, drop}
+use lib.Dec.{ltb}
 use Rattle.text.specs.Fields.{front}
 use Rattle.listing.specs.declared.input.Line.{Line}
 
@@ -34,3 +35,7 @@ lineFound at bytes room ended = record {
   at = at + length (partAt at bytes) + 1;
   end = length bytes;
 }
+
+-- At the input's end: the last line, if it has bytes.
+abbrev pub lastLine : (length : ℕ) → Line
+lastLine n = record { found = ltb 0 n; ended = true; length = n; at = 0; end = 0 }

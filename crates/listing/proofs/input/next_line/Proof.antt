@@ -4,7 +4,7 @@ use mathlib.Core.Path.{_≡_, refl, sym}
 use lib.ListN.{length, take}
 use lib.Seq.{length-take-le}
 use Rattle.laws.proofs.Truth.{clash}
-use Rattle.listing.proofs.InputLaws.{line-found}
+use Rattle.listing.proofs.InputLaws.{line-found, line-last}
 use borrow.Author.Needs.{needs}
 use Rattle.listing.proofs.input.next_line.Statement.{statement}
 use Rattle.listing.proofs.input.next_line.Tie as tie
@@ -43,8 +43,8 @@ returns c =
     let w = c .before .before .before .before .before .take-part in
     let k : length (w .last .1 .1 .0) ≡ length (a .line .now) = search needs in
     let t = c .before .if1 .taken in
-    let f = line-found (take (a .end) (a .input .now)) (a .line .now) (w .last .1 .1 .0) (a .at) (a .end) (w .result .stop) (w .result .length) (a .ended) (sym e) (w .ensures .0) (w .ensures .2) k (w .ensures .3) in
-    (omega (arith, t), p .pre .1, w .ensures .2, λ _. (f .0, f .1, refl), λ _. refl)
+    let f = line-found (take (a .end) (a .input .now)) (a .line .now) (w .last .1 .1 .0) (a .at) (w .result .length) (w .ensures .2) k (w .ensures .3) (a .end) (w .result .stop) (a .ended) (sym e) (w .ensures .0) in
+    (omega (arith, t), p .pre .1, w .ensures .2, λ _. (f .0, f .1, refl), λ _ n. absurd (n (omega (arith, t, w .ensures .0, e))))
 
 last-line-requires : tie.Need-last-line-requires
 last-line-requires c κs = search needs
@@ -64,7 +64,8 @@ returns-2 c =
     let k : length (w .last .1 .1 .0) ≡ length (a .line .now) = search needs in
     let t = c .before .before .if1 .left in
     let g = c .last-line in
-    (omega (arith, g .ensures .0, g .ensures .1), omega (arith, g .ensures .1), omega (arith, g .ensures .2, w .ensures .2), λ h. absurd (omega (arith, h, t, w .ensures .0, e)), λ _. refl)
+    let f = line-last (take (a .end) (a .input .now)) (a .line .now) (w .last .1 .1 .0) (a .at) (w .result .length) (w .ensures .2) k (w .ensures .3) (g .result) (g .ensures .3) in
+    (omega (arith, g .ensures .0, g .ensures .1), omega (arith, g .ensures .1), omega (arith, g .ensures .2, w .ensures .2), λ h. absurd (omega (arith, h, t, w .ensures .0, e)), λ _ _. (f .0, f .1, refl))
 
 read-on-requires : tie.Need-read-on-requires
 read-on-requires c κs = search needs
@@ -85,7 +86,7 @@ returns-3 c =
     let t = c .before .before .before .before .before .before .before .before .if1 .left in
     let o = c .before .before .before .before .before .before .before .if2 .left in
     let g = c .before .before .before .before .read-on in
-    (g .ensures .0, g .ensures .1, omega (arith, k, g .ensures .2), λ h. absurd (omega (arith, h, t, w .ensures .0, e)), λ q. clash q o)
+    (g .ensures .0, g .ensures .1, omega (arith, k, g .ensures .2), λ h. absurd (omega (arith, h, t, w .ensures .0, e)), λ q _. clash q o)
 
 pub next-line-spec : {M : Type 1} → statement M
 next-line-spec =
