@@ -1,5 +1,6 @@
 -- Input in parts: a line's buffer has the line as far as it was read, cut to what the buffer holds.
 use Prim.Native.Nat.{ℕ, _+_, _<_}
+use mathlib.Core.Path.{_≡_}
 use mathlib.Core.Bool.{Bool, true}
 use mathlib.Core.List.{List, _++_}
 use lib.ListN.{length, take, drop}
@@ -39,3 +40,9 @@ lineFound at bytes room ended = record {
 -- At the input's end: the last line, if it has bytes.
 abbrev pub lastLine : (length : ℕ) → Line
 lastLine n = record { found = ltb 0 n; ended = true; length = n; at = 0; end = 0 }
+
+-- An answer with its line's bytes in the line's buffer, for which nothing was read.
+pub record Handed (answer : Line) (bytes : List ℕ) (given : Line) (line before after : List ℕ) : Type 0 where
+  pub answered : given ≡ answer
+  pub taken : take (given .length) line ≡ bytes
+  pub unread : after ≡ before

@@ -5,7 +5,7 @@ ghost use mathlib.Core.Path.{_≡_};
 ghost use mathlib.Core.Bool.{true};
 ghost use Prim.Native.Nat.{_+_, _≤_};
 ghost use lib.ListN.{length, take};
-ghost use Rattle.listing.specs.Input.{partAt, extended, Ended, lineBytes, lineFound, lastLine};
+ghost use Rattle.listing.specs.Input.{partAt, extended, Ended, lineBytes, lineFound, lastLine, Handed};
 
 // A line that was found: its bytes are in the line's buffer, cut to what that holds. Bytes from `at` to `end` of the input's buffer are
 // not looked at yet. Once the input has ended it is not read again.
@@ -90,7 +90,7 @@ fn read_on(input: &mut [u8], line: &mut [u8], so_far: usize) -> Line
 // The next line. Nothing is read if its newline is among the bytes that are not looked at yet, or if the input has ended.
 pub fn next_line(input: &mut [u8], at: usize, end: usize, ended: bool, line: &mut [u8]) -> Line
     requires { ⌜ (at ≤ end) × (end ≤ length (now input)) ⌝ }
-    ensures { λ r. ⌜ (r .at ≤ r .end) × (r .end ≤ length (now (input .entry))) × (r .length ≤ length (now (line .entry))) × (Ended at (take end (now (input .entry))) → (r ≡ lineFound at (take end (now (input .entry))) (length (now (line .entry))) ended) × (take (r .length) (now (line .exit)) ≡ lineBytes at (take end (now (input .entry))) (length (now (line .entry)))) × (now (input .exit) ≡ now (input .entry))) × (ended ≡ true → (Ended at (take end (now (input .entry))) → ⊥) → (r ≡ lastLine (length (lineBytes at (take end (now (input .entry))) (length (now (line .entry)))))) × (take (r .length) (now (line .exit)) ≡ lineBytes at (take end (now (input .entry))) (length (now (line .entry)))) × (now (input .exit) ≡ now (input .entry))) ⌝ }
+    ensures { λ r. ⌜ (r .at ≤ r .end) × (r .end ≤ length (now (input .entry))) × (r .length ≤ length (now (line .entry))) × (Ended at (take end (now (input .entry))) → Handed (lineFound at (take end (now (input .entry))) (length (now (line .entry))) ended) (lineBytes at (take end (now (input .entry))) (length (now (line .entry)))) r (now (line .exit)) (now (input .entry)) (now (input .exit))) × (ended ≡ true → (Ended at (take end (now (input .entry))) → ⊥) → Handed (lastLine (length (lineBytes at (take end (now (input .entry))) (length (now (line .entry)))))) (lineBytes at (take end (now (input .entry))) (length (now (line .entry)))) r (now (line .exit)) (now (input .entry)) (now (input .exit))) ⌝ }
 {
     let p = take_part(&input[..end], at, line, 0);
     if p.stop < end {

@@ -44,7 +44,7 @@ returns c =
     let k : length (w .last .1 .1 .0) ≡ length (a .line .now) = search needs in
     let t = c .before .if1 .taken in
     let f = line-found (take (a .end) (a .input .now)) (a .line .now) (w .last .1 .1 .0) (a .at) (w .result .length) (w .ensures .2) k (w .ensures .3) (a .end) (w .result .stop) (a .ended) (sym e) (w .ensures .0) in
-    (omega (arith, t), p .pre .1, w .ensures .2, λ _. (f .0, f .1, refl), λ _ n. absurd (n (omega (arith, t, w .ensures .0, e))))
+    (omega (arith, t), p .pre .1, w .ensures .2, λ _. record { answered = f .0; taken = f .1; unread = refl }, λ _ n. absurd (n (omega (arith, t, w .ensures .0, e))))
 
 last-line-requires : tie.Need-last-line-requires
 last-line-requires c κs = search needs
@@ -65,7 +65,7 @@ returns-2 c =
     let t = c .before .before .if1 .left in
     let g = c .last-line in
     let f = line-last (take (a .end) (a .input .now)) (a .line .now) (w .last .1 .1 .0) (a .at) (w .result .length) (w .ensures .2) k (w .ensures .3) (g .result) (g .ensures .3) in
-    (omega (arith, g .ensures .0, g .ensures .1), omega (arith, g .ensures .1), omega (arith, g .ensures .2, w .ensures .2), λ h. absurd (omega (arith, h, t, w .ensures .0, e)), λ _ _. (f .0, f .1, refl))
+    (omega (arith, g .ensures .0, g .ensures .1), omega (arith, g .ensures .1), omega (arith, g .ensures .2, w .ensures .2), λ h. absurd (omega (arith, h, t, w .ensures .0, e)), λ _ _. record { answered = f .0; taken = f .1; unread = refl })
 
 read-on-requires : tie.Need-read-on-requires
 read-on-requires c κs = search needs
