@@ -1,16 +1,17 @@
 -- A line's buffer as parts are added to it. Assumes nothing.
 use Prim.Native.Nat.{ℕ, _+_, _-_, _≤_, _<_}
 use mathlib.Core.Path.{_≡_, refl, sym, ap, _∙_}
-use mathlib.Core.List.{List, [], _∷_, _++_}
+use mathlib.Core.List.{List, _++_}
+use mathlib.Core.Bool.{Bool, true}
 use native.Mathlib.Omega.{arith}
 use lib.ListN.{length, take, drop, length-append, length-take}
 use lib.Seq.{take-all, take-at, length-take-le, take-append-add}
 use borrow.Rule.Slice.PartMut.{putMid, midOf}
 use Rattle.laws.specs.Lists.{put, piece}
 use Rattle.laws.proofs.Lists.{Wrote, wrote-last}
-use Rattle.text.specs.Fields.{front}
 use Rattle.text.proofs.FieldLaws.{front-take}
-use Rattle.listing.specs.Input.{newline, partAt, extended}
+use Rattle.listing.specs.Input.{newline, partAt, extended, lineBytes, lineFound, lastLine}
+use Rattle.listing.specs.declared.input.Line.{Line}
 
 -- What a writer leaves that was lent the buffer from n on.
 added : (line xs last : List ℕ) (n m : ℕ) → n ≤ length line → m ≡ length xs → n + m ≤ length line → last ≡ put xs (midOf n (length line - n) line)
@@ -40,3 +41,15 @@ pub part-is : (bytes : List ℕ) (at stop : ℕ) → stop ≡ at + length (partA
 part-is bytes at stop h =
     let e : stop - at ≡ length (partAt at bytes) = omega arith in
     ap (λ (k : ℕ). take k (drop at bytes)) e ∙ front-take newline (drop at bytes)
+
+-- A line that was taken as one part: its newline right behind it, or the last.
+module _ (bytes line after : List ℕ) (at n : ℕ) (h : n ≤ length line) (l : length after ≡ length line) (t : take n after ≡ extended line 0 (partAt at bytes)) where
+  part-length : n ≡ length (lineBytes at bytes (length line))
+  part-length = sym (length-take-le n after (omega arith)) ∙ ap length t
+
+  pub line-found : (end stop : ℕ) (ended : Bool) → end ≡ length bytes → stop ≡ at + length (partAt at bytes)
+      → (record { found = true; ended = ended; length = n; at = stop + 1; end = end } ≡ lineFound at bytes (length line) ended) × (take n after ≡ lineBytes at bytes (length line))
+  line-found end stop ended e s = (rw (e, s, ← part-length), t)
+
+  pub line-last : (r : Line) → r ≡ lastLine n → (r ≡ lastLine (length (lineBytes at bytes (length line)))) × (take (r .length) after ≡ lineBytes at bytes (length line))
+  line-last r e = (e ∙ ap lastLine part-length, ap (λ (x : Line). take (x .length) after) e ∙ t)

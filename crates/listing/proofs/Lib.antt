@@ -1,3 +1,4 @@
 pub mod CarryLaws
 pub mod InputLaws
+pub mod ListLaws
 pub mod SayLaws

@@ -1,3 +1,4 @@
 pub mod Carry
 pub mod Input
+pub mod List
 pub mod Say

@@ -1,21 +1,30 @@
 // At the end: how many entries there are, and each of them in key order.
-use crate::say::say_number;
-use crate::say::say_record;
+use crate::say::write_line;
+use crate::say::write_numbered;
 use data_model::area::Area;
 use data_model::area::AreaSubspace;
 use data_model::path::Path;
 use data_model::range::RangeEnd;
 use data_model::range::TimesRange;
 use query::answer::Listed;
+use query::check::no_flags;
 use query::count::count_area;
 use query::listing::query_area;
 use query::listing::query_area_place;
 use store::state::State;
 use tree::matching::QueryIgnoreParams;
-ghost use Prim.Native.Nat.{_≤_, _<_};
+ghost use mathlib.Core.Path.{_≡_};
+ghost use Prim.Native.Nat.{_≤_};
+ghost use lib.ListN.{length};
+ghost use Rattle.laws.specs.Lists.{put};
+ghost use Rattle.data_model.specs.Path.{field};
+ghost use Rattle.store.specs.Store.{storeOf};
+ghost use Rattle.listing.specs.List.{listTextMost, everyEntry, storeListed};
 
 // The area that includes every entry.
-fn everything() -> Area {
+fn everything() -> Area
+    ensures { λ r. ⌜ r ≡ everyEntry ⌝ }
+{
     let path = Path::new_empty();
     Area {
         subspace: AreaSubspace::Any,
@@ -27,37 +36,36 @@ fn everything() -> Area {
     }
 }
 
-// The place after a match. A match stands at or after the place that was asked for, and before the store's count: the two tests stand in
-// for the proof of that.
-fn after(place: usize, k: usize, count: usize) -> usize
-    requires { ⌜ place < count ⌝ }
-    ensures { λ r. ⌜ (place < r) × (r ≤ count) ⌝ }
+// The list of a store, into a buffer with room for one of its limit. There are as many matches as were counted.
+pub fn write_list(
+    state: State,
+    spt: &[u8],
+    spt_dir: &[u32],
+    tsp: &[u8],
+    tsp_dir: &[u32],
+    out: &mut [u8],
+) -> usize
+    requires { ⌜ listTextMost (state .limit) ≤ length (now out) ⌝ }
+    ensures { λ r. ⌜ (r ≡ length (storeListed field (storeOf state (now (spt .entry)) (now («spt_dir» .entry)) (now (tsp .entry)) (now («tsp_dir» .entry))))) × (r ≤ length (now (out .entry))) × (now (out .exit) ≡ put (storeListed field (storeOf state (now (spt .entry)) (now («spt_dir» .entry)) (now (tsp .entry)) (now («tsp_dir» .entry)))) (now (out .entry))) ⌝ }
 {
-    if k < place {
-        return count;
-    }
-    if count <= k {
-        return count;
-    }
-    k + 1
-}
-
-pub fn say_list(state: State, spt: &[u8], spt_dir: &[u32], tsp: &[u8], tsp_dir: &[u32]) {
     let area = everything();
-    let ignore = QueryIgnoreParams {
-        ignore_incomplete_payloads: false,
-        ignore_empty_payloads: false,
-    };
+    let ignore = no_flags();
     let counted = count_area(state, spt, spt_dir, tsp, tsp_dir, area);
-    say_number(b"list ", counted.count as u64);
-    let count = state.count;
+    if counted.refusal != 0 {
+        return 0;
+    }
+    let mut left = counted.count;
+    let mut at = write_numbered(b"list ", left as u64, out);
     let mut place: usize = 0;
-    while place < count {
+    while 0 < left {
         let l = query_area_place(state, spt, spt_dir, tsp, tsp_dir, area, ignore, place);
         let Listed::Match(k) = l else {
-            return;
+            return at;
         };
-        say_record(query_area(state, spt, spt_dir, tsp, tsp_dir, area, ignore, place));
-        place = after(place, k, count);
+        let rec = query_area(state, spt, spt_dir, tsp, tsp_dir, area, ignore, place);
+        at += write_line(rec, &mut out[at..]);
+        place = k + 1;
+        left -= 1;
     }
+    at
 }

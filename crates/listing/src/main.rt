@@ -1,14 +1,17 @@
 // The listing program: lines `in S P T L D` from standard input, each answered on a line; then what the store holds, in key order.
 use crate::carry::carry_out;
 use crate::input::next_line;
-use crate::list::say_list;
+use crate::list::write_list;
 use crate::say::say_answer;
+use libc::STDOUT_FILENO;
 use store::open::open;
 use store::state::RECORD_MOST;
 use store::state::State;
 use text::entry_line::LINE_MOST;
 ghost use mathlib.Core.Path.{_≡_};
+ghost use Prim.Native.Nat.{_≤_};
 ghost use lib.ListN.{length};
+ghost use Rattle.listing.specs.List.{listTextMost, programLimit};
 
 mod carry;
 mod input;
@@ -20,6 +23,13 @@ const LIMIT: usize = 64;
 const TREE: usize = RECORD_MOST * LIMIT;
 
 const NUMBERS: usize = 2 * LIMIT;
+
+// The most bytes of the list's first line, of an entry's line, and of the list of a full store.
+const HEAD_LINE: usize = 26;
+
+const ENTRY_LINE: usize = 321;
+
+const LIST: usize = HEAD_LINE + ENTRY_LINE * LIMIT;
 
 fn tree_bytes() -> [u8; TREE]
     ensures { λ r. ⌜ length r ≡ 26240 ⌝ }
@@ -33,7 +43,14 @@ fn numbers() -> [u32; NUMBERS]
     [0; NUMBERS]
 }
 
-// Answers every line of the input, and returns the state after the last.
+// Room for the list of a full store.
+fn list_bytes() -> [u8; LIST]
+    ensures { λ r. ⌜ length r ≡ listTextMost programLimit ⌝ }
+{
+    [0; LIST]
+}
+
+// Answers every line of the input, and returns the state after the last. The limit stays.
 fn answer_lines(
     opened: State,
     spt: &mut [u8],
@@ -43,18 +60,22 @@ fn answer_lines(
     prune: &mut [u32],
     input: &mut [u8],
     line: &mut [u8],
-) -> State {
+) -> State
+    ensures { λ r. ⌜ r .limit ≡ opened .limit ⌝ }
+{
     let mut state = opened;
     let mut at: usize = 0;
     let mut end: usize = 0;
+    let mut ended = false;
     let mut turns: u64 = 0xffff_ffff_ffff_ffff;
     while 0 < turns {
-        let l = next_line(input, at, end, line);
+        let l = next_line(input, at, end, ended, line);
         if !l.found {
             return state;
         }
         at = l.at;
         end = l.end;
+        ended = l.ended;
         let n = l.length;
         let a = carry_out(&line[..n], state, spt, spt_dir, tsp, tsp_dir, prune);
         let answer = a.answer;
@@ -64,6 +85,15 @@ fn answer_lines(
         turns -= 1;
     }
     state
+}
+
+// Prints the list of a store of at most the program's limit.
+fn say_list(state: State, spt: &[u8], spt_dir: &[u32], tsp: &[u8], tsp_dir: &[u32])
+    requires { ⌜ state .limit ≤ programLimit ⌝ }
+{
+    let mut out = list_bytes();
+    let n = write_list(state, spt, spt_dir, tsp, tsp_dir, &mut out);
+    io::write_all(STDOUT_FILENO, &out[..n]);
 }
 
 // The program over its buffers: the store's, the prune list, the input's and the line's.

@@ -4,16 +4,18 @@ use Prim.Native.Nat.{_≤_}
 use mathlib.Core.Path.{_≡_, sym, _∙_}
 use lib.ListN.{length}
 use lib.Seq.{length-take-le}
+use Rattle.store.specs.Store.{storeOf}
+use Rattle.listing.proofs.CarryLaws.{limit-kept}
 use borrow.Author.Needs.{needs}
 use Rattle.listing.proofs.answer_lines.Statement.{statement}
 use Rattle.listing.proofs.answer_lines.Tie as tie
 
 abbrev Inv-loop : tie.InvT-loop
-Inv-loop spt₀ spt-dir₀ tsp₀ tsp-dir₀ prune₀ input₀ line₀ state₀ at₀ end₀ turns₀ spt spt-dir tsp tsp-dir prune input line state at end turns =
-    (at ≤ end) × (end ≤ length input) × (length spt ≡ length spt₀) × (length spt-dir ≡ length spt-dir₀) × (length tsp ≡ length tsp₀) × (length tsp-dir ≡ length tsp-dir₀) × (length prune ≡ length prune₀) × (length input ≡ length input₀) × (length line ≡ length line₀)
+Inv-loop spt₀ spt-dir₀ tsp₀ tsp-dir₀ prune₀ input₀ line₀ state₀ at₀ end₀ ended₀ turns₀ spt spt-dir tsp tsp-dir prune input line state at end ended turns =
+    (at ≤ end) × (end ≤ length input) × (length spt ≡ length spt₀) × (length spt-dir ≡ length spt-dir₀) × (length tsp ≡ length tsp₀) × (length tsp-dir ≡ length tsp-dir₀) × (length prune ≡ length prune₀) × (length input ≡ length input₀) × (length line ≡ length line₀) × (state .limit ≡ state₀ .limit)
 
 abbrev μ-loop : tie.MeasureT-loop
-μ-loop spt₀ spt-dir₀ tsp₀ tsp-dir₀ prune₀ input₀ line₀ state₀ at₀ end₀ turns₀ spt spt-dir tsp tsp-dir prune input line state at end turns = turns
+μ-loop spt₀ spt-dir₀ tsp₀ tsp-dir₀ prune₀ input₀ line₀ state₀ at₀ end₀ ended₀ turns₀ spt spt-dir tsp tsp-dir prune input line state at end ended turns = turns
 
 loop-holds : tie.Need-loop-holds Inv-loop μ-loop
 loop-holds c = search needs
@@ -43,13 +45,13 @@ same-length-7 : tie.Need-same-length-7 Inv-loop μ-loop
 same-length-7 c = search needs
 
 returns : tie.Need-returns Inv-loop μ-loop
-returns c = search needs
+returns c = let l = c .before .before .before .before .before .before .before .before .before .before .loop in l .inv .9
 
 slice-reshare-prefix-carry-out : tie.Need-slice-reshare-prefix-carry-out Inv-loop μ-loop
 slice-reshare-prefix-carry-out c = search needs
 
 slice-aggregate-carry-out : tie.Need-slice-aggregate-carry-out Inv-loop μ-loop
-slice-aggregate-carry-out c = let w = c .before .before .before .before .before .before .before .next-line in sym (length-take-le (w .result .length) (w .last .1 .1 .1 .0) (omega (arith, w .kept .1 .1 .1 .0, w .ensures .2)))
+slice-aggregate-carry-out c = let w = c .before .before .before .before .before .before .before .next-line in sym (length-take-le (w .result .length) (w .last .1 .1 .1 .1 .0) (omega (arith, w .kept .1 .1 .1 .1 .0, w .ensures .2)))
 
 carry-out-requires : tie.Need-carry-out-requires Inv-loop μ-loop
 carry-out-requires c κs = search needs
@@ -76,7 +78,8 @@ loop-again c =
       g .kept .1 .1 .1 .1 .1 .0 ∙ l .inv .5,
       g .kept .1 .1 .1 .1 .1 .1 .0 ∙ l .inv .6,
       w .kept .0 ∙ l .inv .7,
-      w .kept .1 .1 .1 .0 ∙ l .inv .8,
+      w .kept .1 .1 .1 .1 .0 ∙ l .inv .8,
+      limit-kept (storeOf (l .state) (l .spt) (l .«spt-dir») (l .tsp) (l .«tsp-dir»)) (l .prune) _ _ (g .ensures) ∙ l .inv .9,
     )
 
 same-length-8 : tie.Need-same-length-8 Inv-loop μ-loop
@@ -101,7 +104,7 @@ same-length-14 : tie.Need-same-length-14 Inv-loop μ-loop
 same-length-14 c = search needs
 
 returns-2 : tie.Need-returns-2 Inv-loop μ-loop
-returns-2 c = search needs
+returns-2 c = let l = c .before .loop in l .inv .9
 
 pub answer-lines-spec : {M : Type 1} → statement M
 answer-lines-spec =

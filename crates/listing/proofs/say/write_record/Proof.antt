@@ -52,7 +52,7 @@ unfolding recordText
 returns c =
     let e = says (c .before .before .before .before .before) .1 in
     let w = c .before .before .write-entry in
-    (w .ensures .0 ∙ ap (λ (x : Entry). length (entryText x)) e, w .ensures .1 ∙ ap (λ (x : Entry). put (entryText x) ((c .before .before .before .before .before .before .before .before .before .before) .args .out .now)) e)
+    (w .ensures .0 ∙ ap (λ (x : Entry). length (entryText x)) e, w .ensures .1, w .ensures .2 ∙ ap (λ (x : Entry). put (entryText x) ((c .before .before .before .before .before .before .before .before .before .before) .args .out .now)) e)
 
 pub write-record-spec : {M : Type 1} → statement M
 write-record-spec =
