@@ -1,4 +1,4 @@
--- How a line carried out ends. Assumes nothing.
+-- How a line carried out ends, and that the limit stays. Assumes nothing.
 use Prim.Native.Nat.{ℕ, _≤_}
 use mathlib.Core.Path.{_≡_, refl, sym, ap, _∙_}
 use mathlib.Core.List.{List}

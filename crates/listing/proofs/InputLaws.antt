@@ -1,4 +1,4 @@
--- A line's buffer as parts are added to it. Assumes nothing.
+-- A line's buffer as parts are added to it; a line that is one part. Assumes nothing.
 use Prim.Native.Nat.{ℕ, _+_, _-_, _≤_, _<_}
 use mathlib.Core.Path.{_≡_, refl, sym, ap, _∙_}
 use mathlib.Core.List.{List, _++_}

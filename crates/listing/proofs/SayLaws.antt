@@ -1,4 +1,4 @@
--- What a record says, as it is handed out; an answer's text. Assumes nothing.
+-- What a record says, as it is handed out, and its most bytes; an answer's text. Assumes nothing.
 use Prim.Native.Nat.{ℕ, _-_, _≤_}
 use mathlib.Core.Path.{_≡_, sym, ap, ap₂, _∙_}
 use native.Mathlib.Omega.{arith}
