@@ -7,9 +7,9 @@ pub mod Refused
 pub mod Stands
 pub mod Openings
 pub mod Reached
+pub mod Kept
 pub mod Proved
 pub mod AnyOrder
-pub mod Kept
 pub mod Resent
 pub mod Meant
 pub mod Lines

@@ -22,6 +22,7 @@ use Rattle.store.proofs.Lifted.{held-in, fit-length, fit-ascends}
 use Rattle.convergence.proofs.Refused.{state-told, own-kind}
 use Rattle.convergence.proofs.Stands.{Stands, stands-well, opens-stands}
 use Rattle.convergence.proofs.Openings.{opens-right}
+use Rattle.convergence.proofs.Kept.{refused-leaves}
 use Rattle.convergence.proofs.Reached.{left-stands, left-keeps, history-right, settled-left}
 
 module _ (f : Figures) where
@@ -112,6 +113,7 @@ module _ (f : Figures) where
     sound = λ o h cs w. sound (leaves f o cs) (reached o h cs w);
     opening-right = opens-right f;
     answers-to = own-kind f;
+    refused-leaves = refused-leaves f;
     told = state-told f;
   }
 

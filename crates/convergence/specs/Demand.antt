@@ -130,6 +130,7 @@ pub record Demand3 (f : Figures) (m : Steps) : Type 0 where
   pub sound : (o : Opening) → OpenedBy m o → (cs : List Call) → AreValues f cs → Sound f (leavesBy m o cs)
   -- An opening is refused exactly where 01 says so, and else leaves a store that holds nothing.
   pub opening-right : (o : Opening) → OpeningRight f o (m .opening o)
-  -- Every call is answered in its kind, and every answer tells the state of the store that is left.
+  -- Every call is answered in its kind, a refused one leaves the store that it was handed, and every answer tells the state of the store that is left.
   pub answers-to : (s : Store) (c : Call) → AnswersTo c (m .answers s c)
+  pub refused-leaves : (s : Store) (c : Call) → (refusalIn (m .answers s c) ≡ 0 → ⊥) → m .leaves s c ≡ s
   pub told : (s : Store) (c : Call) → stateIn (m .answers s c) ≡ m .leaves s c .state

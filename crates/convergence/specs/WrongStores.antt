@@ -1,4 +1,4 @@
--- The wrong stores of 01's marking rule c: `shut-out` refutes demand 3 of each, and `demand-3` proves it of ours.
+-- The wrong stores of 01's marking rule c: `shut-out` refutes demand 3 of each, of the made-up count `CountsRight`; of ours both are proved.
 use Prim.Native.Nat.{ℕ, _+_}
 use mathlib.Core.Path.{_≡_}
 use mathlib.Core.Bool.{Bool, cond}

@@ -52,6 +52,15 @@ module _ (s : Store) (ps : List Pair) (e : EntryValue) (token : List ℕ) (preve
       go (obsolete x) g = unfold carried in pairs-again ps
       go take-it g = unfold carried in absurd (g (removedBy s e) refl)
 
+  -- Answer and store are the core's, handed the pairs' numbers.
+  pub same-answer : pairsIngested field s ps e token prevent .answer ≡ ingested field s (numbersOf ps) e token prevent .answer
+  unfolding pairsIngested
+  same-answer = refl
+
+  pub same-store : pairsIngested field s ps e token prevent .store ≡ ingested field s (numbersOf ps) e token prevent .store
+  unfolding pairsIngested
+  same-store = refl
+
   -- 2 comes behind 1: the limit is one of 1 to 1,024.
   pub short-refused : limitOk (s .state .limit) ≡ true → length ps < s .state .limit → pairsIngested field s ps e token prevent .answer ≡ plainAnswer (verdict.Refused shortBuffer) (s .state)
   unfolding pairsIngested ingested judged carried ingestRefusal storeRefusal unless _orElse_

@@ -48,6 +48,6 @@ pairsOutcome r a b c d pairs = record { answer = r; store = storeOf (r .state) a
 abbrev pub inPairs : IngestOutcome → PairsOutcome
 inPairs c = record { answer = c .answer; store = c .store; pairs = pairsOf (c .prune) }
 
--- The pairs lent are the prune list: 2 if they are fewer than the limit, and nothing past the new pairs is touched.
+-- The pairs lent are the prune list: with a right limit, 2 if they are fewer than it; and nothing past the new pairs is touched.
 unfoldable pub pairsIngested : Figures → Store → List Pair → EntryValue → (token : List ℕ) → (prevent : Bool) → PairsOutcome
 pairsIngested f s pairs e token prevent = inPairs (ingested f s (numbersOf pairs) e token prevent)
