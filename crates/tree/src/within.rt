@@ -90,15 +90,19 @@ fn slot(time: u64) -> usize
     (time % (SLOTS as u64)) as usize
 }
 
+fn wide(x: u16) -> usize {
+    x as usize
+}
+
 // The first place of each time.
-fn first_places(count: usize, tsp_dir: &[u32], tsp: &[u8], next: &mut [usize])
+fn first_places(count: usize, tsp_dir: &[u32], tsp: &[u8], next: &mut [u16])
     requires { ⌜ (Formed Tsp count (now «tsp_dir») (now tsp)) × (slots ≤ length (now next)) ⌝ }
 {
     let mut k = count;
     while 0 < k {
         k -= 1;
         let at = slot(time_at(KeyOrder::Tsp, count, tsp_dir, tsp, k));
-        next[at] = k;
+        next[at] = (k % 0x10000) as u16;
     }
 }
 
@@ -130,7 +134,7 @@ fn within_by(
     spt: &[u8],
     tsp_dir: &[u32],
     tsp: &[u8],
-    next: &mut [usize],
+    next: &mut [u16],
 ) -> bool
     requires { ⌜ (Formed Spt count (now «spt_dir») (now spt)) × (Formed Tsp count (now «tsp_dir») (now tsp)) × (slots ≤ length (now next)) ⌝ }
     ensures { λ r. ⌜ r ≡ within (contents Spt field namespace (records count (now («spt_dir» .entry)) (now (spt .entry)))) (contents Tsp field namespace (records count (now («tsp_dir» .entry)) (now (tsp .entry)))) ⌝ }
@@ -139,10 +143,10 @@ fn within_by(
     while k < count {
         let at = slot(time_at(KeyOrder::Spt, count, spt_dir, spt, k));
         let j = next[at];
-        if !stands_near(namespace, count, spt_dir, spt, tsp_dir, tsp, k, j) {
+        if !stands_near(namespace, count, spt_dir, spt, tsp_dir, tsp, k, wide(j)) {
             return false;
         }
-        next[at] = j % 65536 + 1;
+        next[at] = j % 0xffff + 1;
         k += 1;
     }
     true
@@ -159,7 +163,7 @@ pub fn within(
     requires { ⌜ (Formed Spt count (now «spt_dir») (now spt)) × (Formed Tsp count (now «tsp_dir») (now tsp)) ⌝ }
     ensures { λ r. ⌜ r ≡ within (contents Spt field namespace (records count (now («spt_dir» .entry)) (now (spt .entry)))) (contents Tsp field namespace (records count (now («tsp_dir» .entry)) (now (tsp .entry)))) ⌝ }
 {
-    let mut next = [0usize; SLOTS];
+    let mut next = [0u16; SLOTS];
     first_places(count, tsp_dir, tsp, &mut next);
     within_by(namespace, count, spt_dir, spt, tsp_dir, tsp, &mut next)
 }

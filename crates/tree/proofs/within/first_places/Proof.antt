@@ -25,6 +25,9 @@ time-at-requires c κs = (c .before .before .before .before .before .pre .0, ome
 slot-requires : tie.Need-slot-requires Inv-loop μ-loop
 slot-requires c κs = search needs
 
+cast-next : tie.Need-cast-next Inv-loop μ-loop
+cast-next c = omega arith
+
 mul-next : tie.Need-mul-next Inv-loop μ-loop
 mul-next c = search needs
 
@@ -44,4 +47,4 @@ returns : tie.Need-returns Inv-loop μ-loop
 returns c = search needs
 
 pub first-places-spec : {M : Type 1} → statement M
-first-places-spec = tie.close (tie.spec Inv-loop μ-loop loop-holds sub-k time-at-requires slot-requires mul-next slice-write-next loop-less loop-again same-length returns)
+first-places-spec = tie.close (tie.spec Inv-loop μ-loop loop-holds sub-k time-at-requires slot-requires cast-next mul-next slice-write-next loop-less loop-again same-length returns)

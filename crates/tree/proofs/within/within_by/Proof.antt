@@ -35,14 +35,17 @@ mul-j c = search needs
 slice-read-j : tie.Need-slice-read-j Inv-loop μ-loop
 slice-read-j c = omega (arith, c .before .slot .ensures, c .before .before .before .before .before .before .before .before .before .before .pre .2, c .before .before .before .before .loop .inv .1)
 
+wide-requires : tie.Need-wide-requires Inv-loop μ-loop
+wide-requires c κs = search needs
+
 stands-near-requires : tie.Need-stands-near-requires Inv-loop μ-loop
-stands-near-requires c κs = (c .before .before .before .before .before .before .before .before .before .before .pre .0, c .before .before .before .before .before .before .before .before .before .before .pre .1, omega arith)
+stands-near-requires c κs = (c .before .before .before .before .before .before .before .before .before .before .before .pre .0, c .before .before .before .before .before .before .before .before .before .before .before .pre .1, omega arith)
 
 same-length : tie.Need-same-length Inv-loop μ-loop
-same-length c = omega (arith, c .before .before .before .before .before .before .loop .inv .1)
+same-length c = omega (arith, c .before .before .before .before .before .before .before .loop .inv .1)
 
 returns : tie.Need-returns Inv-loop μ-loop
-returns c = within-stop (c .before .before .before .before .before .before .before .before .before .before .before .before .pre .0) (c .before .before .before .before .before .before .before .before .before .before .before .before .args .namespace) _ (c .before .before .before .before .before .before .loop .k) (c .before .before .before .before .before .before .loop .inv .2) (omega arith) (c .before .stands-near .result) (c .before .stands-near .ensures) (not-true _ (c .if1 .taken))
+returns c = within-stop (c .before .before .before .before .before .before .before .before .before .before .before .before .before .pre .0) (c .before .before .before .before .before .before .before .before .before .before .before .before .before .args .namespace) _ (c .before .before .before .before .before .before .before .loop .k) (c .before .before .before .before .before .before .before .loop .inv .2) (omega arith) (c .before .stands-near .result) (c .before .stands-near .ensures) (not-true _ (c .if1 .taken))
 
 add-next : tie.Need-add-next Inv-loop μ-loop
 add-next c = search needs
@@ -51,7 +54,7 @@ mul-next : tie.Need-mul-next Inv-loop μ-loop
 mul-next c = search needs
 
 slice-write-next : tie.Need-slice-write-next Inv-loop μ-loop
-slice-write-next c = omega (arith, c .before .before .before .slot .ensures, c .before .before .before .before .before .before .before .before .before .before .before .before .pre .2, c .before .before .before .before .before .before .loop .inv .1)
+slice-write-next c = omega (arith, c .before .before .before .before .slot .ensures, c .before .before .before .before .before .before .before .before .before .before .before .before .before .pre .2, c .before .before .before .before .before .before .before .loop .inv .1)
 
 add-k : tie.Need-add-k Inv-loop μ-loop
 add-k c = omega arith
@@ -60,7 +63,7 @@ loop-less : tie.Need-loop-less Inv-loop μ-loop
 loop-less c = omega arith
 
 loop-again : tie.Need-loop-again Inv-loop μ-loop
-loop-again c = (omega arith, simp length-set (omega (arith, c .before .before .before .before .before .before .loop .inv .1)), within-turn (c .before .before .before .before .before .before .before .before .before .before .before .before .pre .0) (c .before .before .before .before .before .before .before .before .before .before .before .before .args .namespace) _ (c .before .before .before .before .before .before .loop .k) (c .before .before .before .before .before .before .loop .inv .2) (omega arith) (c .before .stands-near .result) (c .before .stands-near .ensures) (not-false _ (c .if1 .left)))
+loop-again c = (omega arith, simp length-set (omega (arith, c .before .before .before .before .before .before .before .loop .inv .1)), within-turn (c .before .before .before .before .before .before .before .before .before .before .before .before .before .pre .0) (c .before .before .before .before .before .before .before .before .before .before .before .before .before .args .namespace) _ (c .before .before .before .before .before .before .before .loop .k) (c .before .before .before .before .before .before .before .loop .inv .2) (omega arith) (c .before .stands-near .result) (c .before .stands-near .ensures) (not-false _ (c .if1 .left)))
 
 same-length-2 : tie.Need-same-length-2 Inv-loop μ-loop
 same-length-2 c = omega (arith, c .before .loop .inv .1)
@@ -69,4 +72,4 @@ returns-2 : tie.Need-returns-2 Inv-loop μ-loop
 returns-2 c = within-end (c .before .before .before .before .before .before .before .pre .0) (c .before .before .before .before .before .before .before .args .namespace) _ (c .before .loop .k) (c .before .loop .inv .2) (omega arith)
 
 pub within-by-spec : {M : Type 1} → statement M
-within-by-spec = tie.close (tie.spec Inv-loop μ-loop loop-holds time-at-requires slot-requires mul-j slice-read-j stands-near-requires same-length returns add-next mul-next slice-write-next add-k loop-less loop-again same-length-2 returns-2)
+within-by-spec = tie.close (tie.spec Inv-loop μ-loop loop-holds time-at-requires slot-requires mul-j slice-read-j wide-requires stands-near-requires same-length returns add-next mul-next slice-write-next add-k loop-less loop-again same-length-2 returns-2)
