@@ -16,7 +16,7 @@ ghost use lib.ListN.{length};
 ghost use Rattle.data_model.specs.Path.{field, legal, legalEnds, cut, components, byBytes, byComponents, samePath, isPrefix};
 ghost use Rattle.laws.specs.Order.{isGreater};
 ghost use Rattle.laws.specs.Prefix.{sameList, sameNumber};
-ghost use Rattle.data_model.specs.Entry.{entryOf, byRank, prunes};
+ghost use Rattle.data_model.specs.Entry.{covers, entryOf, byRank, prunes};
 ghost use Rattle.data_model.specs.Range.{legalRange, pathsInclude};
 ghost use Rattle.data_model.specs.Range3d.{rangeIncludes};
 ghost use Rattle.data_model.specs.Area.{areaIncludes};
@@ -132,9 +132,10 @@ pub fn is_newer_than(a: Rank, b: Rank) -> bool
     is_greater(a.cmp(b))
 }
 
-pub fn prunes(a: Entry, b: Entry) -> bool
+// Whether the first covers the second: of one namespace and subspace, its path the other's or a prefix of it.
+pub fn covers(a: Entry, b: Entry) -> bool
     requires { ⌜ (legal field (a .path) ≡ true) × (legal field (b .path) ≡ true) ⌝ }
-    ensures { λ r. ⌜ r ≡ prunes (entryOf a) (entryOf b) ⌝ }
+    ensures { λ r. ⌜ r ≡ covers (entryOf a) (entryOf b) ⌝ }
 {
     let m = a.namespace_id;
     let n = b.namespace_id;
@@ -148,7 +149,14 @@ pub fn prunes(a: Entry, b: Entry) -> bool
     }
     let p = a.path;
     let q = b.path;
-    if !is_prefix_of(p, q) {
+    is_prefix_of(p, q)
+}
+
+pub fn prunes(a: Entry, b: Entry) -> bool
+    requires { ⌜ (legal field (a .path) ≡ true) × (legal field (b .path) ≡ true) ⌝ }
+    ensures { λ r. ⌜ r ≡ prunes (entryOf a) (entryOf b) ⌝ }
+{
+    if !covers(a, b) {
         return false;
     }
     is_newer_than(a.rank(), b.rank())

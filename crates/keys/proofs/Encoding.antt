@@ -129,13 +129,3 @@ module _ (f : Figures) (l : Bool) (key old : List ℕ) where
       → (Written n ≡ encoded (roomy f old) l key) × (out ≡ encodedIn (roomy f old) l key old)
   unfolding roomy encoded encodedIn
   encode-done n out h e k o = simp (le-leb (keyMost f) (length old) h, e) (ap Written k, o)
-
-  -- What a caller learns of an encoding that was not refused.
-  pub encode-took : (n : ℕ) (out : List ℕ) → keyMost f ≤ length old → l ≡ true → Written n ≡ encoded (roomy f old) l key → out ≡ encodedIn (roomy f old) l key old
-      → (n ≡ length key) × (out ≡ put key old)
-  unfolding roomy encoded encodedIn
-  encode-took n out h e r o =
-      let q : leb (keyMost f) (length old) ≡ true = le-leb (keyMost f) (length old) h in
-      let a : Written n ≡ Written (length key) = simp (q, e) at r in
-      let b : out ≡ put key old = simp (q, e) at o in
-      (cc, b)

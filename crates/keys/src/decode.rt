@@ -2,6 +2,7 @@
 use crate::encode::COMPONENT_END;
 use crate::encode::ESCAPED_ZERO;
 use crate::encode::PATH_END;
+use crate::number::read_subspace;
 use crate::number::read_u64;
 use data_model::answer::NO_KEY;
 use data_model::parameters::Subspace;
@@ -14,7 +15,7 @@ ghost use Prim.Native.Nat.{_≤_, min};
 ghost use lib.ListN.{length, drop};
 ghost use Rattle.data_model.specs.Path.{field, sameComponent, joined, endsFrom};
 ghost use Rattle.keys.specs.Encode.{escaped};
-ghost use Rattle.keys.specs.Decode.{tokenOf, endsPath, readComponent, readComponents, readPath, partOf, Filled, refused, componentRead, pathRead, subspaceAt, readSpt, readTsp, decoded};
+ghost use Rattle.keys.specs.Decode.{tokenOf, endsPath, readComponent, readComponents, readPath, partOf, Filled, refused, componentRead, pathRead, readSpt, readTsp, decoded};
 
 // What stands at a position of a path's bytes.
 pub enum Token {
@@ -240,16 +241,6 @@ fn refused_path() -> PathRead
         refusal: NO_KEY,
         path,
         next: 0,
-    }
-}
-
-fn read_subspace(k: &[u8]) -> Subspace
-    requires { ⌜ 16 ≤ length (now k) ⌝ }
-    ensures { λ r. ⌜ r ≡ subspaceAt (now (k .entry)) ⌝ }
-{
-    Subspace {
-        high: read_u64(k),
-        low: read_u64(&k[8..]),
     }
 }
 

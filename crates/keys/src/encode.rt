@@ -1,4 +1,5 @@
 // Both keys of an entry, written (`encode_spt_entry_key` and `encode_tsp_entry_key` of the Rust).
+use crate::number::write_subspace;
 use crate::number::write_u64;
 use data_model::answer::ILLEGAL_PATH;
 use data_model::answer::SHORT_BUFFER;
@@ -12,7 +13,7 @@ ghost use Prim.Native.Nat.{_+_, _*_, _≤_};
 ghost use lib.ListN.{length};
 ghost use Rattle.laws.specs.Lists.{put};
 ghost use Rattle.data_model.specs.Path.{field, cut, components, legal, legalEnds};
-ghost use Rattle.keys.specs.Encode.{escaped, componentKey, pathKey, subspaceKey, triple, sptKey, tspKey, pathKeyMost, keyMost, roomy, encoded, encodedIn};
+ghost use Rattle.keys.specs.Encode.{escaped, componentKey, pathKey, triple, sptKey, tspKey, pathKeyMost, keyMost, roomy, encoded, encodedIn};
 
 // A component ends 00 01, a path 00 00, and a component's byte 00 is written 00 02.
 pub const COMPONENT_END: [u8; 2] = [0, 1];
@@ -90,14 +91,6 @@ fn encode_path(p: Path, out: &mut [u8]) -> usize
     let bytes = p.bytes;
     let ends = p.ends;
     encode_components(&bytes, &ends[..n], out)
-}
-
-fn write_subspace(s: Subspace, out: &mut [u8]) -> usize
-    requires { ⌜ 16 ≤ length (now out) ⌝ }
-    ensures { λ r. ⌜ (r ≡ 16) × (now (out .exit) ≡ put (subspaceKey s) (now (out .entry))) ⌝ }
-{
-    let n = write_u64(s.high, out);
-    n + write_u64(s.low, &mut out[n..])
 }
 
 // Subspace, path, timestamp: the path is encoded into the rest of the key's buffer.

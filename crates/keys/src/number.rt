@@ -1,10 +1,11 @@
-// Numbers as 8 bytes, big-endian, at the front of a slice: for the encoders and decoders here, and for the layers above.
+// Numbers as 8 bytes, big-endian, and subspaces, at the front of a slice: for the encoders and decoders here, and for the layers above.
+use data_model::parameters::Subspace;
 ghost use mathlib.Core.Path.{_≡_};
 ghost use Prim.Native.Nat.{_≤_, _<_};
 ghost use lib.ListN.{length};
 ghost use Rattle.laws.specs.Lists.{put};
-ghost use Rattle.keys.specs.Encode.{be};
-ghost use Rattle.keys.specs.Decode.{number};
+ghost use Rattle.keys.specs.Encode.{be, subspaceKey};
+ghost use Rattle.keys.specs.Decode.{number, subspaceAt};
 
 pub fn write_u64(x: u64, out: &mut [u8]) -> usize
     requires { ⌜ 8 ≤ length (now out) ⌝ }
@@ -42,4 +43,23 @@ pub fn read_u64(k: &[u8]) -> u64
     let h = ((b0 * 256 + b1) * 256 + b2) * 256 + b3;
     let l = ((b4 * 256 + b5) * 256 + b6) * 256 + b7;
     h * 0x1_0000_0000 + l
+}
+
+// The 16 bytes of a subspace.
+pub fn write_subspace(s: Subspace, out: &mut [u8]) -> usize
+    requires { ⌜ 16 ≤ length (now out) ⌝ }
+    ensures { λ r. ⌜ (r ≡ 16) × (now (out .exit) ≡ put (subspaceKey s) (now (out .entry))) ⌝ }
+{
+    let n = write_u64(s.high, out);
+    n + write_u64(s.low, &mut out[n..])
+}
+
+pub fn read_subspace(k: &[u8]) -> Subspace
+    requires { ⌜ 16 ≤ length (now k) ⌝ }
+    ensures { λ r. ⌜ r ≡ subspaceAt (now (k .entry)) ⌝ }
+{
+    Subspace {
+        high: read_u64(k),
+        low: read_u64(&k[8..]),
+    }
 }

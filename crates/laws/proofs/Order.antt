@@ -37,12 +37,6 @@ then-end less = refl
 then-end same = refl
 then-end greater = refl
 
-pub flip-flip : (a : Order) → flip (flip a) ≡ a
-unfolding flip
-flip-flip less = refl
-flip-flip same = refl
-flip-flip greater = refl
-
 pub flip-then : (a b : Order) → flip (a then b) ≡ flip a then flip b
 unfolding flip
 flip-then less b = refl

@@ -1,9 +1,8 @@
 -- A record put in at the place that a test counts is an insertion by the test. Assumes nothing.
 use mathlib.Core.Path.{_≡_, refl, ap}
-use mathlib.Core.List.{List, [], _∷_, List·Memᴰ·head as here, List·Memᴰ·tail as there, List·Memᴰ·not-nil as none-in, List·Memᴰ·cases-cons as uncons}
-use mathlib.Core.Logic.{_⊎_, inl, inr, ⊎-elim}
+use mathlib.Core.List.{List, [], _∷_, List·Memᴰ·head as here, List·Memᴰ·tail as there}
 use mathlib.Core.Bool.{Bool, true, false}
-use Prim.Native.Nat.{ℕ, zero, suc}
+use Prim.Native.Nat.{ℕ}
 use lib.ListN.{length}
 use Rattle.laws.specs.Sorted.{_∈_, keep, insert, Ascends}
 use Rattle.laws.proofs.Truth.{split, clash, refute}
@@ -13,21 +12,6 @@ pub keep-none : {A : Type 0} (p : A → Bool) (l : List A) → ((x : A) → x �
 unfolding keep
 keep-none p [] h = refl
 keep-none p (a ∷ l) h = rw (h a (here refl)) (keep-none p l λ x m. h x (there m))
-
-pub inserted-in : {x : List ℕ} (at : ℕ) (r : List ℕ) (l : List (List ℕ)) → x ∈ inserted at r l → (x ≡ r) ⊎ x ∈ l
-inserted-in zero r l m = uncons m
-inserted-in (suc at) r [] m = uncons m
-inserted-in (suc at) r (a ∷ l) m = ⊎-elim (λ e. inr (here e)) (λ n. ⊎-elim (λ e. inl e) (λ k. inr (there k)) (inserted-in at r l n)) (uncons m)
-
-pub inserted-new : (at : ℕ) (r : List ℕ) (l : List (List ℕ)) → r ∈ inserted at r l
-inserted-new zero r l = here refl
-inserted-new (suc at) r [] = here refl
-inserted-new (suc at) r (a ∷ l) = there (inserted-new at r l)
-
-pub inserted-old : {x : List ℕ} (at : ℕ) (r : List ℕ) (l : List (List ℕ)) → x ∈ l → x ∈ inserted at r l
-inserted-old zero r l m = there m
-inserted-old (suc at) r [] m = absurd (none-in m)
-inserted-old (suc at) r (a ∷ l) m = ⊎-elim (λ e. here e) (λ n. there (inserted-old at r l n)) (uncons m)
 
 module _ (test : List ℕ → List ℕ → Bool) (trans : (a b c : List ℕ) → test a b ≡ true → test b c ≡ true → test a c ≡ true)
     (irrefl : (a : List ℕ) → test a a ≡ false) (r : List ℕ) where

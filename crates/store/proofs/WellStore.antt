@@ -1,11 +1,11 @@
 -- A well-formed store of bytes, however it came about: the lists that it holds are fit, and its buffers bear them. Assumes nothing.
-use Prim.Native.Nat.{ℕ, zero, suc, _≤_}
+use Prim.Native.Nat.{ℕ, _≤_}
 use mathlib.Core.Path.{_≡_, refl, sym, ap, ap₂, subst, _∙_}
-use mathlib.Core.Logic.{⊎-elim, _↔_}
+use mathlib.Core.Logic.{_↔_}
 use mathlib.Core.Bool.{true, false, not, _&&_}
-use mathlib.Core.List.{List, [], _∷_, map, List·Memᴰ·head as here, List·Memᴰ·tail as there, List·Memᴰ·not-nil as none-in, List·Memᴰ·cases-cons as uncons}
+use mathlib.Core.List.{List, [], _∷_, map, List·Memᴰ·head as here, List·Memᴰ·tail as there}
 use native.Mathlib.Omega.{arith}
-use lib.ListN.{length, drop}
+use lib.ListN.{length}
 use lib.Seq.{length-take-le}
 use lib.Dec.{leb}
 use borrow.Author.Tests.{leb-true}
@@ -17,29 +17,19 @@ use Rattle.layout.specs.Layout.{records, treeBytes, dirNumbers}
 use Rattle.data_model.specs.Path.{Figures}
 use Rattle.data_model.specs.Entry.{prunes}
 use Rattle.key_laws.specs.Bytes.{Bytes}
-use Rattle.key_laws.proofs.Fits.{bytes-take, bytes-drop}
 use Rattle.tree.specs.Stored.{Stored, stored, contents, recordOf, orderIn, keyBelow}
 use Rattle.tree.specs.Tree.{within, WellFormed}
 use Rattle.tree.specs.Apart.{noPlaceTwice, nonePrunes}
 use Rattle.tree.specs.declared.stored.KeyOrder.{KeyOrder}
 use Rattle.tree.specs.declared.stored.KeyOrder.the-variants.{Spt, Tsp}
 use Rattle.tree.proofs.AgreeLaws.{within-view}
+use Rattle.tree.proofs.WithinLaws.{records-bytes}
 use Rattle.tree.proofs.RecordLaws.{Says, record-forth, record-ordered, contents-length, contents-view}
 use Rattle.tree.proofs.WellFormedLaws.{well-formed}
 use Rattle.store.specs.Store.{Store, treeRoom, dirRoom, treeOf, dirOf, held, wellFormedTree, sameEntries, wellFormedStore, heldBy}
 use Rattle.store.proofs.Meaning.{SoundHeld}
 use Rattle.store.proofs.Lifted.{Rooms, held-in, Bears, Fit}
 use Rattle.store.proofs.Recorded.{Proper, belowIn}
-
--- Records that are cut out of bytes are bytes.
-records-bytes : (n : ℕ) (dir tree : List ℕ) → Bytes tree → (r : List ℕ) → r ∈ records n dir tree → Bytes r
-records-bytes zero dir tree b r m = absurd (none-in m)
-records-bytes (suc n) [] tree b r m = absurd (none-in m)
-records-bytes (suc n) (o ∷ []) tree b r m = absurd (none-in m)
-records-bytes (suc n) (o ∷ l ∷ dir) tree b r m = ⊎-elim
-    (λ e. subst Bytes (sym e) (bytes-take l (drop o tree) (bytes-drop o tree b)))
-    (λ k. records-bytes n dir tree b r k)
-    (uncons m)
 
 -- What records say.
 module _ (f : Figures) (o : KeyOrder) (ns : List ℕ) where

@@ -4,15 +4,12 @@ use crate::hex::write_bytes_of;
 use crate::hex::write_hex;
 use crate::hex::write_hex_byte;
 use data_model::parameters::Subspace;
-use keys::number::read_u64;
-use keys::number::write_u64;
+use keys::number;
 ghost use mathlib.Core.Path.{_≡_};
 ghost use Prim.Native.Nat.{_≤_};
 ghost use lib.ListN.{length, getD};
 ghost use Rattle.laws.specs.Lists.{put};
 ghost use Rattle.laws.specs.Sorted.{all};
-ghost use Rattle.keys.specs.Encode.{subspaceKey};
-ghost use Rattle.keys.specs.Decode.{subspaceAt};
 ghost use Rattle.text.specs.Value.{subspaceField, digestField, noDigest, isShort, subspaceText, isFill, digestText};
 
 pub enum SubspaceRead {
@@ -31,25 +28,6 @@ fn wide(b: u8) -> u64
     b as u64
 }
 
-// All 16 bytes of a subspace, read and written.
-fn whole(k: &[u8]) -> Subspace
-    requires { ⌜ 16 ≤ length (now k) ⌝ }
-    ensures { λ r. ⌜ r ≡ subspaceAt (now (k .entry)) ⌝ }
-{
-    Subspace {
-        high: read_u64(k),
-        low: read_u64(&k[8..]),
-    }
-}
-
-fn write_whole(s: Subspace, out: &mut [u8]) -> usize
-    requires { ⌜ 16 ≤ length (now out) ⌝ }
-    ensures { λ r. ⌜ (r ≡ 16) × (now (out .exit) ≡ put (subspaceKey s) (now (out .entry))) ⌝ }
-{
-    let n = write_u64(s.high, out);
-    n + write_u64(s.low, &mut out[n..])
-}
-
 pub fn read_subspace(s: &[u8]) -> SubspaceRead
     ensures { λ r. ⌜ r ≡ subspaceField (now (s .entry)) ⌝ }
 {
@@ -65,7 +43,7 @@ pub fn read_subspace(s: &[u8]) -> SubspaceRead
     if s.len() == 32 {
         let mut all = [0u8; 16];
         write_bytes_of(s, &mut all);
-        return SubspaceRead::Is(whole(&all));
+        return SubspaceRead::Is(number::read_subspace(&all));
     }
     SubspaceRead::Bad
 }
@@ -120,7 +98,7 @@ pub fn write_subspace(s: Subspace, out: &mut [u8]) -> usize
         return write_hex_byte((s.low % 256) as u8, out);
     }
     let mut all = [0u8; 16];
-    write_whole(s, &mut all);
+    number::write_subspace(s, &mut all);
     write_hex(&all, out)
 }
 

@@ -1,14 +1,12 @@
 -- What a tree says after records were taken out, listed or put in, by what it said before. Assumes nothing.
 use mathlib.Core.Path.{_≡_, refl, sym, ap, _∙_}
-use mathlib.Core.List.{List, [], _∷_, _++_, map}
+use mathlib.Core.List.{List, [], _∷_, map}
 use mathlib.Core.Bool.{Bool, not}
-use Prim.Native.Nat.{ℕ, zero, suc}
-use lib.ListN.{take, drop}
+use Prim.Native.Nat.{ℕ}
 use Rattle.laws.specs.Lists.{put}
 use Rattle.laws.specs.Sorted.{keep}
-use Rattle.layout.specs.Layout.{inserted}
 use Rattle.layout.specs.Marks.{marksOf, kept, selected}
-use Rattle.layout.proofs.MarkLaws.{length-marks, kept-marks, selected-marks, kept-put, selected-put, marks-map, kept-map, selected-map}
+use Rattle.layout.proofs.MarkLaws.{length-marks, kept-marks, selected-marks, kept-put, selected-put, kept-map, selected-map}
 use Rattle.data_model.specs.Path.{Figures}
 use Rattle.tree.specs.Stored.{Stored, stored, contents}
 use Rattle.tree.specs.declared.stored.KeyOrder.{KeyOrder}
@@ -18,19 +16,11 @@ module _ (o : KeyOrder) (f : Figures) (ns : List ℕ) where
   contents-map [] = refl
   contents-map (r ∷ rs) = ap (stored o f ns r ∷_) (contents-map rs)
 
-  pub contents-marks : (p : Stored → Bool) (recs : List (List ℕ)) → marksOf p (contents o f ns recs) ≡ marksOf (λ (r : List ℕ). p (stored o f ns r)) recs
-  contents-marks p recs = ap (marksOf p) (contents-map recs) ∙ marks-map (stored o f ns) p recs
-
   pub contents-kept : (ms : List ℕ) (recs : List (List ℕ)) → contents o f ns (kept ms recs) ≡ kept ms (contents o f ns recs)
   contents-kept ms recs = contents-map (kept ms recs) ∙ sym (kept-map (stored o f ns) ms recs) ∙ ap (kept ms) (sym (contents-map recs))
 
   pub contents-selected : (ms : List ℕ) (recs : List (List ℕ)) → contents o f ns (selected ms recs) ≡ selected ms (contents o f ns recs)
   contents-selected ms recs = contents-map (selected ms recs) ∙ sym (selected-map (stored o f ns) ms recs) ∙ ap (selected ms) (sym (contents-map recs))
-
-  pub contents-inserted : (at : ℕ) (r : List ℕ) (recs : List (List ℕ)) → contents o f ns (inserted at r recs) ≡ take at (contents o f ns recs) ++ stored o f ns r ∷ drop at (contents o f ns recs)
-  contents-inserted zero r recs = refl
-  contents-inserted (suc at) r [] = refl
-  contents-inserted (suc at) r (x ∷ xs) = ap (stored o f ns x ∷_) (contents-inserted at r xs)
 
   -- With the marks of a test, in a buffer that may be longer.
   module _ (p : Stored → Bool) (recs : List (List ℕ)) (marks old : List ℕ) (e : marks ≡ put (marksOf p (contents o f ns recs)) old) where

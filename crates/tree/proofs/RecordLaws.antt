@@ -19,7 +19,7 @@ use Rattle.data_model.specs.Path.{Figures, isPath, samePath, byBytes}
 use Rattle.data_model.specs.Subspace.{sameSubspace}
 use Rattle.data_model.specs.Entry.{Entry}
 use Rattle.keys.specs.Encode.{be, Triple, keyMost}
-use Rattle.keys.specs.Decode.{Taken, refused, took, number}
+use Rattle.keys.specs.Decode.{Taken, refused, took, number, wasRead}
 use Rattle.keys.proofs.Encoding.{be-length}
 use Rattle.data_model.proofs.Orders.{component-equality, path-equality, subspace-equality}
 use Rattle.key_laws.specs.KeyOrder.{Sized}
@@ -30,7 +30,7 @@ use Rattle.key_laws.proofs.Inverse.{spt-back, tsp-back, spt-forth, tsp-forth}
 use Rattle.key_laws.proofs.Ordered.{spt-ordered, tsp-ordered, spt-apart, tsp-apart}
 use Rattle.key_laws.proofs.KeyLength.{spt-least, tsp-least, spt-most, tsp-most}
 use Rattle.tree.specs.Value.{valueLength, valueBytes, readValue, isValue}
-use Rattle.tree.specs.Stored.{keyIn, readIn, orderIn, keyOf, valuePart, keyBelow, wasTaken, isKey, isRecord, Stored, storedFrom, tripleRead, stored, contents, tripleOf, valueFor, recordOf, Lawful, sameEntry, sameStored}
+use Rattle.tree.specs.Stored.{keyIn, readIn, orderIn, keyOf, valuePart, keyBelow, isKey, isRecord, Stored, storedFrom, tripleRead, stored, contents, tripleOf, valueFor, recordOf, Lawful, sameEntry, sameStored}
 use Rattle.tree.specs.declared.value.Value.{Value}
 use Rattle.tree.specs.declared.stored.KeyOrder.{KeyOrder}
 use Rattle.tree.specs.declared.stored.KeyOrder.the-variants.{Spt, Tsp}
@@ -120,12 +120,12 @@ module _ (a b : Triple) (h : Sized a) (k : Sized b) where
   key-apart Tsp = tsp-apart a b h k
 
 pub key-is : (o : KeyOrder) (f : Figures) (t : Triple) → isPath f (t .path) ≡ true → Sized t → isKey o f (keyIn o t) ≡ true
-unfolding isKey wasTaken
-key-is o f t legal sized = ap wasTaken (key-back f t legal o sized)
+unfolding isKey wasRead
+key-is o f t legal sized = ap wasRead (key-back f t legal o sized)
 
 -- What was taken, as a triple.
-taken : (x : Taken Triple) → wasTaken x ≡ true → (n : ℕ) × (x ≡ took (tripleRead x) n)
-unfolding wasTaken tripleRead
+taken : (x : Taken Triple) → wasRead x ≡ true → (n : ℕ) × (x ≡ took (tripleRead x) n)
+unfolding wasRead tripleRead
 taken refused e = clash e refl
 taken (took t n) e = (n, refl)
 

@@ -1,5 +1,5 @@
 -- A record's parts, as the readers of a tree cut them out, and what is asked of each. Assumes nothing.
-use Prim.Native.Nat.{ℕ, zero, suc, _+_, _*_, _-_, _^_, _≤_, _<_}
+use Prim.Native.Nat.{ℕ, zero, suc, _+_, _*_, _-_, _≤_, _<_}
 use mathlib.Core.Path.{_≡_, refl, sym, ap, ap₂, _∙_}
 use mathlib.Core.List.{List, [], _∷_, _++_, append-assoc, append-nil}
 use mathlib.Core.Bool.{Bool, true, false}
@@ -23,13 +23,12 @@ use Rattle.data_model.specs.declared.parameters.Subspace.{Subspace}
 use Rattle.keys.specs.declared.encode.Encoded.{Encoded}
 use Rattle.keys.specs.declared.encode.Encoded.the-variants.{Written}
 use Rattle.keys.specs.declared.decode.Decoded.{Decoded}
-use Rattle.key_laws.specs.KeyOrder.{Sized}
 use Rattle.keys.proofs.Encoding.{be-length, legal-most}
 use Rattle.key_laws.proofs.KeyLength.{spt-length, tsp-length}
 use Rattle.key_laws.specs.Bytes.{Bytes}
-use Rattle.key_laws.proofs.Fits.{bytes-take, bytes-drop, legal-fits, legal-of, components-of}
+use Rattle.key_laws.proofs.Fits.{bytes-take, bytes-drop, legal-of, components-of}
 use Rattle.tree.specs.Value.{valueLength, valueBytes, readValue, isValue}
-use Rattle.tree.specs.Stored.{readIn, keyOf, valuePart, wasTaken, isKey, isRecord, Stored, storedFrom, tripleRead, stored, tripleOf, valueFor, recordOf, Lawful, lengthy, storedOf, keyIn, writtenLength}
+use Rattle.tree.specs.Stored.{readIn, keyOf, valuePart, isKey, isRecord, Stored, storedFrom, tripleRead, stored, tripleOf, valueFor, recordOf, lengthy, storedOf, keyIn, writtenLength}
 use Rattle.tree.specs.Tree.{InBounds}
 use Rattle.tree.specs.declared.value.Value.{Value}
 use Rattle.tree.specs.declared.stored.KeyOrder.{KeyOrder}
@@ -55,19 +54,14 @@ module _ (o : KeyOrder) (f : Figures) (k : List ℕ) (r : Decoded) where
   read-tsp e h = rw e h
 
 -- A key is judged in its order.
-was-taken : (t : Taken Triple) → wasRead t ≡ wasTaken t
-unfolding wasRead wasTaken
-was-taken refused = refl
-was-taken (took t u) = refl
-
 module _ (o : KeyOrder) (f : Figures) (k : List ℕ) (r : Bool) where
   pub judged-spt : o ≡ Spt → r ≡ wasRead (readSpt f k) → r ≡ isKey o f k
   unfolding isKey readIn
-  judged-spt e h = rw e (h ∙ was-taken (readSpt f k))
+  judged-spt e h = rw e h
 
   pub judged-tsp : o ≡ Tsp → r ≡ wasRead (readTsp f k) → r ≡ isKey o f k
   unfolding isKey readIn
-  judged-tsp e h = rw e (h ∙ was-taken (readTsp f k))
+  judged-tsp e h = rw e h
 
 pub value-read : (b last : List ℕ) (m n : ℕ) → last ≡ drop 104 b → m ≡ number last → n ≡ number b → leb m n ≡ isValue (readValue b)
 unfolding isValue readValue
@@ -177,22 +171,6 @@ stored-of s = λ i. record {
   entry = record { namespace = s .entry .namespace; subspace = s .entry .subspace; path = components-of (s .entry .path) i; rank = s .entry .rank };
   token = s .token;
   available = s .available;
-}
-
--- What a value says that is handed in: it is lawful if its path is legal and all of it is as the language has it.
-pub value-lawful : (f : Figures) (a : LengthyAuthorisedEntry) → legal f (a .entry .path) ≡ true → f .mpl ≤ length (a .entry .path .bytes) → Bytes (a .entry .path .bytes)
-    → Sized (tripleOf (storedOf a .entry)) → a .entry .«payload_length» < 2 ^ 64 → a .available < 2 ^ 64
-    → length (a .entry .«payload_digest») ≡ 32 → Bytes (a .entry .«payload_digest») → length (a .token) ≡ 64 → Bytes (a .token) → Lawful f (storedOf a)
-unfolding storedOf entryOf rankOf
-value-lawful f a h room bytes sized payload available digest digestBytes token tokenBytes = record {
-  path = legal-fits f (a .entry .path) room bytes h;
-  sized = sized;
-  payload = payload;
-  digest = digest;
-  digestBytes = digestBytes;
-  token = token;
-  tokenBytes = tokenBytes;
-  available = available;
 }
 
 pub stored-says : (o : KeyOrder) (ns : List ℕ) (k : ℕ) (dir tree key value : List ℕ) (r : LengthyAuthorisedEntry) → Bytes tree

@@ -3,9 +3,9 @@
 use mathlib.Core.Path.{_≡_, sym, ap, _∙_}
 use mathlib.Core.Bool.{Bool, true, false, not, _&&_}
 use lib.Dec.{eqb, ltb}
-use Rattle.laws.specs.Prefix.{sameNumber, sameList}
+use Rattle.laws.specs.Prefix.{sameNumber}
 use Rattle.laws.proofs.Truth.{not-true, not-false}
-use Rattle.data_model.specs.Path.{components, isPrefix, samePath}
+use Rattle.data_model.specs.Path.{components, samePath}
 use Rattle.data_model.specs.Subspace.{sameSubspace}
 use Rattle.data_model.specs.Entry.{rankOf, entryOf, newer, covers}
 use Rattle.data_model.specs.declared.entry.Entry.{Entry}
@@ -18,21 +18,6 @@ use Rattle.tree.specs.Apart.{samePlace}
 use Rattle.tree.specs.Matching.{removes, standsAt, inArea, inRange, isForgotten, letThrough, listedInArea, listedInRange}
 use Rattle.tree.specs.declared.stored.LengthyAuthorisedEntry.{LengthyAuthorisedEntry}
 use Rattle.tree.specs.declared.matching.QueryIgnoreParams.{QueryIgnoreParams}
-
--- Covers: of another namespace, of another subspace, by the paths.
-module _ (a b : Entry) (r : Bool) (n : r ≡ sameList sameNumber (a .«namespace_id») (b .«namespace_id»)) where
-  pub covers-elsewhere : not r ≡ true → false ≡ covers (entryOf a) (entryOf b)
-  unfolding covers entryOf
-  covers-elsewhere e = rw (sym n ∙ not-true r e)
-
-  pub covers-other : (q : Bool) → not r ≡ false → q ≡ sameSubspace (a .«subspace_id») (b .«subspace_id») → not q ≡ true → false ≡ covers (entryOf a) (entryOf b)
-  unfolding covers entryOf
-  covers-other q e s f = rw (sym n ∙ not-false r e, sym s ∙ not-true q f)
-
-  pub covers-paths : (q : Bool) → not r ≡ false → q ≡ sameSubspace (a .«subspace_id») (b .«subspace_id») → not q ≡ false
-      → (p : Bool) → p ≡ isPrefix (components (a .path)) (components (b .path)) → p ≡ covers (entryOf a) (entryOf b)
-  unfolding covers entryOf
-  covers-paths q e s f p h = rw (sym n ∙ not-false r e, sym s ∙ not-false q f) h
 
 -- One place: of another subspace, by the paths.
 module _ (a b : Entry) (q : Bool) (s : q ≡ sameSubspace (a .«subspace_id») (b .«subspace_id»)) where

@@ -1,25 +1,24 @@
 -- The test of a tree says what the record of facts does; and a tree is well-formed again after records were taken out or one was put in.
 -- Assumes nothing.
-use mathlib.Core.Path.{_≡_, ap, ap₂, _∙_}
-use mathlib.Core.Logic.{_↔_, ⊎-elim}
-use mathlib.Core.List.{List, [], List·Memᴰ·not-nil as none-in}
+use mathlib.Core.Path.{_≡_, ap, ap₂}
+use mathlib.Core.Logic.{_↔_}
+use mathlib.Core.List.{List}
 use mathlib.Core.Bool.{true, false, _&&_}
-use Prim.Native.Nat.{ℕ, _+_, _-_, _*_, _≤_, _<_, _^_}
+use Prim.Native.Nat.{ℕ, _-_, _*_, _≤_}
 use native.Mathlib.Omega.{arith}
 use lib.ListN.{length, replicate, length-append, length-replicate}
 use Rattle.laws.specs.Order.{isLess, isSame, below}
 use Rattle.laws.specs.Sorted.{_∈_, Ascends, insert}
-use Rattle.laws.proofs.Truth.{split, clash}
+use Rattle.laws.proofs.Truth.{clash}
 use Rattle.laws.proofs.Order.{three, greater-less}
-use Rattle.laws.proofs.Sorted.{all-view, any-none, insert-ascends}
+use Rattle.laws.proofs.Sorted.{all-view, any-none}
 use Rattle.layout.specs.Buffers.{filled}
 use Rattle.layout.specs.Layout.{records, joined, laidOut, treeBytes, dirNumbers, inserted}
 use Rattle.layout.specs.Marks.{kept}
 use Rattle.layout.proofs.LaidLaws.{Laid, laid, laid-out, after-dir, after-tree, after-records, after-test}
 use Rattle.laws.proofs.Sorted.{ascending-ascends, ascends-ascending, all-make}
 use Rattle.layout.proofs.MarkLaws.{kept-in, kept-ascends, length-kept-most, joined-kept}
-use Rattle.layout.proofs.InsertLaws.{length-inserted, joined-inserted}
-use Rattle.layout.proofs.PlaceLaws.{inserted-in, inserted-insert}
+use Rattle.layout.proofs.PlaceLaws.{inserted-insert}
 use Rattle.data_model.specs.Path.{Figures, field, byBytes}
 use Rattle.data_model.proofs.Orders.{bytes-linear}
 use Rattle.tree.specs.Stored.{keyOf, keyBelow, isRecord}
@@ -78,22 +77,6 @@ module _ {o : KeyOrder} {count : ℕ} {dir tree : List ℕ} (v : Formed o count 
             (rw e ascends);
       }
 
--- No records.
-none-ascend : Ascends keyBelow []
-unfolding Ascends
-none-ascend = tt
-
-pub open-formed : (o : KeyOrder) (dir tree dir′ tree′ : List ℕ) → length tree < 2 ^ 32 → dir′ ≡ dirNumbers (length dir) [] → tree′ ≡ treeBytes (length tree) [] → Formed o 0 dir′ tree′
-open-formed o dir tree dir′ tree′ s ed et =
-    let f : 2 * length {A = List ℕ} [] ≤ length dir = omega arith in
-    let r : length (joined []) ≤ length tree = omega arith in
-    let lt = after-tree [] dir tree f r dir′ tree′ ed et in
-    record {
-      few = omega arith;
-      small = omega arith;
-      well = well-make o field 0 dir′ tree′ (after-test [] dir tree f r dir′ tree′ ed et) (λ r m. absurd (none-in m)) none-ascend;
-    }
-
 module _ {o : KeyOrder} {count : ℕ} {dir tree : List ℕ} (v : Formed o count dir tree) (marks : List ℕ) where
   -- Records taken out.
   kept-few : 2 * length (kept marks (records count dir tree)) ≤ length dir
@@ -140,35 +123,3 @@ record-apart r recs h x m e = key-above x r e (any-none (λ (y : List ℕ). isSa
 pub insert-place : (r : List ℕ) (recs : List (List ℕ)) → Ascends keyBelow recs → hasKey (keyOf r) recs ≡ false → inserted (keysBelow (keyOf r) recs) r recs ≡ insert keyBelow r recs
 unfolding keysBelow below
 insert-place r recs a h = inserted-insert keyBelow key-trans key-irrefl r recs a (record-apart r recs h)
-
-module _ {o : KeyOrder} {count : ℕ} {dir tree : List ℕ} (v : Formed o count dir tree) (at : ℕ) (r : List ℕ)
-    (few : 2 * (count + 1) ≤ length dir) (room : length (joined (records count dir tree)) + length r ≤ length tree) where
-  inserted-few : 2 * length (inserted at r (records count dir tree)) ≤ length dir
-  inserted-few = let a = formed-laid v .many in omega (arith, length-inserted at r (records count dir tree))
-
-  inserted-room : length (joined (inserted at r (records count dir tree))) ≤ length tree
-  inserted-room = omega (arith, joined-inserted at r (records count dir tree))
-
-  module _ (dir′ tree′ : List ℕ) (ed : dir′ ≡ dirNumbers (length dir) (inserted at r (records count dir tree))) (et : tree′ ≡ treeBytes (length tree) (inserted at r (records count dir tree))) where
-    pub insert-formed : isRecord o field r ≡ true → at ≡ keysBelow (keyOf r) (records count dir tree) → hasKey (keyOf r) (records count dir tree) ≡ false
-        → Formed o (count + 1) dir′ tree′
-    insert-formed is place new =
-        let recs : List (List ℕ) = records count dir tree in
-        let n : length (inserted at r recs) ≡ count + 1 = omega (arith, length-inserted at r recs, formed-laid v .many) in
-        let s : Ascends keyBelow (inserted at r recs) =
-        rw (place, insert-place r recs (formed-ascends v) new) (insert-ascends keyBelow key-trans r recs (formed-ascends v) (λ x m e. split (keyBelow x r) (λ q. q) (λ q. clash (record-apart r recs new x m q) e))) in
-        rw (← n)
-        (formed-again v (inserted at r recs) inserted-few inserted-room
-        (λ x m. ⊎-elim (λ e. ap (isRecord o field) e ∙ is) (λ k. all-view (isRecord o field) recs (formed-all v) k) (inserted-in at r recs m))
-        s dir′ tree′ ed et)
-
-    pub insert-records : records (count + 1) dir′ tree′ ≡ inserted at r (records count dir tree)
-    insert-records =
-        let n : length (inserted at r (records count dir tree)) ≡ count + 1 = omega (arith, length-inserted at r (records count dir tree), formed-laid v .many) in
-        rw (← n) (after-records (inserted at r (records count dir tree)) dir tree inserted-few inserted-room dir′ tree′ ed et)
-
-    pub insert-length-dir : length dir′ ≡ length dir
-    insert-length-dir = after-dir (inserted at r (records count dir tree)) dir tree inserted-few inserted-room dir′ tree′ ed et
-
-    pub insert-length-tree : length tree′ ≡ length tree
-    insert-length-tree = after-tree (inserted at r (records count dir tree)) dir tree inserted-few inserted-room dir′ tree′ ed et

@@ -2,7 +2,7 @@
 use Prim.Native.Nat.{ℕ, _-_, _<_, _^_}
 use mathlib.Core.Path.{_≡_}
 use mathlib.Core.List.{List, [], _∷_, _++_}
-use mathlib.Core.Bool.{Bool, true, false, _&&_}
+use mathlib.Core.Bool.{Bool, true, _&&_}
 use lib.ListN.{length, take, drop, getD}
 use lib.Dec.{leb}
 use Rattle.laws.specs.Order.{Order, below, on}
@@ -11,7 +11,7 @@ use Rattle.data_model.specs.Path.{Figures, isPath, pathOf, samePath, byBytes}
 use Rattle.data_model.specs.Subspace.{firstSubspace, sameSubspace}
 use Rattle.data_model.specs.Entry.{Entry, entryOf}
 use Rattle.keys.specs.Encode.{Triple, triple, sptKey, tspKey}
-use Rattle.keys.specs.Decode.{Taken, refused, took, readSpt, readTsp}
+use Rattle.keys.specs.Decode.{Taken, refused, took, readSpt, readTsp, wasRead}
 use Rattle.keys.specs.declared.encode.Encoded.{Encoded}
 use Rattle.keys.specs.declared.encode.Encoded.the-variants.{Written, Refused}
 use Rattle.key_laws.specs.KeyOrder.{Sized, sptOrder, tspOrder}
@@ -46,13 +46,9 @@ valuePart r = drop (length r - valueLength) r
 abbrev pub keyBelow : List ℕ → List ℕ → Bool
 keyBelow = below (on keyOf byBytes)
 
-unfoldable pub wasTaken : Taken Triple → Bool
-wasTaken refused = false
-wasTaken (took t u) = true
-
 -- A record is a key that an encoder writes and a value.
 unfoldable pub isKey : KeyOrder → Figures → List ℕ → Bool
-isKey o f k = wasTaken (readIn o f k)
+isKey o f k = wasRead (readIn o f k)
 
 unfoldable pub isRecord : KeyOrder → Figures → List ℕ → Bool
 isRecord o f r = leb valueLength (length r) && (isKey o f (keyOf r) && isValue (readValue (valuePart r)))

@@ -51,19 +51,7 @@ pub fn covers(a: Entry, b: Entry) -> bool
     requires { ⌜ (legal field (a .path) ≡ true) × (legal field (b .path) ≡ true) ⌝ }
     ensures { λ r. ⌜ r ≡ covers (entryOf a) (entryOf b) ⌝ }
 {
-    let m = a.namespace_id;
-    let n = b.namespace_id;
-    if !checked::same_bytes(&m, &n) {
-        return false;
-    }
-    let s = a.subspace_id;
-    let t = b.subspace_id;
-    if !s.eq(t) {
-        return false;
-    }
-    let p = a.path;
-    let q = b.path;
-    checked::is_prefix_of(p, q)
+    checked::covers(a, b)
 }
 
 // Whether they are of one subspace and path.

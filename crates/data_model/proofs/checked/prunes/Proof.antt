@@ -6,32 +6,12 @@ use borrow.Author.Needs.{needs}
 use Rattle.data_model.proofs.checked.prunes.Statement.{statement}
 use Rattle.data_model.proofs.checked.prunes.Tie as tie
 
-slice-aggregate-same-bytes : tie.Need-slice-aggregate-same-bytes
-slice-aggregate-same-bytes c = search needs
-
-slice-aggregate-same-bytes-2 : tie.Need-slice-aggregate-same-bytes-2
-slice-aggregate-same-bytes-2 c = search needs
-
-same-bytes-requires : tie.Need-same-bytes-requires
-same-bytes-requires c κs = search needs
+covers-requires : tie.Need-covers-requires
+covers-requires c κs = search needs
 
 returns : tie.Need-returns
-unfolding prunes covers entryOf
-returns c = rw (sym (c .before .same-bytes .ensures) ∙ not-true _ (c .if1 .taken))
-
-eq-requires : tie.Need-eq-requires
-eq-requires c κs = search needs
-
-returns-2 : tie.Need-returns-2
-unfolding prunes covers entryOf
-returns-2 c = rw (sym (c .before .before .before .before .before .same-bytes .ensures) ∙ not-false _ (c .before .before .before .before .if1 .left), sym (c .before .eq .ensures) ∙ not-true _ (c .if2 .taken))
-
-is-prefix-of-requires : tie.Need-is-prefix-of-requires
-is-prefix-of-requires c κs = (c .before .before .before .before .before .before .before .before .before .before .before .before) .pre
-
-returns-3 : tie.Need-returns-3
-unfolding prunes covers entryOf
-returns-3 c = rw (sym (c .before .before .before .before .before .before .before .before .before .same-bytes .ensures) ∙ not-false _ (c .before .before .before .before .before .before .before .before .if1 .left), sym (c .before .before .before .before .before .eq .ensures) ∙ not-false _ (c .before .before .before .before .if2 .left), sym (c .before .is-prefix-of .ensures) ∙ not-true _ (c .if3 .taken))
+unfolding prunes
+returns c = rw (sym (c .before .covers .ensures) ∙ not-true _ (c .if1 .taken))
 
 rank-requires : tie.Need-rank-requires
 rank-requires c κs = search needs
@@ -42,23 +22,9 @@ rank-requires-2 c κs = search needs
 is-newer-than-requires : tie.Need-is-newer-than-requires
 is-newer-than-requires c κs = search needs
 
-returns-4 : tie.Need-returns-4
-unfolding prunes covers entryOf newer
-returns-4 c = rw (sym (c .before .before .before .before .before .before .before .before .before .before .before .before .same-bytes .ensures) ∙ not-false _ (c .before .before .before .before .before .before .before .before .before .before .before .if1 .left), sym (c .before .before .before .before .before .before .before .before .eq .ensures) ∙ not-false _ (c .before .before .before .before .before .before .before .if2 .left), sym (c .before .before .before .before .is-prefix-of .ensures) ∙ not-false _ (c .before .before .before .if3 .left)) (c .is-newer-than .ensures ∙ rw (c .before .before .rank .ensures, c .before .rank2 .ensures))
+returns-2 : tie.Need-returns-2
+unfolding prunes entryOf newer
+returns-2 c = rw (sym (c .before .before .before .before .covers .ensures) ∙ not-false _ (c .before .before .before .if1 .left)) (c .is-newer-than .ensures ∙ rw (c .before .before .rank .ensures, c .before .rank2 .ensures))
 
 pub prunes-spec : {M : Type 1} → statement M
-prunes-spec =
-    tie.close
-    (tie.spec
-    slice-aggregate-same-bytes
-    slice-aggregate-same-bytes-2
-    same-bytes-requires
-    returns
-    eq-requires
-    returns-2
-    is-prefix-of-requires
-    returns-3
-    rank-requires
-    rank-requires-2
-    is-newer-than-requires
-    returns-4)
+prunes-spec = tie.close (tie.spec covers-requires returns rank-requires rank-requires-2 is-newer-than-requires returns-2)

@@ -42,17 +42,17 @@ slice-aggregate-write-bytes-of-2 c = search needs
 write-bytes-of-requires-2 : tie.Need-write-bytes-of-requires-2
 write-bytes-of-requires-2 c κs = (sym (c .before .before .before .before .is-hex .ensures) ∙ not-false _ (c .before .before .before .if1 .left), omega (arith, c .before .if3 .taken))
 
-slice-aggregate-whole : tie.Need-slice-aggregate-whole
-slice-aggregate-whole c = search needs
+slice-aggregate-read-subspace : tie.Need-slice-aggregate-read-subspace
+slice-aggregate-read-subspace c = search needs
 
-whole-requires : tie.Need-whole-requires
-whole-requires c κs = search needs
+read-subspace-requires : tie.Need-read-subspace-requires
+read-subspace-requires c κs = search needs
 
 returns-3 : tie.Need-returns-3
 returns-3 c =
     let h = sym (c .before .before .before .before .before .before .before .before .is-hex .ensures) ∙ not-false _ (c .before .before .before .before .before .before .before .if1 .left) in
     let e = filled (c .before .before .before .before .before .before .before .before .before .before .args .s .now) h 16 _ (c .before .before .before .write-bytes-of2 .last .1 .0) (c .before .before .before .before .before .if3 .taken) refl (c .before .before .before .write-bytes-of2 .ensures .1) in
-    ap Is (c .whole .ensures ∙ ap subspaceAt e) ∙ subspace-all (c .before .before .before .before .before .before .before .before .before .before .args .s .now) h (c .before .before .before .before .before .if3 .taken)
+    ap Is (c .read-subspace .ensures ∙ ap subspaceAt e) ∙ subspace-all (c .before .before .before .before .before .before .before .before .before .before .args .s .now) h (c .before .before .before .before .before .if3 .taken)
 
 returns-4 : tie.Need-returns-4
 returns-4 c = subspace-other _ (sym (c .before .before .before .is-hex .ensures) ∙ not-false _ (c .before .before .if1 .left)) (c .before .if2 .left) (c .if3 .left)
@@ -70,7 +70,7 @@ read-subspace-spec =
     returns-2
     slice-aggregate-write-bytes-of-2
     write-bytes-of-requires-2
-    slice-aggregate-whole
-    whole-requires
+    slice-aggregate-read-subspace
+    read-subspace-requires
     returns-3
     returns-4)

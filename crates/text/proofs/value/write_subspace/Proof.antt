@@ -30,11 +30,11 @@ returns c =
     let e = subspace-short (c .before .before .before .before .before .before .before .before .args .s) (sym (c .before .before .before .before .before .before .is-short .ensures) ∙ c .before .before .before .before .before .if1 .taken) in
     (c .before .before .write-hex-byte .ensures .0 ∙ ap length e, c .before .before .write-hex-byte .ensures .1 ∙ ap (λ (x : List ℕ). put x (c .before .before .before .before .before .before .before .before .args .out .now)) e)
 
-slice-aggregate-write-whole : tie.Need-slice-aggregate-write-whole
-slice-aggregate-write-whole c = search needs
+slice-aggregate-write-subspace : tie.Need-slice-aggregate-write-subspace
+slice-aggregate-write-subspace c = search needs
 
-write-whole-requires : tie.Need-write-whole-requires
-write-whole-requires c κs = search needs
+write-subspace-requires : tie.Need-write-subspace-requires
+write-subspace-requires c κs = search needs
 
 slice-aggregate-write-hex : tie.Need-slice-aggregate-write-hex
 slice-aggregate-write-hex c = search needs
@@ -48,7 +48,7 @@ same-length-2 c = search needs
 returns-2 : tie.Need-returns-2
 returns-2 c =
     let s = c .before .before .before .before .before .before .before .before .before .before .before .args .s in
-    let w = c .before .before .before .before .before .before .write-whole in
+    let w = c .before .before .before .before .before .before .write-subspace in
     let e : hexText (w .last .1 .0) ≡ _ = ap hexText (w .ensures .1 ∙ put-whole (subspaceKey s) _ (omega (arith, subspace-length s))) ∙ subspace-long s (sym (c .before .before .before .before .before .before .before .before .before .is-short .ensures) ∙ c .before .before .before .before .before .before .before .before .if1 .left) in
     (c .before .before .write-hex .ensures .0 ∙ ap length e, c .before .before .write-hex .ensures .1 ∙ ap (λ (x : List ℕ). put x (c .before .before .before .before .before .before .before .before .before .before .before .args .out .now)) e)
 
@@ -61,8 +61,8 @@ write-subspace-spec =
     write-hex-byte-requires
     same-length
     returns
-    slice-aggregate-write-whole
-    write-whole-requires
+    slice-aggregate-write-subspace
+    write-subspace-requires
     slice-aggregate-write-hex
     write-hex-requires
     same-length-2

@@ -1,9 +1,9 @@
--- `whole` meets its contract: two numbers, one behind the other. Assumes nothing.
+-- `read_subspace` meets its contract: two numbers, one behind the other. Assumes nothing.
+use Rattle.keys.proofs.Reading.{rest}
 use Rattle.keys.specs.Decode.{subspaceAt}
-use Rattle.text.proofs.Lists.{rest-of}
 use borrow.Author.Needs.{needs}
-use Rattle.text.proofs.value.whole.Statement.{statement}
-use Rattle.text.proofs.value.whole.Tie as tie
+use Rattle.keys.proofs.number.read_subspace.Statement.{statement}
+use Rattle.keys.proofs.number.read_subspace.Tie as tie
 
 read-u64-requires : tie.Need-read-u64-requires
 read-u64-requires c κs = search needs
@@ -22,10 +22,12 @@ read-u64-requires-2 c κs = search needs
 
 returns : tie.Need-returns
 unfolding subspaceAt
-returns c = rw (c .before .before .read-u64 .ensures, c .read-u642 .ensures, rest-of (c .before .before .before .before .args .k .now) 8)
+returns c =
+    let k = c .before .before .before .before .args .k .now in
+    rw (c .before .before .read-u64 .ensures, c .read-u642 .ensures, rest k 8)
 
-pub whole-spec : {M : Type 1} → statement M
-whole-spec =
+pub read-subspace-spec : {M : Type 1} → statement M
+read-subspace-spec =
     tie.close
     (tie.spec
     read-u64-requires

@@ -1,13 +1,13 @@
--- `write_whole` meets its contract: two numbers, one behind the other. Assumes nothing.
-use native.Mathlib.Omega.{arith}
+-- `write_subspace` meets its contract: two numbers, one behind the other. Assumes nothing.
 use mathlib.Core.Path.{_≡_, sym, _∙_}
+use native.Mathlib.Omega.{arith}
 use lib.ListN.{length}
+use Rattle.keys.specs.Encode.{be, subspaceKey}
 use Rattle.laws.proofs.Lists.{wrote-first, wrote-last}
-use Rattle.keys.specs.Encode.{be, subspaceKey}
 use Rattle.keys.proofs.Encoding.{be-length}
 use borrow.Author.Needs.{needs}
-use Rattle.text.proofs.value.write_whole.Statement.{statement}
-use Rattle.text.proofs.value.write_whole.Tie as tie
+use Rattle.keys.proofs.number.write_subspace.Statement.{statement}
+use Rattle.keys.proofs.number.write_subspace.Tie as tie
 
 write-u64-requires : tie.Need-write-u64-requires
 write-u64-requires c κs = search needs
@@ -46,8 +46,8 @@ returns c =
           .1,
     )
 
-pub write-whole-spec : {M : Type 1} → statement M
-write-whole-spec =
+pub write-subspace-spec : {M : Type 1} → statement M
+write-subspace-spec =
     tie.close
     (tie.spec
     write-u64-requires

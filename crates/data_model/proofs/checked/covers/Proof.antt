@@ -1,8 +1,10 @@
 -- `covers` meets its contract. Assumes nothing.
-use Rattle.tree.proofs.TestLaws.{covers-elsewhere, covers-other, covers-paths}
+use mathlib.Core.Path.{sym, _∙_}
+use Rattle.laws.proofs.Truth.{not-true, not-false}
+use Rattle.data_model.specs.Entry.{entryOf, covers}
 use borrow.Author.Needs.{needs}
-use Rattle.tree.proofs.by_value.covers.Statement.{statement}
-use Rattle.tree.proofs.by_value.covers.Tie as tie
+use Rattle.data_model.proofs.checked.covers.Statement.{statement}
+use Rattle.data_model.proofs.checked.covers.Tie as tie
 
 slice-aggregate-same-bytes : tie.Need-slice-aggregate-same-bytes
 slice-aggregate-same-bytes c = search needs
@@ -14,19 +16,22 @@ same-bytes-requires : tie.Need-same-bytes-requires
 same-bytes-requires c κs = search needs
 
 returns : tie.Need-returns
-returns c = covers-elsewhere _ _ _ (c .before .same-bytes .ensures) (c .if1 .taken)
+unfolding covers entryOf
+returns c = rw (sym (c .before .same-bytes .ensures) ∙ not-true _ (c .if1 .taken))
 
 eq-requires : tie.Need-eq-requires
 eq-requires c κs = search needs
 
 returns-2 : tie.Need-returns-2
-returns-2 c = covers-other _ _ _ (c .before .before .before .before .before .same-bytes .ensures) _ (c .before .before .before .before .if1 .left) (c .before .eq .ensures) (c .if2 .taken)
+unfolding covers entryOf
+returns-2 c = rw (sym (c .before .before .before .before .before .same-bytes .ensures) ∙ not-false _ (c .before .before .before .before .if1 .left), sym (c .before .eq .ensures) ∙ not-true _ (c .if2 .taken))
 
 is-prefix-of-requires : tie.Need-is-prefix-of-requires
 is-prefix-of-requires c κs = (c .before .before .before .before .before .before .before .before .before .before .before .before) .pre
 
 returns-3 : tie.Need-returns-3
-returns-3 c = covers-paths _ _ _ (c .before .before .before .before .before .before .before .before .same-bytes .ensures) _ (c .before .before .before .before .before .before .before .if1 .left) (c .before .before .before .before .eq .ensures) (c .before .before .before .if2 .left) _ (c .is-prefix-of .ensures)
+unfolding covers entryOf
+returns-3 c = rw (sym (c .before .before .before .before .before .before .before .before .same-bytes .ensures) ∙ not-false _ (c .before .before .before .before .before .before .before .if1 .left), sym (c .before .before .before .before .eq .ensures) ∙ not-false _ (c .before .before .before .if2 .left)) (c .is-prefix-of .ensures)
 
 pub covers-spec : {M : Type 1} → statement M
 covers-spec =
