@@ -16,9 +16,9 @@ use Rattle.data_model.specs.declared.range.TimesRange.{TimesRange}
 use Rattle.data_model.specs.declared.range.PathRange.{PathRange}
 use Rattle.data_model.specs.declared.area.AreaSubspace.{AreaSubspace}
 
--- A path value with so many components that end there: 128 bytes, 8 ends.
+-- A path value with so many components that end there, all its bytes 61.
 abbrev pub value : ℕ → List ℕ → Path
-value count ends = record { bytes = replicate 128 0x61; ends = ends ++ replicate (8 - length ends) 0; count = count }
+value count ends = record { bytes = replicate (field .mpl) 0x61; ends = ends ++ replicate (field .mcc - length ends) 0; count = count }
 
 infix 40 _≺_
 abbrev pub _≺_ : Components → Components → Type 0
