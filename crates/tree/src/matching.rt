@@ -1,19 +1,25 @@
 // The marks of a whole walk: 1 for each record that a test holds of, 0 for the others.
+use crate::by_bytes::is_forgotten_at;
+use crate::by_bytes::listed_in_area_at;
 use crate::by_value::covers;
 use crate::by_value::is_newer;
 use crate::place::END;
+use crate::place::SUBSPACE;
 use crate::place::begins;
 use crate::place::open_at;
 use crate::place::place_at;
+use crate::place::write_path;
 use crate::place::write_place;
 use crate::stored::KeyOrder;
 use crate::stored::LengthyAuthorisedEntry;
 use crate::stored::stored_at;
 use data_model::area::Area;
+use data_model::area::AreaSubspace;
 use data_model::checked;
 use data_model::entry::Entry;
 use data_model::parameters::Subspace;
 use data_model::path::Path;
+use data_model::range::TimesRange;
 use data_model::range_3d::Range3d;
 use keys::encode::KEY_MOST;
 use layout::bytes::same;
@@ -30,7 +36,8 @@ ghost use Rattle.data_model.specs.Range.{legalRange};
 ghost use Rattle.tree.specs.Stored.{contents, stored, storedOf};
 ghost use Rattle.tree.specs.Tree.{Formed};
 ghost use Rattle.tree.specs.Place.{placeKey, openKey};
-ghost use Rattle.tree.specs.Matching.{outdates, removes, standsAt, inArea, inRange, isForgotten, letThrough, listedInArea, listedInRange};
+ghost use Rattle.tree.specs.Matching.{outdates, removes, standsAt, inRange, isForgotten, letThrough, listedInArea, listedInRange};
+ghost use Rattle.tree.specs.ByBytes.{listedBytes, forgottenBytes};
 
 // Which entries to ignore in a query: those whose payload is not all there, those of an empty payload.
 pub struct QueryIgnoreParams {
@@ -70,15 +77,6 @@ pub fn stands_at(subspace: Subspace, path: Path, a: LengthyAuthorisedEntry) -> b
     checked::eq(p, path)
 }
 
-pub fn in_area(area: Area, a: LengthyAuthorisedEntry) -> bool
-    requires { ⌜ (legal field (area .path) ≡ true) × (legal field (a .entry .path) ≡ true) ⌝ }
-    ensures { λ r. ⌜ r ≡ inArea area (storedOf a) ⌝ }
-{
-    let x = a.entry;
-    let p = x.path;
-    checked::area_includes(area, x.subspace_id, p, x.timestamp)
-}
-
 pub fn in_range(range: Range3d, a: LengthyAuthorisedEntry) -> bool
     requires { ⌜ (legalRange field (range .paths) ≡ true) × (legal field (a .entry .path) ≡ true) ⌝ }
     ensures { λ r. ⌜ r ≡ inRange range (storedOf a) ⌝ }
@@ -97,30 +95,6 @@ pub fn let_through(ignore: QueryIgnoreParams, a: LengthyAuthorisedEntry) -> bool
         return false;
     }
     !(ignore.ignore_empty_payloads & (n == 0))
-}
-
-// The path of an absent protected area is not looked at.
-pub fn is_forgotten(area: Area, protects: bool, protected: Area, a: LengthyAuthorisedEntry) -> bool
-    requires { ⌜ (legal field (area .path) ≡ true) × (cond protects (legal field (protected .path)) true ≡ true) × (legal field (a .entry .path) ≡ true) ⌝ }
-    ensures { λ r. ⌜ r ≡ isForgotten area protects protected (storedOf a) ⌝ }
-{
-    if !in_area(area, a) {
-        return false;
-    }
-    if protects {
-        return !in_area(protected, a);
-    }
-    true
-}
-
-pub fn listed_in_area(area: Area, ignore: QueryIgnoreParams, a: LengthyAuthorisedEntry) -> bool
-    requires { ⌜ (legal field (area .path) ≡ true) × (legal field (a .entry .path) ≡ true) ⌝ }
-    ensures { λ r. ⌜ r ≡ listedInArea area ignore (storedOf a) ⌝ }
-{
-    if in_area(area, a) {
-        return let_through(ignore, a);
-    }
-    false
 }
 
 pub fn listed_in_range(range: Range3d, ignore: QueryIgnoreParams, a: LengthyAuthorisedEntry) -> bool
@@ -336,6 +310,56 @@ pub fn mark_at(
     );
 }
 
+// The path if it is looked at, else one that is legal.
+fn path_if(looked_at: bool, path: Path) -> Path
+    requires { ⌜ cond «looked_at» (legal field path) true ≡ true ⌝ }
+    ensures { λ r. ⌜ (legal field r ≡ true) × («looked_at» ≡ true → r ≡ path) ⌝ }
+{
+    if looked_at {
+        return path;
+    }
+    Path::new_empty()
+}
+
+fn forgotten_from(
+    order: KeyOrder,
+    namespace: [u8; 16],
+    count: usize,
+    dir: &[u32],
+    tree: &[u8],
+    own: AreaSubspace,
+    times: TimesRange,
+    front: &[u8],
+    protects: bool,
+    shield_own: AreaSubspace,
+    shield_times: TimesRange,
+    shield: &[u8],
+    marks: &mut [u8],
+)
+    requires { ⌜ (Formed order count (now dir) (now tree)) × (count ≤ length (now marks)) ⌝ }
+    ensures { λ _. ⌜ now (marks .exit) ≡ put (marksOf (forgottenBytes own times (now (front .entry)) protects «shield_own» «shield_times» (now (shield .entry))) (contents order field namespace (records count (now (dir .entry)) (now (tree .entry))))) (now (marks .entry)) ⌝ }
+{
+    let mut k: usize = 0;
+    while k < count {
+        marks[k] = is_forgotten_at(
+            order,
+            namespace,
+            count,
+            dir,
+            tree,
+            k,
+            own,
+            times,
+            front,
+            protects,
+            shield_own,
+            shield_times,
+            shield,
+        ) as u8;
+        k += 1;
+    }
+}
+
 // What an area includes and the protected area, if any, does not.
 pub fn mark_forgotten(
     order: KeyOrder,
@@ -351,10 +375,62 @@ pub fn mark_forgotten(
     requires { ⌜ (Formed order count (now dir) (now tree)) × (count ≤ length (now marks)) × (legal field (area .path) ≡ true) × (cond protects (legal field (protected .path)) true ≡ true) ⌝ }
     ensures { λ _. ⌜ now (marks .exit) ≡ put (marksOf (isForgotten area protects protected) (contents order field namespace (records count (now (dir .entry)) (now (tree .entry))))) (now (marks .entry)) ⌝ }
 {
+    let path = area.path;
+    let mut key = [0u8; KEY_MOST];
+    let n = write_path(path, &mut key) - END;
+    let other = protected.path;
+    let mut shield = [0u8; KEY_MOST];
+    let m = write_path(path_if(protects, other), &mut shield) - END;
+    let own = area.subspace;
+    let times = area.times;
+    let shield_own = protected.subspace;
+    let shield_times = protected.times;
+    forgotten_from(
+        order,
+        namespace,
+        count,
+        dir,
+        tree,
+        own,
+        times,
+        &key[SUBSPACE..n],
+        protects,
+        shield_own,
+        shield_times,
+        &shield[SUBSPACE..m],
+        marks,
+    );
+}
+
+fn area_from(
+    order: KeyOrder,
+    namespace: [u8; 16],
+    count: usize,
+    dir: &[u32],
+    tree: &[u8],
+    own: AreaSubspace,
+    times: TimesRange,
+    front: &[u8],
+    ignore: QueryIgnoreParams,
+    marks: &mut [u8],
+)
+    requires { ⌜ (Formed order count (now dir) (now tree)) × (count ≤ length (now marks)) ⌝ }
+    ensures { λ _. ⌜ now (marks .exit) ≡ put (marksOf (listedBytes own times (now (front .entry)) ignore) (contents order field namespace (records count (now (dir .entry)) (now (tree .entry))))) (now (marks .entry)) ⌝ }
+{
     let mut k: usize = 0;
     while k < count {
-        let a = stored_at(order, namespace, dir, tree, k);
-        marks[k] = is_forgotten(area, protects, protected, a) as u8;
+        marks[k] = listed_in_area_at(
+            order,
+            namespace,
+            count,
+            dir,
+            tree,
+            k,
+            own,
+            times,
+            front,
+            ignore,
+        ) as u8;
         k += 1;
     }
 }
@@ -373,12 +449,23 @@ pub fn mark_area(
     requires { ⌜ (Formed order count (now dir) (now tree)) × (count ≤ length (now marks)) × (legal field (area .path) ≡ true) ⌝ }
     ensures { λ _. ⌜ now (marks .exit) ≡ put (marksOf (listedInArea area ignore) (contents order field namespace (records count (now (dir .entry)) (now (tree .entry))))) (now (marks .entry)) ⌝ }
 {
-    let mut k: usize = 0;
-    while k < count {
-        let a = stored_at(order, namespace, dir, tree, k);
-        marks[k] = listed_in_area(area, ignore, a) as u8;
-        k += 1;
-    }
+    let path = area.path;
+    let mut key = [0u8; KEY_MOST];
+    let n = write_path(path, &mut key) - END;
+    let own = area.subspace;
+    let times = area.times;
+    area_from(
+        order,
+        namespace,
+        count,
+        dir,
+        tree,
+        own,
+        times,
+        &key[SUBSPACE..n],
+        ignore,
+        marks,
+    );
 }
 
 // What a 3d range includes and the flags let through.
