@@ -12,10 +12,9 @@ use Rattle.data_model.specs.Entry.{entryOf, newer, covers}
 use Rattle.data_model.specs.declared.entry.Entry.{Entry}
 use Rattle.data_model.specs.declared.parameters.Subspace.{Subspace}
 use Rattle.data_model.specs.declared.path.Path.{Path}
-use Rattle.data_model.specs.declared.«range_3d».Range3d.{Range3d}
 use Rattle.tree.specs.Stored.{Stored, storedOf}
 use Rattle.tree.specs.Apart.{samePlace}
-use Rattle.tree.specs.Matching.{removes, standsAt, inRange, letThrough, listedInRange}
+use Rattle.tree.specs.Matching.{removes, standsAt, letThrough}
 use Rattle.tree.specs.declared.stored.LengthyAuthorisedEntry.{LengthyAuthorisedEntry}
 use Rattle.tree.specs.declared.matching.QueryIgnoreParams.{QueryIgnoreParams}
 
@@ -83,16 +82,6 @@ module _ (g : QueryIgnoreParams) (x : Stored) where
     pub through-rest : (g .«ignore_incomplete_payloads» && ltb m n) ≡ false → not (g .«ignore_empty_payloads» && eqb n 0) ≡ letThrough g x
     unfolding letThrough sameNumber
     through-rest f = rw (← a, ← l, f)
-
--- Listed: inside, and let through.
-module _ (range : Range3d) (g : QueryIgnoreParams) (a : LengthyAuthorisedEntry) (r : Bool) (h : r ≡ inRange range (storedOf a)) where
-  pub listed-range-inside : r ≡ true → (q : Bool) → q ≡ letThrough g (storedOf a) → q ≡ listedInRange range g (storedOf a)
-  unfolding listedInRange
-  listed-range-inside t q k = rw (sym h ∙ t) k
-
-  pub listed-range-outside : r ≡ false → false ≡ listedInRange range g (storedOf a)
-  unfolding listedInRange
-  listed-range-outside f = rw (sym h ∙ f)
 
 -- May cover: not of one place, not newer.
 module _ (a b : Entry) (r : Bool) (h : r ≡ samePlace (entryOf a) (entryOf b)) where

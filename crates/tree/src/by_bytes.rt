@@ -1,4 +1,4 @@
-// What is asked of record k, told by its bytes: does an area include it, and do the flags let it through.
+// What is asked of record k, told by its bytes: does an area or a range include it, and do the flags let it through.
 use crate::matching::QueryIgnoreParams;
 use crate::place::begins;
 use crate::place::path_at;
@@ -9,7 +9,9 @@ use crate::stored::value_at;
 use crate::value::available;
 use crate::value::payload_length;
 use data_model::area::AreaSubspace;
+use data_model::range::SubspaceRange;
 use data_model::range::TimesRange;
+use layout::bytes::less;
 ghost use mathlib.Core.Path.{_≡_};
 ghost use Prim.Native.Nat.{_<_};
 ghost use Rattle.layout.specs.Layout.{recordAt};
@@ -17,7 +19,7 @@ ghost use Rattle.data_model.specs.Path.{field};
 ghost use Rattle.tree.specs.Stored.{stored};
 ghost use Rattle.tree.specs.Tree.{Formed};
 ghost use Rattle.tree.specs.Matching.{letThrough};
-ghost use Rattle.tree.specs.ByBytes.{inAreaBytes, listedBytes, forgottenBytes};
+ghost use Rattle.tree.specs.ByBytes.{inAreaBytes, inPathsBytes, inRangeBytes, isForgottenBytes, listedInAreaBytes, listedInRangeBytes};
 
 // The value is read only if a flag is set.
 fn let_through_at(
@@ -82,9 +84,83 @@ pub fn listed_in_area_at(
     ignore: QueryIgnoreParams,
 ) -> bool
     requires { ⌜ (Formed order count (now dir) (now tree)) × (k < count) ⌝ }
-    ensures { λ r. ⌜ r ≡ listedBytes own times (now (front .entry)) ignore (stored order field namespace (recordAt k (now (dir .entry)) (now (tree .entry)))) ⌝ }
+    ensures { λ r. ⌜ r ≡ listedInAreaBytes own times (now (front .entry)) ignore (stored order field namespace (recordAt k (now (dir .entry)) (now (tree .entry)))) ⌝ }
 {
     if in_area_at(order, namespace, count, dir, tree, k, own, times, front) {
+        return let_through_at(order, namespace, count, dir, tree, k, ignore);
+    }
+    false
+}
+
+// Whether the bytes of a path stand between those of two others. The second is not looked at if the range is open.
+fn in_paths(path: &[u8], start: &[u8], open: bool, end: &[u8]) -> bool
+    ensures { λ r. ⌜ r ≡ inPathsBytes (now (start .entry)) «open» (now (end .entry)) (now (path .entry)) ⌝ }
+{
+    if less(path, start) {
+        return false;
+    }
+    if open {
+        return true;
+    }
+    less(path, end)
+}
+
+// `start` and `end`: the bytes of the range's paths.
+fn in_range_at(
+    order: KeyOrder,
+    namespace: [u8; 16],
+    count: usize,
+    dir: &[u32],
+    tree: &[u8],
+    k: usize,
+    subspaces: SubspaceRange,
+    times: TimesRange,
+    start: &[u8],
+    open: bool,
+    end: &[u8],
+) -> bool
+    requires { ⌜ (Formed order count (now dir) (now tree)) × (k < count) ⌝ }
+    ensures { λ r. ⌜ r ≡ inRangeBytes subspaces times (now (start .entry)) «open» (now (end .entry)) (stored order field namespace (recordAt k (now (dir .entry)) (now (tree .entry)))) ⌝ }
+{
+    if !subspaces.includes(subspace_at(order, count, dir, tree, k)) {
+        return false;
+    }
+    if !times.includes(time_at(order, count, dir, tree, k)) {
+        return false;
+    }
+    in_paths(path_at(order, count, dir, tree, k), start, open, end)
+}
+
+pub fn listed_in_range_at(
+    order: KeyOrder,
+    namespace: [u8; 16],
+    count: usize,
+    dir: &[u32],
+    tree: &[u8],
+    k: usize,
+    subspaces: SubspaceRange,
+    times: TimesRange,
+    start: &[u8],
+    open: bool,
+    end: &[u8],
+    ignore: QueryIgnoreParams,
+) -> bool
+    requires { ⌜ (Formed order count (now dir) (now tree)) × (k < count) ⌝ }
+    ensures { λ r. ⌜ r ≡ listedInRangeBytes subspaces times (now (start .entry)) «open» (now (end .entry)) ignore (stored order field namespace (recordAt k (now (dir .entry)) (now (tree .entry)))) ⌝ }
+{
+    if in_range_at(
+        order,
+        namespace,
+        count,
+        dir,
+        tree,
+        k,
+        subspaces,
+        times,
+        start,
+        open,
+        end,
+    ) {
         return let_through_at(order, namespace, count, dir, tree, k, ignore);
     }
     false
@@ -107,7 +183,7 @@ pub fn is_forgotten_at(
     shield: &[u8],
 ) -> bool
     requires { ⌜ (Formed order count (now dir) (now tree)) × (k < count) ⌝ }
-    ensures { λ r. ⌜ r ≡ forgottenBytes own times (now (front .entry)) protects «shield_own» «shield_times» (now (shield .entry)) (stored order field namespace (recordAt k (now (dir .entry)) (now (tree .entry)))) ⌝ }
+    ensures { λ r. ⌜ r ≡ isForgottenBytes own times (now (front .entry)) protects «shield_own» «shield_times» (now (shield .entry)) (stored order field namespace (recordAt k (now (dir .entry)) (now (tree .entry)))) ⌝ }
 {
     if !in_area_at(order, namespace, count, dir, tree, k, own, times, front) {
         return false;

@@ -1,6 +1,7 @@
 // The marks of a whole walk: 1 for each record that a test holds of, 0 for the others.
 use crate::by_bytes::is_forgotten_at;
 use crate::by_bytes::listed_in_area_at;
+use crate::by_bytes::listed_in_range_at;
 use crate::by_value::covers;
 use crate::by_value::is_newer;
 use crate::place::END;
@@ -19,6 +20,7 @@ use data_model::checked;
 use data_model::entry::Entry;
 use data_model::parameters::Subspace;
 use data_model::path::Path;
+use data_model::range::SubspaceRange;
 use data_model::range::TimesRange;
 use data_model::range_3d::Range3d;
 use keys::encode::KEY_MOST;
@@ -36,8 +38,8 @@ ghost use Rattle.data_model.specs.Range.{legalRange};
 ghost use Rattle.tree.specs.Stored.{contents, stored, storedOf};
 ghost use Rattle.tree.specs.Tree.{Formed};
 ghost use Rattle.tree.specs.Place.{placeKey, openKey};
-ghost use Rattle.tree.specs.Matching.{outdates, removes, standsAt, inRange, isForgotten, letThrough, listedInArea, listedInRange};
-ghost use Rattle.tree.specs.ByBytes.{listedBytes, forgottenBytes};
+ghost use Rattle.tree.specs.Matching.{outdates, removes, standsAt, isForgotten, letThrough, listedInArea, listedInRange};
+ghost use Rattle.tree.specs.ByBytes.{isForgottenBytes, listedInAreaBytes, listedInRangeBytes};
 
 // Which entries to ignore in a query: those whose payload is not all there, those of an empty payload.
 pub struct QueryIgnoreParams {
@@ -77,15 +79,6 @@ pub fn stands_at(subspace: Subspace, path: Path, a: LengthyAuthorisedEntry) -> b
     checked::eq(p, path)
 }
 
-pub fn in_range(range: Range3d, a: LengthyAuthorisedEntry) -> bool
-    requires { ⌜ (legalRange field (range .paths) ≡ true) × (legal field (a .entry .path) ≡ true) ⌝ }
-    ensures { λ r. ⌜ r ≡ inRange range (storedOf a) ⌝ }
-{
-    let x = a.entry;
-    let p = x.path;
-    checked::range_includes(range, x.subspace_id, p, x.timestamp)
-}
-
 pub fn let_through(ignore: QueryIgnoreParams, a: LengthyAuthorisedEntry) -> bool
     ensures { λ r. ⌜ r ≡ letThrough ignore (storedOf a) ⌝ }
 {
@@ -95,16 +88,6 @@ pub fn let_through(ignore: QueryIgnoreParams, a: LengthyAuthorisedEntry) -> bool
         return false;
     }
     !(ignore.ignore_empty_payloads & (n == 0))
-}
-
-pub fn listed_in_range(range: Range3d, ignore: QueryIgnoreParams, a: LengthyAuthorisedEntry) -> bool
-    requires { ⌜ (legalRange field (range .paths) ≡ true) × (legal field (a .entry .path) ≡ true) ⌝ }
-    ensures { λ r. ⌜ r ≡ listedInRange range ignore (storedOf a) ⌝ }
-{
-    if in_range(range, a) {
-        return let_through(ignore, a);
-    }
-    false
 }
 
 // The same of record k. `place`: the entry's.
@@ -337,7 +320,7 @@ fn forgotten_from(
     marks: &mut [u8],
 )
     requires { ⌜ (Formed order count (now dir) (now tree)) × (count ≤ length (now marks)) ⌝ }
-    ensures { λ _. ⌜ now (marks .exit) ≡ put (marksOf (forgottenBytes own times (now (front .entry)) protects «shield_own» «shield_times» (now (shield .entry))) (contents order field namespace (records count (now (dir .entry)) (now (tree .entry))))) (now (marks .entry)) ⌝ }
+    ensures { λ _. ⌜ now (marks .exit) ≡ put (marksOf (isForgottenBytes own times (now (front .entry)) protects «shield_own» «shield_times» (now (shield .entry))) (contents order field namespace (records count (now (dir .entry)) (now (tree .entry))))) (now (marks .entry)) ⌝ }
 {
     let mut k: usize = 0;
     while k < count {
@@ -415,7 +398,7 @@ fn area_from(
     marks: &mut [u8],
 )
     requires { ⌜ (Formed order count (now dir) (now tree)) × (count ≤ length (now marks)) ⌝ }
-    ensures { λ _. ⌜ now (marks .exit) ≡ put (marksOf (listedBytes own times (now (front .entry)) ignore) (contents order field namespace (records count (now (dir .entry)) (now (tree .entry))))) (now (marks .entry)) ⌝ }
+    ensures { λ _. ⌜ now (marks .exit) ≡ put (marksOf (listedInAreaBytes own times (now (front .entry)) ignore) (contents order field namespace (records count (now (dir .entry)) (now (tree .entry))))) (now (marks .entry)) ⌝ }
 {
     let mut k: usize = 0;
     while k < count {
@@ -468,6 +451,43 @@ pub fn mark_area(
     );
 }
 
+fn range_from(
+    order: KeyOrder,
+    namespace: [u8; 16],
+    count: usize,
+    dir: &[u32],
+    tree: &[u8],
+    subspaces: SubspaceRange,
+    times: TimesRange,
+    start: &[u8],
+    open: bool,
+    end: &[u8],
+    ignore: QueryIgnoreParams,
+    marks: &mut [u8],
+)
+    requires { ⌜ (Formed order count (now dir) (now tree)) × (count ≤ length (now marks)) ⌝ }
+    ensures { λ _. ⌜ now (marks .exit) ≡ put (marksOf (listedInRangeBytes subspaces times (now (start .entry)) «open» (now (end .entry)) ignore) (contents order field namespace (records count (now (dir .entry)) (now (tree .entry))))) (now (marks .entry)) ⌝ }
+{
+    let mut k: usize = 0;
+    while k < count {
+        marks[k] = listed_in_range_at(
+            order,
+            namespace,
+            count,
+            dir,
+            tree,
+            k,
+            subspaces,
+            times,
+            start,
+            open,
+            end,
+            ignore,
+        ) as u8;
+        k += 1;
+    }
+}
+
 // What a 3d range includes and the flags let through.
 pub fn mark_range(
     order: KeyOrder,
@@ -482,10 +502,28 @@ pub fn mark_range(
     requires { ⌜ (Formed order count (now dir) (now tree)) × (count ≤ length (now marks)) × (legalRange field (range .paths) ≡ true) ⌝ }
     ensures { λ _. ⌜ now (marks .exit) ≡ put (marksOf (listedInRange range ignore) (contents order field namespace (records count (now (dir .entry)) (now (tree .entry))))) (now (marks .entry)) ⌝ }
 {
-    let mut k: usize = 0;
-    while k < count {
-        let a = stored_at(order, namespace, dir, tree, k);
-        marks[k] = listed_in_range(range, ignore, a) as u8;
-        k += 1;
-    }
+    let paths = range.paths;
+    let start = paths.start;
+    let end = paths.end;
+    let open = paths.open;
+    let mut low = [0u8; KEY_MOST];
+    let n = write_path(start, &mut low);
+    let mut high = [0u8; KEY_MOST];
+    let m = write_path(path_if(!open, end), &mut high);
+    let subspaces = range.subspaces;
+    let times = range.times;
+    range_from(
+        order,
+        namespace,
+        count,
+        dir,
+        tree,
+        subspaces,
+        times,
+        &low[SUBSPACE..n],
+        open,
+        &high[SUBSPACE..m],
+        ignore,
+        marks,
+    );
 }

@@ -4,14 +4,14 @@ use native.Mathlib.Omega.{arith}
 use Rattle.layout.specs.Layout.{records}
 use Rattle.data_model.specs.Path.{field}
 use Rattle.tree.specs.Stored.{contents}
-use Rattle.tree.specs.ByBytes.{listedBytes}
+use Rattle.tree.specs.ByBytes.{listedInAreaBytes}
 use Rattle.tree.proofs.MarkingLaws.{Marking, marking-start, mark-next, mark-end}
 use Rattle.tree.proofs.matching.area_from.Statement.{statement}
 use Rattle.tree.proofs.matching.area_from.Tie as tie
 
 abbrev Inv-loop : tie.InvT-loop
 Inv-loop order namespace count dir tree own times front ignore marks₀ k₀ marks k =
-    (k ≤ count) × Marking (listedBytes own times front ignore) (contents order field namespace (records count dir tree)) marks₀ marks k
+    (k ≤ count) × Marking (listedInAreaBytes own times front ignore) (contents order field namespace (records count dir tree)) marks₀ marks k
 
 abbrev μ-loop : tie.MeasureT-loop
 μ-loop order namespace count dir tree own times front ignore marks₀ k₀ marks k = count - k

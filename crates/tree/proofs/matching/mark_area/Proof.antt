@@ -10,7 +10,7 @@ use Rattle.layout.specs.Marks.{marksOf}
 use Rattle.data_model.specs.Path.{field, components}
 use Rattle.tree.specs.Stored.{Stored, contents}
 use Rattle.tree.proofs.PlaceLaws.{front-path}
-use Rattle.tree.proofs.ByteLaws.{listed-bytes}
+use Rattle.tree.proofs.ByteLaws.{listed-area-bytes}
 use borrow.Author.Needs.{needs}
 use Rattle.tree.proofs.matching.mark_area.Statement.{statement}
 use Rattle.tree.proofs.matching.mark_area.Tie as tie
@@ -45,7 +45,7 @@ returns c =
     let w = c .before .before .before .before .before .before .before .before .write-path in
     c .before .before .area-from .ensures
     ∙ ap (λ (p : Stored → Bool). put (marksOf p (contents (a .order) field (a .namespace) (records (a .count) (a .dir .now) (a .tree .now)))) (a .marks .now))
-    (listed-bytes (a .area) _ (front-path (components (a .area .path)) (w .last .1 .0) (w .result) (w .result - 2) (w .ensures .2) (omega (arith, w .ensures .1, w .kept .1 .0, length-replicate {A = ℕ} 298 0)) (w .ensures .0) refl) (a .ignore))
+    (listed-area-bytes (a .area) _ (front-path (components (a .area .path)) (w .last .1 .0) (w .result) (w .result - 2) (w .ensures .2) (omega (arith, w .ensures .1, w .kept .1 .0, length-replicate {A = ℕ} 298 0)) (w .ensures .0) refl) (a .ignore))
 
 pub mark-area-spec : {M : Type 1} → statement M
 mark-area-spec =
