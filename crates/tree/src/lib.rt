@@ -13,4 +13,5 @@ pub mod search;
 pub mod shape;
 pub mod stored;
 pub mod value;
+pub mod walks;
 pub mod within;

@@ -1,7 +1,4 @@
 // The marks of a whole walk: 1 for each record that a test holds of, 0 for the others.
-use crate::by_bytes::is_forgotten_at;
-use crate::by_bytes::listed_in_area_at;
-use crate::by_bytes::listed_in_range_at;
 use crate::by_value::covers;
 use crate::by_value::is_newer;
 use crate::place::END;
@@ -14,14 +11,14 @@ use crate::place::write_place;
 use crate::stored::KeyOrder;
 use crate::stored::LengthyAuthorisedEntry;
 use crate::stored::stored_at;
+use crate::walks::area_from;
+use crate::walks::forgotten_from;
+use crate::walks::range_from;
 use data_model::area::Area;
-use data_model::area::AreaSubspace;
 use data_model::checked;
 use data_model::entry::Entry;
 use data_model::parameters::Subspace;
 use data_model::path::Path;
-use data_model::range::SubspaceRange;
-use data_model::range::TimesRange;
 use data_model::range_3d::Range3d;
 use keys::encode::KEY_MOST;
 use layout::bytes::same;
@@ -39,7 +36,6 @@ ghost use Rattle.tree.specs.Stored.{contents, stored, storedOf};
 ghost use Rattle.tree.specs.Tree.{Formed};
 ghost use Rattle.tree.specs.Place.{placeKey, openKey};
 ghost use Rattle.tree.specs.Matching.{outdates, removes, standsAt, isForgotten, letThrough, listedInArea, listedInRange};
-ghost use Rattle.tree.specs.ByBytes.{isForgottenBytes, listedInAreaBytes, listedInRangeBytes};
 
 // Which entries to ignore in a query: those whose payload is not all there, those of an empty payload.
 pub struct QueryIgnoreParams {
@@ -304,45 +300,6 @@ fn path_if(looked_at: bool, path: Path) -> Path
     Path::new_empty()
 }
 
-fn forgotten_from(
-    order: KeyOrder,
-    namespace: [u8; 16],
-    count: usize,
-    dir: &[u32],
-    tree: &[u8],
-    own: AreaSubspace,
-    times: TimesRange,
-    front: &[u8],
-    protects: bool,
-    shield_own: AreaSubspace,
-    shield_times: TimesRange,
-    shield: &[u8],
-    marks: &mut [u8],
-)
-    requires { ⌜ (Formed order count (now dir) (now tree)) × (count ≤ length (now marks)) ⌝ }
-    ensures { λ _. ⌜ now (marks .exit) ≡ put (marksOf (isForgottenBytes own times (now (front .entry)) protects «shield_own» «shield_times» (now (shield .entry))) (contents order field namespace (records count (now (dir .entry)) (now (tree .entry))))) (now (marks .entry)) ⌝ }
-{
-    let mut k: usize = 0;
-    while k < count {
-        marks[k] = is_forgotten_at(
-            order,
-            namespace,
-            count,
-            dir,
-            tree,
-            k,
-            own,
-            times,
-            front,
-            protects,
-            shield_own,
-            shield_times,
-            shield,
-        ) as u8;
-        k += 1;
-    }
-}
-
 // What an area includes and the protected area, if any, does not.
 pub fn mark_forgotten(
     order: KeyOrder,
@@ -385,39 +342,6 @@ pub fn mark_forgotten(
     );
 }
 
-fn area_from(
-    order: KeyOrder,
-    namespace: [u8; 16],
-    count: usize,
-    dir: &[u32],
-    tree: &[u8],
-    own: AreaSubspace,
-    times: TimesRange,
-    front: &[u8],
-    ignore: QueryIgnoreParams,
-    marks: &mut [u8],
-)
-    requires { ⌜ (Formed order count (now dir) (now tree)) × (count ≤ length (now marks)) ⌝ }
-    ensures { λ _. ⌜ now (marks .exit) ≡ put (marksOf (listedInAreaBytes own times (now (front .entry)) ignore) (contents order field namespace (records count (now (dir .entry)) (now (tree .entry))))) (now (marks .entry)) ⌝ }
-{
-    let mut k: usize = 0;
-    while k < count {
-        marks[k] = listed_in_area_at(
-            order,
-            namespace,
-            count,
-            dir,
-            tree,
-            k,
-            own,
-            times,
-            front,
-            ignore,
-        ) as u8;
-        k += 1;
-    }
-}
-
 // What an area includes and the flags let through.
 pub fn mark_area(
     order: KeyOrder,
@@ -449,43 +373,6 @@ pub fn mark_area(
         ignore,
         marks,
     );
-}
-
-fn range_from(
-    order: KeyOrder,
-    namespace: [u8; 16],
-    count: usize,
-    dir: &[u32],
-    tree: &[u8],
-    subspaces: SubspaceRange,
-    times: TimesRange,
-    start: &[u8],
-    open: bool,
-    end: &[u8],
-    ignore: QueryIgnoreParams,
-    marks: &mut [u8],
-)
-    requires { ⌜ (Formed order count (now dir) (now tree)) × (count ≤ length (now marks)) ⌝ }
-    ensures { λ _. ⌜ now (marks .exit) ≡ put (marksOf (listedInRangeBytes subspaces times (now (start .entry)) «open» (now (end .entry)) ignore) (contents order field namespace (records count (now (dir .entry)) (now (tree .entry))))) (now (marks .entry)) ⌝ }
-{
-    let mut k: usize = 0;
-    while k < count {
-        marks[k] = listed_in_range_at(
-            order,
-            namespace,
-            count,
-            dir,
-            tree,
-            k,
-            subspaces,
-            times,
-            start,
-            open,
-            end,
-            ignore,
-        ) as u8;
-        k += 1;
-    }
 }
 
 // What a 3d range includes and the flags let through.

@@ -6,8 +6,8 @@ use Rattle.data_model.specs.Path.{field}
 use Rattle.tree.specs.Stored.{contents}
 use Rattle.tree.specs.ByBytes.{listedInRangeBytes}
 use Rattle.tree.proofs.MarkingLaws.{Marking, marking-start, mark-next, mark-end}
-use Rattle.tree.proofs.matching.range_from.Statement.{statement}
-use Rattle.tree.proofs.matching.range_from.Tie as tie
+use Rattle.tree.proofs.walks.range_from.Statement.{statement}
+use Rattle.tree.proofs.walks.range_from.Tie as tie
 
 abbrev Inv-loop : tie.InvT-loop
 Inv-loop order namespace count dir tree subspaces times start free end ignore marks₀ k₀ marks k =
