@@ -14,12 +14,10 @@ use Rattle.laws.proofs.Truth.{clash, alike}
 use Rattle.layout.specs.Layout.{records, recordAt}
 use Rattle.layout.specs.Marks.{selected}
 use Rattle.data_model.specs.Path.{field}
-use Rattle.data_model.specs.Entry.{entryOf, rankOf}
-use Rattle.tree.specs.Stored.{Stored, stored, contents, storedOf}
+use Rattle.tree.specs.Stored.{Stored, stored, contents}
 use Rattle.tree.specs.Tree.{Formed}
 use Rattle.tree.specs.Interest.{noLimit, breaks, addSize, interestFrom}
 use Rattle.tree.specs.declared.stored.KeyOrder.the-variants.{Tsp}
-use Rattle.tree.specs.declared.stored.LengthyAuthorisedEntry.{LengthyAuthorisedEntry}
 use Rattle.tree.proofs.FormedContents.{formed-many, formed-next}
 
 or-last : (a b : Bool) → (a || b) ≡ false → b ≡ false
@@ -133,24 +131,24 @@ module _ {count : ℕ} {dir tree : List ℕ} (v : Formed Tsp count dir tree) (ns
           ∙ ap (interestFrom maxCount maxSize n size time) (next-met
           ∙ ap (λ (b : Bool). cond b (stored Tsp field ns (recordAt (k - 1) dir tree) ∷ rest-of (k - 1)) (rest-of (k - 1))) (ne-eqb (getD marks (k - 1) 0) 1 h))
 
-      module _ (h : getD marks (k - 1) 0 ≡ 1) (a : LengthyAuthorisedEntry) (q : storedOf a ≡ stored Tsp field ns (recordAt (k - 1) dir tree))
-          (r : Bool) (b : r ≡ (breaks maxCount (n + 1) || breaks maxSize (size + a .entry .«payload_length»))) where
-        interest-met : whole
-            ≡ cond r (a .entry .timestamp) (interestFrom maxCount maxSize (n + 1) (addSize maxSize size (a .entry .«payload_length»)) (a .entry .timestamp) (rest-of (k - 1)))
-        unfolding interestFrom storedOf entryOf rankOf
+      module _ (h : getD marks (k - 1) 0 ≡ 1)
+          (at : ℕ) (q : at ≡ stored Tsp field ns (recordAt (k - 1) dir tree) .entry .rank .timestamp)
+          (more : ℕ) (l : more ≡ stored Tsp field ns (recordAt (k - 1) dir tree) .entry .rank .«payload_length»)
+          (r : Bool) (b : r ≡ (breaks maxCount (n + 1) || breaks maxSize (size + more))) where
+        interest-met : whole ≡ cond r at (interestFrom maxCount maxSize (n + 1) (addSize maxSize size more) at (rest-of (k - 1)))
+        unfolding interestFrom
         interest-met =
             w
             ∙ ap (interestFrom maxCount maxSize n size time) (next-met
-            ∙ ap (λ (b : Bool). cond b (stored Tsp field ns (recordAt (k - 1) dir tree) ∷ rest-of (k - 1)) (rest-of (k - 1))) (eq-eqb (getD marks (k - 1) 0) 1 h)
-            ∙ ap (_∷ rest-of (k - 1)) (sym q))
-            ∙ ap (λ (c : Bool). cond c (a .entry .timestamp) (interestFrom maxCount maxSize (n + 1) (addSize maxSize size (a .entry .«payload_length»)) (a .entry .timestamp) (rest-of (k - 1)))) (sym b)
+            ∙ ap (λ (b : Bool). cond b (stored Tsp field ns (recordAt (k - 1) dir tree) ∷ rest-of (k - 1)) (rest-of (k - 1))) (eq-eqb (getD marks (k - 1) 0) 1 h))
+            ∙ ap₂ (λ (t m : ℕ). cond (breaks maxCount (n + 1) || breaks maxSize (size + m)) t (interestFrom maxCount maxSize (n + 1) (addSize maxSize size m) t (rest-of (k - 1)))) (sym q) (sym l)
+            ∙ ap (λ (c : Bool). cond c at (interestFrom maxCount maxSize (n + 1) (addSize maxSize size more) at (rest-of (k - 1)))) (sym b)
 
-        pub interest-stops : r ≡ true → a .entry .timestamp ≡ whole
+        pub interest-stops : r ≡ true → at ≡ whole
         interest-stops t = sym (interest-met ∙ rw t)
 
-        pub interest-fits : r ≡ false → breaks maxSize (size + a .entry .«payload_length») ≡ false
-        interest-fits f = or-last (breaks maxCount (n + 1)) (breaks maxSize (size + a .entry .«payload_length»)) (sym b ∙ f)
+        pub interest-fits : r ≡ false → breaks maxSize (size + more) ≡ false
+        interest-fits f = or-last (breaks maxCount (n + 1)) (breaks maxSize (size + more)) (sym b ∙ f)
 
-        pub interest-goes : r ≡ false → (more : ℕ) → more ≡ addSize maxSize size (a .entry .«payload_length»)
-            → whole ≡ interestFrom maxCount maxSize (n + 1) more (a .entry .timestamp) (rest-of (k - 1))
-        interest-goes f more m = interest-met ∙ rw (f, m)
+        pub interest-goes : r ≡ false → (sum : ℕ) → sum ≡ addSize maxSize size more → whole ≡ interestFrom maxCount maxSize (n + 1) sum at (rest-of (k - 1))
+        interest-goes f sum m = interest-met ∙ rw (f, m)

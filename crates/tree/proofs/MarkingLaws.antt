@@ -12,10 +12,9 @@ use Rattle.laws.specs.Lists.{put}
 use Rattle.layout.specs.Layout.{records, recordAt}
 use Rattle.layout.specs.Marks.{marksOf}
 use Rattle.data_model.specs.Path.{field}
-use Rattle.tree.specs.Stored.{Stored, stored, contents, storedOf}
+use Rattle.tree.specs.Stored.{Stored, stored, contents}
 use Rattle.tree.specs.Tree.{Formed}
 use Rattle.tree.specs.declared.stored.KeyOrder.{KeyOrder}
-use Rattle.tree.specs.declared.stored.LengthyAuthorisedEntry.{LengthyAuthorisedEntry}
 use Rattle.tree.proofs.FormedContents.{formed-many, formed-next}
 
 -- After k marks: those, and the marks of the rest over what stands behind them.
@@ -59,13 +58,6 @@ module _ {A : Type 0} (p : A → Bool) (l : List A) where
 
 -- The same over a tree.
 module _ {o : KeyOrder} {count : ℕ} {dir tree : List ℕ} (v : Formed o count dir tree) (ns : List ℕ) (p : Stored → Bool) (m₀ m : List ℕ) (k : ℕ) where
-  pub mark-turn : k < count → count ≤ length m₀ → (a : LengthyAuthorisedEntry) → storedOf a ≡ stored o field ns (recordAt k dir tree)
-      → (b : Bool) → b ≡ p (storedOf a)
-      → Marking p (contents o field ns (records count dir tree)) m₀ m k
-      → Marking p (contents o field ns (records count dir tree)) m₀ (set m k (boolByte b)) (k + 1)
-  mark-turn h w a q b e i =
-      marking-next p (contents o field ns (records count dir tree)) m₀ m k (stored o field ns (recordAt k dir tree)) b (formed-next v ns k h) (omega (arith, i .long)) (e ∙ ap p q) i
-
   pub mark-next : k < count → count ≤ length m₀ → (b : Bool) → b ≡ p (stored o field ns (recordAt k dir tree))
       → Marking p (contents o field ns (records count dir tree)) m₀ m k
       → Marking p (contents o field ns (records count dir tree)) m₀ (set m k (boolByte b)) (k + 1)

@@ -1,18 +1,18 @@
 -- The place of a record in its key, and what places that do not begin alike say: the one entry does not cover the other.
 -- Assumes nothing.
-use Prim.Native.Nat.{ℕ, zero, suc, _+_, _-_, _*_, _≤_, _<_, _^_}
-use mathlib.Core.Path.{_≡_, refl, sym, ap, ap₂, subst, _∙_}
+use Prim.Native.Nat.{ℕ, zero, suc, _+_, _-_, _≤_, _<_}
+use mathlib.Core.Path.{_≡_, refl, sym, ap, ap₂, _∙_}
 use mathlib.Core.List.{List, [], _∷_, _++_, append-assoc, append-nil}
 use mathlib.Core.Bool.{Bool, true, false, not, _&&_}
 use native.Mathlib.Omega.{arith}
 use lib.Dec.{leb, eqb}
-use borrow.Author.Tests.{lt-leb, le-leb, eq-eqb}
+use borrow.Author.Tests.{lt-leb, le-leb, eq-eqb, ne-eqb}
 use lib.ListN.{length, take, drop, getD, length-append, length-drop}
 use lib.Seq.{take-all, take-at, drop-at, take-take, getD-take, length-take-le}
 use Rattle.laws.specs.Lists.{put}
 use Rattle.laws.specs.Prefix.{sameNumber, sameList, prefixOf}
 use Rattle.laws.proofs.Truth.{and-true, not-true, clash, refute}
-use Rattle.laws.proofs.Prefix.{number-equality, prefix-tail, prefix-append, prefix-take}
+use Rattle.laws.proofs.Prefix.{number-equality, prefix-cons, prefix-take}
 use Rattle.layout.specs.Layout.{recordAt}
 use Rattle.data_model.specs.Path.{field, Components, components, legal, samePath, sameComponent, isPrefix}
 use Rattle.data_model.specs.Subspace.{sameSubspace}
@@ -20,16 +20,17 @@ use Rattle.data_model.specs.Entry.{Entry, covers, prunes}
 use Rattle.data_model.specs.declared.parameters.Subspace.{Subspace}
 use Rattle.data_model.specs.declared.path.Path.{Path}
 use Rattle.data_model.proofs.Orders.{component-equality, path-equality, subspace-equality}
-use Rattle.keys.specs.Encode.{be, componentKey, pathKey, pathEnd, subspaceKey, Triple, triple, sptKey, tspKey, keyMost}
-use Rattle.keys.specs.Decode.{number}
+use Rattle.keys.specs.Encode.{be, escaped, componentKey, pathKey, pathEnd, subspaceKey, triple, sptKey, tspKey, keyMost}
+use Rattle.keys.specs.Decode.{number, subspaceAt}
 use Rattle.keys.proofs.Encoding.{be-length, subspace-length}
+use Rattle.keys.proofs.Reading.{rest}
 use Rattle.key_laws.specs.Bytes.{Bytes}
 use Rattle.key_laws.specs.KeyOrder.{Sized}
-use Rattle.key_laws.proofs.BigEndian.{number-back}
-use Rattle.key_laws.proofs.EntryLaws.{covers-view, prunes-covers}
+use Rattle.key_laws.proofs.BigEndian.{number-back, subspace-back}
+use Rattle.key_laws.proofs.EntryLaws.{covers-view}
 use Rattle.key_laws.proofs.Fits.{bytes-take}
 use Rattle.tree.specs.Value.{valueLength, readValue, isValue}
-use Rattle.tree.specs.Stored.{keyIn, keyOf, valuePart, isKey, isRecord, Stored, storedFrom, stored}
+use Rattle.tree.specs.Stored.{keyIn, keyOf, valuePart, isKey, isRecord, storedFrom, stored}
 use Rattle.tree.specs.Tree.{Formed}
 use Rattle.tree.specs.Matching.{outdates, removes, standsAt}
 use Rattle.tree.specs.Place.{placeKey, openPath, openKey, tripleAt, placeAt, openAt}
@@ -37,7 +38,7 @@ use Rattle.tree.specs.declared.stored.KeyOrder.{KeyOrder}
 use Rattle.tree.specs.declared.stored.KeyOrder.the-variants.{Spt, Tsp}
 use Rattle.tree.proofs.FormedLaws.{formed-record}
 use Rattle.tree.proofs.RecordLaws.{key-is-forth, key-least}
-use Rattle.tree.proofs.RecordParts.{key-fits}
+use Rattle.tree.proofs.RecordParts.{drop-cut, key-fits}
 use Rattle.tree.proofs.WithinLaws.{at-bytes}
 
 -- A path's end stands behind its components.
@@ -57,24 +58,48 @@ open-part s p n l e h =
     let m : length l ≡ length (openKey s p) + 2 = ap length q ∙ length-append (openKey s p) pathEnd in
     (omega arith, ap (take n) q ∙ take-at (openKey s p) pathEnd n (omega arith))
 
--- What begins with the components of a path begins with its bytes.
-prefix-open : (cs ds : Components) → isPrefix cs ds ≡ true → (rest : List ℕ) × (pathKey ds ≡ openPath cs ++ rest)
-unfolding pathKey openPath prefixOf
-prefix-open [] ds e = (pathKey ds, refl)
-prefix-open (c ∷ cs) [] e = clash e refl
-prefix-open (c ∷ cs) (d ∷ ds) e =
-    let k = prefix-tail sameComponent component-equality c d cs ds e in
-    let r = prefix-open cs ds (k .1) in
-    (r .0, ap₂ (λ (x : List ℕ) (y : List ℕ). x ++ y) (ap componentKey (sym (k .0))) (r .1) ∙ sym (append-assoc (componentKey c) (openPath cs) (r .0)))
+-- What begins alike is told apart behind it.
+prefix-behind : (k x y : List ℕ) → prefixOf sameNumber (k ++ x) (k ++ y) ≡ prefixOf sameNumber x y
+prefix-behind [] x y = refl
+prefix-behind (b ∷ k) x y = prefix-cons sameNumber number-equality b (k ++ x) (k ++ y) ∙ prefix-behind k x y
+
+-- A path prefixes another exactly if its bytes without their end begin the other's.
+component-begins : (c d x y : List ℕ) → prefixOf sameNumber (componentKey c ++ x) (componentKey d ++ y) ≡ (sameComponent c d && prefixOf sameNumber x y)
+unfolding componentKey escaped prefixOf sameList sameNumber
+component-begins [] [] x y = refl
+component-begins [] (zero ∷ d) x y = refl
+component-begins [] (suc b ∷ d) x y = rw (ne-eqb 0 (suc b) (λ e. omega arith))
+component-begins (zero ∷ c) [] x y = refl
+component-begins (suc a ∷ c) [] x y = rw (ne-eqb (suc a) 0 (λ e. omega arith))
+component-begins (zero ∷ c) (zero ∷ d) x y = component-begins c d x y
+component-begins (zero ∷ c) (suc b ∷ d) x y = rw (ne-eqb 0 (suc b) (λ e. omega arith))
+component-begins (suc a ∷ c) (zero ∷ d) x y = rw (ne-eqb (suc a) 0 (λ e. omega arith))
+component-begins (suc a ∷ c) (suc b ∷ d) x y = ap (eqb (suc a) (suc b) &&_) (component-begins c d x y) ∙ and-assoc (eqb (suc a) (suc b)) (sameComponent c d) (prefixOf sameNumber x y)
+  where
+    and-assoc : (p q r : Bool) → (p && (q && r)) ≡ ((p && q) && r)
+    and-assoc true q r = refl
+    and-assoc false q r = refl
+
+component-end : (c x : List ℕ) → prefixOf sameNumber (componentKey c ++ x) pathEnd ≡ false
+unfolding componentKey escaped prefixOf sameNumber
+component-end [] x = refl
+component-end (zero ∷ c) x = refl
+component-end (suc b ∷ c) x = rw (ne-eqb (suc b) 0 (λ e. omega arith))
+
+pub open-begins : (cs ds : Components) → prefixOf sameNumber (openPath cs) (pathKey ds) ≡ isPrefix cs ds
+unfolding openPath pathKey prefixOf
+open-begins [] ds = refl
+open-begins (c ∷ cs) [] = component-end c (openPath cs)
+open-begins (c ∷ cs) (d ∷ ds) = component-begins c d (openPath cs) (pathKey ds) ∙ ap (sameComponent c d &&_) (open-begins cs ds)
 
 pub covers-begins : (a b : Entry) → covers a b ≡ true → prefixOf sameNumber (openKey (a .subspace) (a .path)) (placeKey (b .subspace) (b .path)) ≡ true
 unfolding placeKey openKey
 covers-begins a b e =
     let v = covers-view a b e in
-    let r = prefix-open (a .path) (b .path) (v .path) in
-    let q : placeKey (b .subspace) (b .path) ≡ openKey (a .subspace) (a .path) ++ r .0
-    = ap₂ (λ (x : List ℕ) (y : List ℕ). x ++ y) (ap subspaceKey (sym (v .subspace))) (r .1) ∙ sym (append-assoc (subspaceKey (a .subspace)) (openPath (a .path)) (r .0)) in
-    ap (prefixOf sameNumber (openKey (a .subspace) (a .path))) q ∙ prefix-append sameNumber number-equality (openKey (a .subspace) (a .path)) (r .0)
+    ap (λ (s : Subspace). prefixOf sameNumber (subspaceKey s ++ openPath (a .path)) (subspaceKey (b .subspace) ++ pathKey (b .path))) (v .subspace)
+    ∙ prefix-behind (subspaceKey (b .subspace)) (openPath (a .path)) (pathKey (b .path))
+    ∙ open-begins (a .path) (b .path)
+    ∙ v .path
 
 pub covers-not : (a b : Entry) (front place : List ℕ) → front ≡ openKey (a .subspace) (a .path) → place ≡ placeKey (b .subspace) (b .path)
     → (t : Bool) → t ≡ prefixOf sameNumber front place → not t ≡ true → covers a b ≡ false
@@ -104,6 +129,28 @@ key-says o r b e =
     let m = and-true (isKey o field (keyOf r)) (isValue (readValue (valuePart r))) (k .1) in
     let f = key-is-forth o field (keyOf r) (bytes-take (length r - valueLength) r b) (m .0) in
     (sym (f .0), f .2)
+
+-- The parts of a place.
+module _ (s : Subspace) (p : Components) (l : List ℕ) (e : l ≡ placeKey s p) where
+  pub place-long : 18 ≤ length l
+  unfolding placeKey
+  place-long =
+      omega (arith, ap length (e ∙ ap (subspaceKey s ++_) (path-open p)), length-append (subspaceKey s) (openPath p ++ pathEnd), length-append (openPath p) pathEnd, subspace-length s)
+
+  pub place-path : drop 16 l ≡ pathKey p
+  unfolding placeKey
+  place-path = ap (drop 16) e ∙ drop-at (subspaceKey s) (pathKey p) 16 (subspace-length s)
+
+-- The subspace of record k, read off its place.
+pub subspace-read : {o : KeyOrder} {count : ℕ} {dir tree : List ℕ} → Formed o count dir tree → (k : ℕ) → k < count → Bytes tree → (l : List ℕ) → l ≡ placeAt o (recordAt k dir tree)
+    → (m n : ℕ) → m ≡ number l → n ≡ number (take (length l - 8) (drop 8 l)) → record { high = m; low = n } ≡ tripleAt o (recordAt k dir tree) .subspace
+unfolding placeKey subspaceAt
+subspace-read {o} {count} {dir} {tree} v k h b l e m n q r =
+    let t = tripleAt o (recordAt k dir tree) in
+    let z = key-says o (recordAt k dir tree) (at-bytes k dir tree b) (formed-record v k h) .1 in
+    let low : n ≡ number (drop 8 l) = r ∙ ap number (rest l 8) in
+    let is : subspaceAt l ≡ t .subspace = ap subspaceAt e ∙ subspace-back (t .subspace) (pathKey (t .path)) (z .high) (z .low) in
+    (λ i. record { high = q i; low = low i }) ∙ is
 
 -- In the key of record k: its place, and its time.
 module _ {o : KeyOrder} {count : ℕ} {dir tree : List ℕ} (v : Formed o count dir tree) (k : ℕ) (h : k < count) (b : Bytes tree) (key : List ℕ) (e : key ≡ keyOf (recordAt k dir tree)) where
@@ -185,3 +232,15 @@ module _ (o : KeyOrder) (ns r : List ℕ) where
 pub front-wrote : (s : Subspace) (p : Components) (buf : List ℕ) (r n : ℕ) → take r buf ≡ placeKey s p → r ≤ length buf → n ≡ r - 2 → take n buf ≡ openKey s p
 front-wrote s p buf r n e h q =
     sym (take-take n r buf (omega arith)) ∙ open-part s p n (take r buf) e (q ∙ ap (_- 2) (sym (length-take-le r buf h))) .1
+
+-- The bytes of a path that was written behind its subspace, and these without their end.
+pub path-wrote : (s : Subspace) (p : Components) (buf : List ℕ) (r : ℕ) → take r buf ≡ placeKey s p → r ≤ length buf → (18 ≤ r) × (take (r - 16) (drop 16 buf) ≡ pathKey p)
+path-wrote s p buf r e h = (omega (arith, place-long s p (take r buf) e, length-take-le r buf h), sym (drop-cut 16 r buf) ∙ place-path s p (take r buf) e)
+
+pub front-path : (p : Components) (buf : List ℕ) (r m : ℕ) → take (r - 16) (drop 16 buf) ≡ pathKey p → r ≤ length buf → 18 ≤ r → m ≡ r - 2 → take (m - 16) (drop 16 buf) ≡ openPath p
+front-path p buf r m e h w q =
+    let n : length (drop 16 buf) ≡ length buf - 16 = length-drop 16 buf in
+    let l : length (take (r - 16) (drop 16 buf)) ≡ r - 16 = length-take-le (r - 16) (drop 16 buf) (omega arith) in
+    let k : take (r - 16) (drop 16 buf) ≡ openPath p ++ pathEnd = e ∙ path-open p in
+    sym (take-take (m - 16) (r - 16) (drop 16 buf) (omega arith)) ∙ ap (take (m - 16)) k
+    ∙ take-at (openPath p) pathEnd (m - 16) (omega (arith, ap length k, length-append (openPath p) pathEnd))

@@ -37,7 +37,7 @@ use Rattle.tree.specs.declared.stored.LengthyAuthorisedEntry.{LengthyAut
 use Rattle.tree.proofs.RecordLaws.{key-forth, value-length}
 
 -- The rest of a beginning is a beginning of the rest.
-drop-cut : (m n : ℕ) (l : List ℕ) → drop m (take n l) ≡ take (n - m) (drop m l)
+pub drop-cut : (m n : ℕ) (l : List ℕ) → drop m (take n l) ≡ take (n - m) (drop m l)
 drop-cut zero n l = let e : n ≡ n - 0 = omega arith in ap (λ (k : ℕ). take k l) e
 drop-cut (suc m) zero l = let e : 0 ≡ 0 - suc m = omega arith in ap (λ (k : ℕ). take k (drop (suc m) l)) e
 drop-cut (suc m) (suc n) [] = sym (take-nil (suc n - suc m))
@@ -63,9 +63,9 @@ module _ (o : KeyOrder) (f : Figures) (k : List ℕ) (r : Bool) where
   unfolding isKey readIn
   judged-tsp e h = rw e h
 
-pub value-read : (b last : List ℕ) (m n : ℕ) → last ≡ drop 104 b → m ≡ number last → n ≡ number b → leb m n ≡ isValue (readValue b)
-unfolding isValue readValue
-value-read b last m n l e h = rw (e, h, l)
+pub value-read : (v : Value) (m n : ℕ) → m ≡ v .available → n ≡ v .«payload_length» → leb m n ≡ isValue v
+unfolding isValue
+value-read v m n e h = rw (e, h)
 
 -- The three answers to what is no record, and what may be one.
 module _ (o : KeyOrder) (f : Figures) (r : List ℕ) where

@@ -1,21 +1,20 @@
 -- What the tests by value answer, a law for each answer. The facts are what the callees ensure and what the branches say.
 -- Assumes nothing.
-use mathlib.Core.Path.{_≡_, sym, ap, _∙_}
-use mathlib.Core.Bool.{Bool, true, false, not, _&&_}
+use Prim.Native.Nat.{ℕ}
+use mathlib.Core.Path.{_≡_, refl, sym, ap, _∙_}
+use mathlib.Core.Bool.{Bool, true, false, not, _&&_, _||_}
 use lib.Dec.{eqb, ltb}
 use Rattle.laws.specs.Prefix.{sameNumber}
-use Rattle.laws.proofs.Truth.{not-true, not-false}
+use Rattle.laws.proofs.Truth.{clash, not-true, not-false}
 use Rattle.data_model.specs.Path.{components, samePath}
 use Rattle.data_model.specs.Subspace.{sameSubspace}
-use Rattle.data_model.specs.Entry.{rankOf, entryOf, newer, covers}
+use Rattle.data_model.specs.Entry.{entryOf, newer, covers}
 use Rattle.data_model.specs.declared.entry.Entry.{Entry}
 use Rattle.data_model.specs.declared.parameters.Subspace.{Subspace}
 use Rattle.data_model.specs.declared.path.Path.{Path}
-use Rattle.data_model.specs.declared.area.Area.{Area}
-use Rattle.data_model.specs.declared.«range_3d».Range3d.{Range3d}
-use Rattle.tree.specs.Stored.{storedOf}
+use Rattle.tree.specs.Stored.{Stored, storedOf}
 use Rattle.tree.specs.Apart.{samePlace}
-use Rattle.tree.specs.Matching.{removes, standsAt, inArea, inRange, isForgotten, letThrough, listedInArea, listedInRange}
+use Rattle.tree.specs.Matching.{removes, standsAt, letThrough}
 use Rattle.tree.specs.declared.stored.LengthyAuthorisedEntry.{LengthyAuthorisedEntry}
 use Rattle.tree.specs.declared.matching.QueryIgnoreParams.{QueryIgnoreParams}
 
@@ -49,49 +48,25 @@ module _ (s : Subspace) (p : Path) (a : LengthyAuthorisedEntry) (q : Bool) (h : 
   unfolding standsAt storedOf entryOf
   at-paths e r k = rw (sym h ∙ not-false q e) k
 
--- Let through: payloads that are not all there, empty ones.
-module _ (g : QueryIgnoreParams) (a : LengthyAuthorisedEntry) where
-  pub through-short : (g .«ignore_incomplete_payloads» && ltb (a .available) (a .entry .«payload_length»)) ≡ true → false ≡ letThrough g (storedOf a)
-  unfolding letThrough storedOf entryOf rankOf sameNumber
-  through-short t = rw t
+-- Let through: with no flag set, payloads that are not all there, empty ones. The two lengths may be read in any way.
+module _ (g : QueryIgnoreParams) (x : Stored) where
+  pub through-free : not (g .«ignore_incomplete_payloads» || g .«ignore_empty_payloads») ≡ true → true ≡ letThrough g x
+  unfolding letThrough
+  through-free e = go (g .«ignore_incomplete_payloads») (g .«ignore_empty_payloads») (ltb (x .available) (x .entry .rank .«payload_length»)) (sameNumber (x .entry .rank .«payload_length») 0) e
+    where
+      go : (a b p q : Bool) → not (a || b) ≡ true → true ≡ (not (a && p) && not (b && q))
+      go true b p q e = clash e refl
+      go false true p q e = clash e refl
+      go false false p q e = refl
 
-  pub through-rest : (g .«ignore_incomplete_payloads» && ltb (a .available) (a .entry .«payload_length»)) ≡ false
-      → not (g .«ignore_empty_payloads» && eqb (a .entry .«payload_length») 0) ≡ letThrough g (storedOf a)
-  unfolding letThrough storedOf entryOf rankOf sameNumber
-  through-rest f = rw f
+  module _ (m n : ℕ) (a : m ≡ x .available) (l : n ≡ x .entry .rank .«payload_length») where
+    pub through-short : (g .«ignore_incomplete_payloads» && ltb m n) ≡ true → false ≡ letThrough g x
+    unfolding letThrough
+    through-short t = rw (← a, ← l, t)
 
--- Forgotten: outside the area, in the protected area or not, with none.
-module _ (area : Area) (protects : Bool) (protected : Area) (a : LengthyAuthorisedEntry) (r : Bool) (h : r ≡ inArea area (storedOf a)) where
-  pub forgotten-outside : not r ≡ true → false ≡ isForgotten area protects protected (storedOf a)
-  unfolding isForgotten
-  forgotten-outside e = rw (sym h ∙ not-true r e)
-
-  pub forgotten-by : not r ≡ false → protects ≡ true → (q : Bool) → q ≡ inArea protected (storedOf a) → not q ≡ isForgotten area protects protected (storedOf a)
-  unfolding isForgotten
-  forgotten-by e t q k = rw (sym h ∙ not-false r e, t) (ap not k)
-
-  pub forgotten-all : not r ≡ false → protects ≡ false → true ≡ isForgotten area protects protected (storedOf a)
-  unfolding isForgotten
-  forgotten-all e f = rw (sym h ∙ not-false r e, f)
-
--- Listed: inside, and let through.
-module _ (area : Area) (g : QueryIgnoreParams) (a : LengthyAuthorisedEntry) (r : Bool) (h : r ≡ inArea area (storedOf a)) where
-  pub listed-area-inside : r ≡ true → (q : Bool) → q ≡ letThrough g (storedOf a) → q ≡ listedInArea area g (storedOf a)
-  unfolding listedInArea
-  listed-area-inside t q k = rw (sym h ∙ t) k
-
-  pub listed-area-outside : r ≡ false → false ≡ listedInArea area g (storedOf a)
-  unfolding listedInArea
-  listed-area-outside f = rw (sym h ∙ f)
-
-module _ (range : Range3d) (g : QueryIgnoreParams) (a : LengthyAuthorisedEntry) (r : Bool) (h : r ≡ inRange range (storedOf a)) where
-  pub listed-range-inside : r ≡ true → (q : Bool) → q ≡ letThrough g (storedOf a) → q ≡ listedInRange range g (storedOf a)
-  unfolding listedInRange
-  listed-range-inside t q k = rw (sym h ∙ t) k
-
-  pub listed-range-outside : r ≡ false → false ≡ listedInRange range g (storedOf a)
-  unfolding listedInRange
-  listed-range-outside f = rw (sym h ∙ f)
+    pub through-rest : (g .«ignore_incomplete_payloads» && ltb m n) ≡ false → not (g .«ignore_empty_payloads» && eqb n 0) ≡ letThrough g x
+    unfolding letThrough sameNumber
+    through-rest f = rw (← a, ← l, f)
 
 -- May cover: not of one place, not newer.
 module _ (a b : Entry) (r : Bool) (h : r ≡ samePlace (entryOf a) (entryOf b)) where

@@ -5,3 +5,4 @@ pub mod Apart
 pub mod Matching
 pub mod Interest
 pub mod Place
+pub mod ByBytes

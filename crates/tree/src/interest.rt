@@ -1,6 +1,8 @@
 // From which time on an area of interest takes entries.
+use crate::place::time_at;
 use crate::stored::KeyOrder;
-use crate::stored::stored_at;
+use crate::stored::value_at;
+use crate::value::payload_length;
 ghost use mathlib.Core.Path.{_≡_};
 ghost use mathlib.Core.Bool.{false, _||_};
 ghost use Prim.Native.Nat.{_+_};
@@ -70,10 +72,8 @@ pub fn interest_start(
     let mut time = start;
     while 0 < k {
         if marks[k - 1] == 1 {
-            let a = stored_at(KeyOrder::Tsp, namespace, dir, tree, k - 1);
-            let e = a.entry;
-            let length = e.payload_length;
-            time = e.timestamp;
+            let length = payload_length(value_at(tree, dir, k - 1));
+            time = time_at(KeyOrder::Tsp, count, dir, tree, k - 1);
             if breaks_one(max_count, max_size, n, size, length) {
                 return time;
             }

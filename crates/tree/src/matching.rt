@@ -2,13 +2,18 @@
 use crate::by_value::covers;
 use crate::by_value::is_newer;
 use crate::place::END;
+use crate::place::SUBSPACE;
 use crate::place::begins;
 use crate::place::open_at;
 use crate::place::place_at;
+use crate::place::write_path;
 use crate::place::write_place;
 use crate::stored::KeyOrder;
 use crate::stored::LengthyAuthorisedEntry;
 use crate::stored::stored_at;
+use crate::walks::area_from;
+use crate::walks::forgotten_from;
+use crate::walks::range_from;
 use data_model::area::Area;
 use data_model::checked;
 use data_model::entry::Entry;
@@ -30,7 +35,7 @@ ghost use Rattle.data_model.specs.Range.{legalRange};
 ghost use Rattle.tree.specs.Stored.{contents, stored, storedOf};
 ghost use Rattle.tree.specs.Tree.{Formed};
 ghost use Rattle.tree.specs.Place.{placeKey, openKey};
-ghost use Rattle.tree.specs.Matching.{outdates, removes, standsAt, inArea, inRange, isForgotten, letThrough, listedInArea, listedInRange};
+ghost use Rattle.tree.specs.Matching.{outdates, removes, standsAt, isForgotten, letThrough, listedInArea, listedInRange};
 
 // Which entries to ignore in a query: those whose payload is not all there, those of an empty payload.
 pub struct QueryIgnoreParams {
@@ -70,24 +75,6 @@ pub fn stands_at(subspace: Subspace, path: Path, a: LengthyAuthorisedEntry) -> b
     checked::eq(p, path)
 }
 
-pub fn in_area(area: Area, a: LengthyAuthorisedEntry) -> bool
-    requires { ⌜ (legal field (area .path) ≡ true) × (legal field (a .entry .path) ≡ true) ⌝ }
-    ensures { λ r. ⌜ r ≡ inArea area (storedOf a) ⌝ }
-{
-    let x = a.entry;
-    let p = x.path;
-    checked::area_includes(area, x.subspace_id, p, x.timestamp)
-}
-
-pub fn in_range(range: Range3d, a: LengthyAuthorisedEntry) -> bool
-    requires { ⌜ (legalRange field (range .paths) ≡ true) × (legal field (a .entry .path) ≡ true) ⌝ }
-    ensures { λ r. ⌜ r ≡ inRange range (storedOf a) ⌝ }
-{
-    let x = a.entry;
-    let p = x.path;
-    checked::range_includes(range, x.subspace_id, p, x.timestamp)
-}
-
 pub fn let_through(ignore: QueryIgnoreParams, a: LengthyAuthorisedEntry) -> bool
     ensures { λ r. ⌜ r ≡ letThrough ignore (storedOf a) ⌝ }
 {
@@ -97,40 +84,6 @@ pub fn let_through(ignore: QueryIgnoreParams, a: LengthyAuthorisedEntry) -> bool
         return false;
     }
     !(ignore.ignore_empty_payloads & (n == 0))
-}
-
-// The path of an absent protected area is not looked at.
-pub fn is_forgotten(area: Area, protects: bool, protected: Area, a: LengthyAuthorisedEntry) -> bool
-    requires { ⌜ (legal field (area .path) ≡ true) × (cond protects (legal field (protected .path)) true ≡ true) × (legal field (a .entry .path) ≡ true) ⌝ }
-    ensures { λ r. ⌜ r ≡ isForgotten area protects protected (storedOf a) ⌝ }
-{
-    if !in_area(area, a) {
-        return false;
-    }
-    if protects {
-        return !in_area(protected, a);
-    }
-    true
-}
-
-pub fn listed_in_area(area: Area, ignore: QueryIgnoreParams, a: LengthyAuthorisedEntry) -> bool
-    requires { ⌜ (legal field (area .path) ≡ true) × (legal field (a .entry .path) ≡ true) ⌝ }
-    ensures { λ r. ⌜ r ≡ listedInArea area ignore (storedOf a) ⌝ }
-{
-    if in_area(area, a) {
-        return let_through(ignore, a);
-    }
-    false
-}
-
-pub fn listed_in_range(range: Range3d, ignore: QueryIgnoreParams, a: LengthyAuthorisedEntry) -> bool
-    requires { ⌜ (legalRange field (range .paths) ≡ true) × (legal field (a .entry .path) ≡ true) ⌝ }
-    ensures { λ r. ⌜ r ≡ listedInRange range ignore (storedOf a) ⌝ }
-{
-    if in_range(range, a) {
-        return let_through(ignore, a);
-    }
-    false
 }
 
 // The same of record k. `place`: the entry's.
@@ -336,6 +289,17 @@ pub fn mark_at(
     );
 }
 
+// The path if it is looked at, else one that is legal.
+fn path_if(looked_at: bool, path: Path) -> Path
+    requires { ⌜ cond «looked_at» (legal field path) true ≡ true ⌝ }
+    ensures { λ r. ⌜ (legal field r ≡ true) × («looked_at» ≡ true → r ≡ path) ⌝ }
+{
+    if looked_at {
+        return path;
+    }
+    Path::new_empty()
+}
+
 // What an area includes and the protected area, if any, does not.
 pub fn mark_forgotten(
     order: KeyOrder,
@@ -351,12 +315,31 @@ pub fn mark_forgotten(
     requires { ⌜ (Formed order count (now dir) (now tree)) × (count ≤ length (now marks)) × (legal field (area .path) ≡ true) × (cond protects (legal field (protected .path)) true ≡ true) ⌝ }
     ensures { λ _. ⌜ now (marks .exit) ≡ put (marksOf (isForgotten area protects protected) (contents order field namespace (records count (now (dir .entry)) (now (tree .entry))))) (now (marks .entry)) ⌝ }
 {
-    let mut k: usize = 0;
-    while k < count {
-        let a = stored_at(order, namespace, dir, tree, k);
-        marks[k] = is_forgotten(area, protects, protected, a) as u8;
-        k += 1;
-    }
+    let path = area.path;
+    let mut key = [0u8; KEY_MOST];
+    let n = write_path(path, &mut key) - END;
+    let other = protected.path;
+    let mut shield = [0u8; KEY_MOST];
+    let m = write_path(path_if(protects, other), &mut shield) - END;
+    let own = area.subspace;
+    let times = area.times;
+    let shield_own = protected.subspace;
+    let shield_times = protected.times;
+    forgotten_from(
+        order,
+        namespace,
+        count,
+        dir,
+        tree,
+        own,
+        times,
+        &key[SUBSPACE..n],
+        protects,
+        shield_own,
+        shield_times,
+        &shield[SUBSPACE..m],
+        marks,
+    );
 }
 
 // What an area includes and the flags let through.
@@ -373,12 +356,23 @@ pub fn mark_area(
     requires { ⌜ (Formed order count (now dir) (now tree)) × (count ≤ length (now marks)) × (legal field (area .path) ≡ true) ⌝ }
     ensures { λ _. ⌜ now (marks .exit) ≡ put (marksOf (listedInArea area ignore) (contents order field namespace (records count (now (dir .entry)) (now (tree .entry))))) (now (marks .entry)) ⌝ }
 {
-    let mut k: usize = 0;
-    while k < count {
-        let a = stored_at(order, namespace, dir, tree, k);
-        marks[k] = listed_in_area(area, ignore, a) as u8;
-        k += 1;
-    }
+    let path = area.path;
+    let mut key = [0u8; KEY_MOST];
+    let n = write_path(path, &mut key) - END;
+    let own = area.subspace;
+    let times = area.times;
+    area_from(
+        order,
+        namespace,
+        count,
+        dir,
+        tree,
+        own,
+        times,
+        &key[SUBSPACE..n],
+        ignore,
+        marks,
+    );
 }
 
 // What a 3d range includes and the flags let through.
@@ -395,10 +389,28 @@ pub fn mark_range(
     requires { ⌜ (Formed order count (now dir) (now tree)) × (count ≤ length (now marks)) × (legalRange field (range .paths) ≡ true) ⌝ }
     ensures { λ _. ⌜ now (marks .exit) ≡ put (marksOf (listedInRange range ignore) (contents order field namespace (records count (now (dir .entry)) (now (tree .entry))))) (now (marks .entry)) ⌝ }
 {
-    let mut k: usize = 0;
-    while k < count {
-        let a = stored_at(order, namespace, dir, tree, k);
-        marks[k] = listed_in_range(range, ignore, a) as u8;
-        k += 1;
-    }
+    let paths = range.paths;
+    let start = paths.start;
+    let end = paths.end;
+    let open = paths.open;
+    let mut low = [0u8; KEY_MOST];
+    let n = write_path(start, &mut low);
+    let mut high = [0u8; KEY_MOST];
+    let m = write_path(path_if(!open, end), &mut high);
+    let subspaces = range.subspaces;
+    let times = range.times;
+    range_from(
+        order,
+        namespace,
+        count,
+        dir,
+        tree,
+        subspaces,
+        times,
+        &low[SUBSPACE..n],
+        open,
+        &high[SUBSPACE..m],
+        ignore,
+        marks,
+    );
 }

@@ -9,16 +9,18 @@ use keys::number::read_u64;
 use layout::bytes::same;
 ghost use mathlib.Core.Path.{_≡_};
 ghost use mathlib.Core.Bool.{true, false};
-ghost use Prim.Native.Nat.{_≤_, _<_};
-ghost use lib.ListN.{length, take};
+ghost use Prim.Native.Nat.{_-_, _≤_, _<_};
+ghost use lib.ListN.{length, take, drop};
 ghost use Rattle.laws.specs.Prefix.{sameNumber, prefixOf};
 ghost use Rattle.layout.specs.Layout.{recordAt};
 ghost use Rattle.data_model.specs.Path.{field, legal, components};
-ghost use Rattle.keys.specs.Encode.{keyMost};
+ghost use Rattle.keys.specs.Encode.{pathKey, keyMost};
 ghost use Rattle.tree.specs.Tree.{Formed};
 ghost use Rattle.tree.specs.Place.{placeKey, tripleAt, placeAt, openAt};
 
-// The bytes of a path's end, and of a timestamp.
+// The bytes of a subspace, of a path's end, and of a timestamp.
+pub const SUBSPACE: usize = 16;
+
 pub const END: usize = 2;
 
 const TIME: usize = 8;
@@ -48,6 +50,26 @@ pub fn open_at<'a>(order: KeyOrder, count: usize, dir: &[u32], tree: &'a [u8], k
     let place = place_at(order, count, dir, tree, k);
     let n = place.len();
     &place[..n - END]
+}
+
+// The parts of a place: its subspace, and the bytes of its path.
+pub fn subspace_at(order: KeyOrder, count: usize, dir: &[u32], tree: &[u8], k: usize) -> Subspace
+    requires { ⌜ (Formed order count (now dir) (now tree)) × (k < count) ⌝ }
+    ensures { λ r. ⌜ r ≡ tripleAt order (recordAt k (now (dir .entry)) (now (tree .entry))) .subspace ⌝ }
+{
+    let place = place_at(order, count, dir, tree, k);
+    Subspace {
+        high: read_u64(place),
+        low: read_u64(&place[8..]),
+    }
+}
+
+pub fn path_at<'a>(order: KeyOrder, count: usize, dir: &[u32], tree: &'a [u8], k: usize) -> &'a [u8]
+    requires { ⌜ (Formed order count (now dir) (now tree)) × (k < count) ⌝ }
+    ensures { λ r. ⌜ now r ≡ pathKey (tripleAt order (recordAt k (now (dir .entry)) (now (tree .entry))) .path) ⌝ }
+{
+    let place = place_at(order, count, dir, tree, k);
+    &place[SUBSPACE..]
 }
 
 pub fn time_at(order: KeyOrder, count: usize, dir: &[u32], tree: &[u8], k: usize) -> u64
@@ -94,4 +116,13 @@ pub fn write_place(subspace: Subspace, path: Path, out: &mut [u8]) -> usize
     ensures { λ r. ⌜ (2 ≤ r) × (r ≤ keyMost field) × (take r (now (out .exit)) ≡ placeKey subspace (components path)) ⌝ }
 {
     encode_key(KeyOrder::Spt, subspace, path, 0, out) - TIME
+}
+
+// Writes the bytes of a path from `SUBSPACE` on, and answers where they end.
+pub fn write_path(path: Path, out: &mut [u8]) -> usize
+    requires { ⌜ (legal field path ≡ true) × (keyMost field ≤ length (now out)) ⌝ }
+    ensures { λ r. ⌜ (18 ≤ r) × (r ≤ keyMost field) × (take (r - 16) (drop 16 (now (out .exit))) ≡ pathKey (components path)) ⌝ }
+{
+    let none = Subspace { high: 0, low: 0 };
+    write_place(none, path, out)
 }

@@ -91,10 +91,25 @@ pub fn decode_entry_values(value: &[u8]) -> Value
     }
 }
 
+// The two lengths alone.
+pub fn payload_length(value: &[u8]) -> u64
+    requires { ⌜ length (now value) ≡ valueLength ⌝ }
+    ensures { λ r. ⌜ r ≡ readValue (now (value .entry)) .«payload_length» ⌝ }
+{
+    read_u64(value)
+}
+
+pub fn available(value: &[u8]) -> u64
+    requires { ⌜ length (now value) ≡ valueLength ⌝ }
+    ensures { λ r. ⌜ r ≡ readValue (now (value .entry)) .available ⌝ }
+{
+    read_u64(&value[AVAILABLE_AT..])
+}
+
 // Whether no more is available than there is.
 pub fn is_value(value: &[u8]) -> bool
     requires { ⌜ length (now value) ≡ valueLength ⌝ }
     ensures { λ r. ⌜ r ≡ isValue (readValue (now (value .entry))) ⌝ }
 {
-    read_u64(&value[AVAILABLE_AT..]) <= read_u64(value)
+    available(value) <= payload_length(value)
 }

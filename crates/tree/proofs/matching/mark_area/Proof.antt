@@ -1,64 +1,62 @@
--- `mark_area` meets its contract. Assumes nothing.
-use Prim.Native.Nat.{_≤_, _-_}
+-- `mark_area` meets its contract: what is asked by bytes, which are written once, is what is asked. Assumes nothing.
+use Prim.Native.Nat.{ℕ, _-_}
+use mathlib.Core.Path.{refl, ap, _∙_}
+use mathlib.Core.Bool.{Bool}
 use native.Mathlib.Omega.{arith}
+use lib.ListN.{length-replicate}
+use Rattle.laws.specs.Lists.{put}
 use Rattle.layout.specs.Layout.{records}
-use Rattle.data_model.specs.Path.{field}
-use Rattle.tree.specs.Stored.{contents}
-use Rattle.tree.specs.Matching.{listedInArea}
-use Rattle.tree.proofs.FormedLaws.{formed-bounds}
-use Rattle.tree.proofs.MarkingLaws.{Marking, marking-start, mark-turn, mark-end}
+use Rattle.layout.specs.Marks.{marksOf}
+use Rattle.data_model.specs.Path.{field, components}
+use Rattle.tree.specs.Stored.{Stored, contents}
+use Rattle.tree.proofs.PlaceLaws.{front-path}
+use Rattle.tree.proofs.ByteLaws.{listed-area-bytes}
+use borrow.Author.Needs.{needs}
 use Rattle.tree.proofs.matching.mark_area.Statement.{statement}
 use Rattle.tree.proofs.matching.mark_area.Tie as tie
 
-abbrev Inv-loop : tie.InvT-loop
-Inv-loop order namespace count dir tree area ignore marks₀ k₀ marks k = (k ≤ count) × Marking (listedInArea area ignore) (contents order field namespace (records count dir tree)) marks₀ marks k
+slice-aggregate-write-path : tie.Need-slice-aggregate-write-path
+slice-aggregate-write-path c = search needs
 
-abbrev μ-loop : tie.MeasureT-loop
-μ-loop order namespace count dir tree area ignore marks₀ k₀ marks k = count - k
+write-path-requires : tie.Need-write-path-requires
+write-path-requires c κs = search needs
 
-loop-holds : tie.Need-loop-holds Inv-loop μ-loop
-loop-holds c = (omega arith, marking-start _ _ _)
+sub-n : tie.Need-sub-n
+sub-n c = search needs
 
-stored-at-requires : tie.Need-stored-at-requires Inv-loop μ-loop
-stored-at-requires c κs = formed-bounds (c .before .before .before .before .before .pre .0) _ (omega arith)
+sub-area-from : tie.Need-sub-area-from
+sub-area-from c = search needs
 
-listed-in-area-requires : tie.Need-listed-in-area-requires Inv-loop μ-loop
-listed-in-area-requires c κs = (c .before .before .before .before .before .before .pre .2, c .stored-at .ensures .1 .0)
+part-area-from-start : tie.Need-part-area-from-start
+part-area-from-start c = search needs
 
-cast-marks : tie.Need-cast-marks Inv-loop μ-loop
-cast-marks c = tt
+part-area-from-end : tie.Need-part-area-from-end
+part-area-from-end c = search needs
 
-slice-write-marks : tie.Need-slice-write-marks Inv-loop μ-loop
-slice-write-marks c = omega arith
+area-from-requires : tie.Need-area-from-requires
+area-from-requires c κs = search needs
 
-add-k : tie.Need-add-k Inv-loop μ-loop
-add-k c = omega arith
+same-length : tie.Need-same-length
+same-length c = search needs
 
-loop-less : tie.Need-loop-less Inv-loop μ-loop
-loop-less c = omega arith
-
-loop-again : tie.Need-loop-again Inv-loop μ-loop
-loop-again c = (omega arith, mark-turn (c .before .before .before .before .before .before .before .pre .0) _ _ _ _ _ (omega arith) (omega arith) _ (c .before .stored-at .ensures .1 .1) _ (c .listed-in-area .ensures) (c .before .before .before .loop .inv .1))
-
-same-length : tie.Need-same-length Inv-loop μ-loop
-same-length c = omega arith
-
-returns : tie.Need-returns Inv-loop μ-loop
-returns c = mark-end (c .before .before .before .before .before .pre .0) _ _ _ _ _ (omega arith) (c .before .loop .inv .1)
+returns : tie.Need-returns
+returns c =
+    let a = c .before .before .before .before .before .before .before .before .before .before .before .before .before .before .args in
+    let w = c .before .before .before .before .before .before .before .before .write-path in
+    c .before .before .area-from .ensures
+    ∙ ap (λ (p : Stored → Bool). put (marksOf p (contents (a .order) field (a .namespace) (records (a .count) (a .dir .now) (a .tree .now)))) (a .marks .now))
+    (listed-area-bytes (a .area) _ (front-path (components (a .area .path)) (w .last .1 .0) (w .result) (w .result - 2) (w .ensures .2) (omega (arith, w .ensures .1, w .kept .1 .0, length-replicate {A = ℕ} 298 0)) (w .ensures .0) refl) (a .ignore))
 
 pub mark-area-spec : {M : Type 1} → statement M
 mark-area-spec =
     tie.close
     (tie.spec
-    Inv-loop
-    μ-loop
-    loop-holds
-    stored-at-requires
-    listed-in-area-requires
-    cast-marks
-    slice-write-marks
-    add-k
-    loop-less
-    loop-again
+    slice-aggregate-write-path
+    write-path-requires
+    sub-n
+    sub-area-from
+    part-area-from-start
+    part-area-from-end
+    area-from-requires
     same-length
     returns)

@@ -1,64 +1,82 @@
--- `mark_range` meets its contract. Assumes nothing.
-use Prim.Native.Nat.{_≤_, _-_}
-use native.Mathlib.Omega.{arith}
+-- `mark_range` meets its contract: what is asked by bytes, which are written once, is what is asked. Assumes nothing.
+use mathlib.Core.Path.{ap, _∙_}
+use mathlib.Core.Bool.{Bool}
+use Rattle.laws.specs.Lists.{put}
 use Rattle.layout.specs.Layout.{records}
-use Rattle.data_model.specs.Path.{field}
-use Rattle.tree.specs.Stored.{contents}
-use Rattle.tree.specs.Matching.{listedInRange}
-use Rattle.tree.proofs.FormedLaws.{formed-bounds}
-use Rattle.tree.proofs.MarkingLaws.{Marking, marking-start, mark-turn, mark-end}
+use Rattle.layout.specs.Marks.{marksOf}
+use Rattle.data_model.specs.Path.{field, components}
+use Rattle.data_model.specs.declared.path.Path.{Path}
+use Rattle.keys.specs.Encode.{pathKey}
+use Rattle.tree.specs.Stored.{Stored, contents}
+use Rattle.tree.proofs.ByteLaws.{start-legal, end-legal, listed-range-bytes}
+use borrow.Author.Needs.{needs}
 use Rattle.tree.proofs.matching.mark_range.Statement.{statement}
 use Rattle.tree.proofs.matching.mark_range.Tie as tie
 
-abbrev Inv-loop : tie.InvT-loop
-Inv-loop order namespace count dir tree range ignore marks₀ k₀ marks k = (k ≤ count) × Marking (listedInRange range ignore) (contents order field namespace (records count dir tree)) marks₀ marks k
+slice-aggregate-write-path : tie.Need-slice-aggregate-write-path
+slice-aggregate-write-path c = search needs
 
-abbrev μ-loop : tie.MeasureT-loop
-μ-loop order namespace count dir tree range ignore marks₀ k₀ marks k = count - k
+write-path-requires : tie.Need-write-path-requires
+write-path-requires c κs = let h = start-legal (c .before .before .before .before .before .before .before .args .range .paths) (c .before .before .before .before .before .before .before .pre .2) in search needs
 
-loop-holds : tie.Need-loop-holds Inv-loop μ-loop
-loop-holds c = (omega arith, marking-start _ _ _)
+path-if-requires : tie.Need-path-if-requires
+path-if-requires c κs = end-legal (c .before .before .before .before .before .before .before .before .before .args .range .paths) (c .before .before .before .before .before .before .before .before .before .pre .2)
 
-stored-at-requires : tie.Need-stored-at-requires Inv-loop μ-loop
-stored-at-requires c κs = formed-bounds (c .before .before .before .before .before .pre .0) _ (omega arith)
+slice-aggregate-write-path-2 : tie.Need-slice-aggregate-write-path-2
+slice-aggregate-write-path-2 c = search needs
 
-listed-in-range-requires : tie.Need-listed-in-range-requires Inv-loop μ-loop
-listed-in-range-requires c κs = (c .before .before .before .before .before .before .pre .2, c .stored-at .ensures .1 .0)
+write-path-requires-2 : tie.Need-write-path-requires-2
+write-path-requires-2 c κs = search needs
 
-cast-marks : tie.Need-cast-marks Inv-loop μ-loop
-cast-marks c = tt
+sub-range-from : tie.Need-sub-range-from
+sub-range-from c = search needs
 
-slice-write-marks : tie.Need-slice-write-marks Inv-loop μ-loop
-slice-write-marks c = omega arith
+part-range-from-start : tie.Need-part-range-from-start
+part-range-from-start c = search needs
 
-add-k : tie.Need-add-k Inv-loop μ-loop
-add-k c = omega arith
+part-range-from-end : tie.Need-part-range-from-end
+part-range-from-end c = search needs
 
-loop-less : tie.Need-loop-less Inv-loop μ-loop
-loop-less c = omega arith
+sub-range-from-2 : tie.Need-sub-range-from-2
+sub-range-from-2 c = search needs
 
-loop-again : tie.Need-loop-again Inv-loop μ-loop
-loop-again c = (omega arith, mark-turn (c .before .before .before .before .before .before .before .pre .0) _ _ _ _ _ (omega arith) (omega arith) _ (c .before .stored-at .ensures .1 .1) _ (c .listed-in-range .ensures) (c .before .before .before .loop .inv .1))
+part-range-from-start-2 : tie.Need-part-range-from-start-2
+part-range-from-start-2 c = search needs
 
-same-length : tie.Need-same-length Inv-loop μ-loop
-same-length c = omega arith
+part-range-from-end-2 : tie.Need-part-range-from-end-2
+part-range-from-end-2 c = search needs
 
-returns : tie.Need-returns Inv-loop μ-loop
-returns c = mark-end (c .before .before .before .before .before .pre .0) _ _ _ _ _ (omega arith) (c .before .loop .inv .1)
+range-from-requires : tie.Need-range-from-requires
+range-from-requires c κs = search needs
+
+same-length : tie.Need-same-length
+same-length c = search needs
+
+returns : tie.Need-returns
+returns c =
+    let a = c .before .before .before .before .before .before .before .before .before .before .before .before .before .before .before .before .before .before .before .before .before .before .before .args in
+    let w = c .before .before .before .before .before .before .before .before .before .before .before .before .before .before .before .write-path in
+    let q = c .before .before .before .before .before .before .before .before .before .before .before .before .before .path-if in
+    let v = c .before .before .before .before .before .before .before .before .before .before .before .write-path2 in
+    c .before .before .range-from .ensures
+    ∙ ap (λ (p : Stored → Bool). put (marksOf p (contents (a .order) field (a .namespace) (records (a .count) (a .dir .now) (a .tree .now)))) (a .marks .now))
+    (listed-range-bytes (a .range) _ _ (w .ensures .2) (λ e. v .ensures .2 ∙ ap (λ (x : Path). pathKey (components x)) (q .ensures .1 e)) (a .ignore))
 
 pub mark-range-spec : {M : Type 1} → statement M
 mark-range-spec =
     tie.close
     (tie.spec
-    Inv-loop
-    μ-loop
-    loop-holds
-    stored-at-requires
-    listed-in-range-requires
-    cast-marks
-    slice-write-marks
-    add-k
-    loop-less
-    loop-again
+    slice-aggregate-write-path
+    write-path-requires
+    path-if-requires
+    slice-aggregate-write-path-2
+    write-path-requires-2
+    sub-range-from
+    part-range-from-start
+    part-range-from-end
+    sub-range-from-2
+    part-range-from-start-2
+    part-range-from-end-2
+    range-from-requires
     same-length
     returns)
