@@ -1,3 +1,4 @@
 pub mod PairLaws
 pub mod OutcomeLaws
+pub mod LentArray
 pub mod Written

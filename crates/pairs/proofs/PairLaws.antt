@@ -1,11 +1,11 @@
 -- Numbers as pairs and pairs as numbers; pairs that a loop writes one after the other. Assumes nothing.
 use Prim.Native.Nat.{ℕ, zero, suc, _+_, _*_, _≤_, _<_}
-use mathlib.Core.Path.{_≡_, refl, sym, ap, subst, _∙_}
-use mathlib.Core.List.{List, [], _∷_, _++_}
+use mathlib.Core.Path.{_≡_, refl, sym, ap, _∙_}
+use mathlib.Core.List.{List, [], _∷_, _++_, append-nil}
 use native.Mathlib.Omega.{arith}
 use native.Mathlib.Nat.{le-of-suc-le-suc, not-suc-le-zero}
 use lib.ListN.{length, take, drop, getD, set, length-set}
-use lib.Seq.{drop-nil}
+use lib.Seq.{drop-nil, take-all, drop-length}
 use Rattle.laws.specs.Lists.{put}
 use Rattle.pairs.specs.Pairs.{pair, pairsOf, numbersOf}
 use Rattle.pairs.specs.declared.Pair.{Pair}
@@ -115,3 +115,33 @@ pairs-half (suc m) (o ∷ l ∷ xs) h = let e : length xs ≡ twice m = omega ar
 
 pub length-pairs : (m : ℕ) (xs : List ℕ) → length xs ≡ 2 * m → length (pairsOf xs) ≡ m
 length-pairs m xs h = pairs-half m xs (h ∙ sym (twice-is m))
+
+numbers-here : (ps : List Pair) (old : List ℕ) (k : ℕ) (d : Pair) → k < length ps → twice (length ps) ≤ length old
+    → set (set (put (numbersOf (take k ps)) old) (twice k) (getD ps k d .offset)) (suc (twice k)) (getD ps k d .length) ≡ put (numbersOf (take (suc k) ps)) old
+unfolding put numbersOf
+numbers-here [] old k d h g = absurd (not-suc-le-zero h)
+numbers-here (p ∷ ps) [] k d h g = absurd (not-suc-le-zero g)
+numbers-here (p ∷ ps) (y ∷ []) k d h g = absurd (not-suc-le-zero (le-of-suc-le-suc g))
+numbers-here (p ∷ ps) (y ∷ z ∷ old) zero d h g = refl
+numbers-here (p ∷ ps) (y ∷ z ∷ old) (suc k) d h g = ap (λ (l : List ℕ). p .offset ∷ p .length ∷ l) (numbers-here ps old k d (le-of-suc-le-suc h) (le-of-suc-le-suc (le-of-suc-le-suc g)))
+
+-- A loop that writes the pairs as numbers: a turn, and what it has written in all.
+module _ (ps : List Pair) (old ns : List ℕ) (k : ℕ) (so : ns ≡ put (numbersOf (take k ps)) old) (room : length old ≡ 2 * length ps) where
+  pub numbers-turn : (d : Pair) → k < length ps → set (set ns (2 * k) (getD ps k d .offset)) (2 * k + 1) (getD ps k d .length) ≡ put (numbersOf (take (k + 1) ps)) old
+  numbers-turn d h =
+      let e : 2 * k + 1 ≡ suc (twice k) = omega (arith, twice-is k) in
+      let f : k + 1 ≡ suc k = omega arith in
+      ap (λ (l : List ℕ). set (set l (2 * k) (getD ps k d .offset)) (2 * k + 1) (getD ps k d .length)) so
+      ∙ ap (λ (m : ℕ). set (set (put (numbersOf (take k ps)) old) m (getD ps k d .offset)) (2 * k + 1) (getD ps k d .length)) (sym (twice-is k))
+      ∙ ap (λ (m : ℕ). set (set (put (numbersOf (take k ps)) old) (twice k) (getD ps k d .offset)) m (getD ps k d .length)) e
+      ∙ numbers-here ps old k d h (omega (arith, twice-is (length ps)))
+      ∙ ap (λ (m : ℕ). put (numbersOf (take m ps)) old) (sym f)
+
+  pub numbers-all : length ps ≤ k → ns ≡ numbersOf ps
+  unfolding put
+  numbers-all h =
+      so
+      ∙ ap (λ (l : List Pair). put (numbersOf l) old) (take-all k ps h)
+      ∙ ap (λ (m : ℕ). numbersOf ps ++ drop m old) (length-numbers ps ∙ sym room)
+      ∙ ap (numbersOf ps ++_) (drop-length old)
+      ∙ append-nil (numbersOf ps)

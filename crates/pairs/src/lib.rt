@@ -13,7 +13,7 @@ ghost use Rattle.laws.specs.Lists.{put};
 ghost use Rattle.data_model.specs.Path.{field};
 ghost use Rattle.store.specs.Store.{limitMost, storeOf};
 ghost use Rattle.store.specs.Ingest.{ingestOutcome, ingested};
-ghost use Rattle.pairs.specs.Pairs.{pairsOf, prunedCount, numbersUsed, pairsOutcome, pairsIngested};
+ghost use Rattle.pairs.specs.Pairs.{pairsOf, numbersOf, prunedCount, numbersUsed, pairsOutcome, pairsIngested};
 
 // Offset and length of a record.
 pub struct Pair {
@@ -87,6 +87,27 @@ fn ingest_with_room(
     }
 }
 
+// An answer, its count, and the numbers of its pairs.
+fn in_numbers(ingested: Ingested, pairs: [Pair; LIMIT_MOST]) -> NumbersIngested
+    ensures { λ r. ⌜ (r .ingested ≡ ingested) × (r .numbers ≡ numbersOf pairs) ⌝ }
+{
+    let mut numbers = [0u32; NUMBERS_MOST];
+    let mut k = 0;
+    while k < LIMIT_MOST {
+        let pair = pairs[k];
+        numbers[2 * k] = pair.offset;
+        numbers[2 * k + 1] = pair.length;
+        k += 1;
+    }
+    let verdict = ingested.verdict;
+    let count = pruned_count(verdict);
+    NumbersIngested {
+        ingested,
+        count,
+        numbers,
+    }
+}
+
 // The first n pairs are those that the numbers spell.
 fn write_pairs(numbers: [u32; NUMBERS_MOST], pairs: &mut [Pair], n: usize)
     requires { ⌜ (n ≤ limitMost) × (n ≤ length (now pairs)) ⌝ }
@@ -128,4 +149,33 @@ pub fn ingest_entry(
     );
     write_pairs(r.numbers, pairs, r.count);
     r.ingested
+}
+
+// `ingest_entry` on pairs by value, for callers that can lend no slice of structs: the programs that are run.
+pub fn ingest_entry_by_value(
+    state: State,
+    spt: &mut [u8],
+    spt_dir: &mut [u32],
+    tsp: &mut [u8],
+    tsp_dir: &mut [u32],
+    pairs: [Pair; LIMIT_MOST],
+    entry: Entry,
+    token: [u8; 64],
+    prevent_pruning: bool,
+) -> NumbersIngested
+    ensures { λ r. ⌜ pairsOutcome (r .ingested) (now (spt .exit)) (now («spt_dir» .exit)) (now (tsp .exit)) (now («tsp_dir» .exit)) (pairsOf (r .numbers)) ≡ pairsIngested field (storeOf state (now (spt .entry)) (now («spt_dir» .entry)) (now (tsp .entry)) (now («tsp_dir» .entry))) pairs entry token «prevent_pruning» ⌝ }
+{
+    let mut lent = pairs;
+    let ingested = ingest_entry(
+        state,
+        spt,
+        spt_dir,
+        tsp,
+        tsp_dir,
+        &mut lent,
+        entry,
+        token,
+        prevent_pruning,
+    );
+    in_numbers(ingested, lent)
 }

@@ -4,14 +4,17 @@ use calls::request::Call;
 use calls::request::Request;
 use data_model::answer::ILLEGAL_PATH;
 use data_model::entry::Entry;
+use pairs::NUMBERS_MOST;
+use pairs::NumbersIngested;
+use pairs::Pair;
+use pairs::ingest_entry_by_value;
 use store::forget::AreaForgotten;
 use store::forget::EntryForgotten;
 use store::forget::forget_area;
 use store::forget::forget_entry;
 use store::ingest::IngestVerdict;
-use store::ingest::Ingested;
-use store::ingest::ingest_entry_numbers;
 use store::open::open;
+use store::state::LIMIT_MOST;
 use store::state::Opened;
 use store::state::State;
 
@@ -27,17 +30,24 @@ pub enum Said {
     Forgot(usize),
 }
 
-// `newer` is the entry that an obsolete verdict shows.
+// `newer` is the entry that an obsolete verdict shows, `pruned` the numbers of the pruned pairs.
 pub struct Reply {
     pub said: Said,
     pub state: State,
     pub newer: Entry,
+    pub pruned: [u32; NUMBERS_MOST],
 }
 
 fn plain_reply(said: Said, state: State) -> Reply {
     let none = calls::field::no_entry();
     let newer = none.entry;
-    Reply { said, state, newer }
+    let pruned = [0; NUMBERS_MOST];
+    Reply {
+        said,
+        state,
+        newer,
+        pruned,
+    }
 }
 
 fn opened(o: Opened) -> Reply {
@@ -49,26 +59,22 @@ fn opened(o: Opened) -> Reply {
     plain_reply(Said::Refused(n), state)
 }
 
-fn taken(i: Ingested) -> Reply {
+fn taken(t: NumbersIngested) -> Reply {
+    let i = t.ingested;
+    let pruned = t.numbers;
     let state = i.state;
     let newer = i.newer;
     let verdict = i.verdict;
-    match verdict {
-        IngestVerdict::Success(n) => Reply {
-            said: Said::Taken(n),
-            state,
-            newer,
-        },
-        IngestVerdict::Obsolete => Reply {
-            said: Said::Obsolete,
-            state,
-            newer,
-        },
-        IngestVerdict::Refused(n) => Reply {
-            said: Said::Refused(n),
-            state,
-            newer,
-        },
+    let said = match verdict {
+        IngestVerdict::Success(n) => Said::Taken(n),
+        IngestVerdict::Obsolete => Said::Obsolete,
+        IngestVerdict::Refused(n) => Said::Refused(n),
+    };
+    Reply {
+        said,
+        state,
+        newer,
+        pruned,
     }
 }
 
@@ -107,7 +113,6 @@ pub fn apply(
     spt_dir: &mut [u32],
     tsp: &mut [u8],
     tsp_dir: &mut [u32],
-    prune: &mut [u32],
     r: Request,
 ) -> Reply {
     let call = r.call;
@@ -123,7 +128,12 @@ pub fn apply(
         }
         Call::Ingest => {
             let token = r.token;
-            taken(ingest_entry_numbers(state, spt, spt_dir, tsp, tsp_dir, prune, e, token, yes))
+            let none = Pair {
+                offset: 0,
+                length: 0,
+            };
+            let pairs = [none; LIMIT_MOST];
+            taken(ingest_entry_by_value(state, spt, spt_dir, tsp, tsp_dir, pairs, e, token, yes))
         }
         Call::Forget => {
             let digest = e.payload_digest;

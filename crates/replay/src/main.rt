@@ -47,9 +47,9 @@ fn pair_buffer() -> [u32; PAIRS]
     [0; PAIRS]
 }
 
-fn write_reply(reply: apply::Reply, prune: &[u32]) {
+fn write_reply(reply: apply::Reply) {
     let mut out = answer_buffer();
-    let n = reply::say_reply(reply, prune, &mut out);
+    let n = reply::say_reply(reply, &mut out);
     write_line(&mut out, n);
 }
 
@@ -72,15 +72,14 @@ fn turn(
     spt_dir: &mut [u32],
     tsp: &mut [u8],
     tsp_dir: &mut [u32],
-    prune: &mut [u32],
     line: &[u8],
     n: usize,
 ) -> State {
     let r = read_request(whole_line(line, n));
     let call = r.call;
     if writes(call) {
-        let reply = apply::apply(state, spt, spt_dir, tsp, tsp_dir, prune, r);
-        write_reply(reply, prune);
+        let reply = apply::apply(state, spt, spt_dir, tsp, tsp_dir, r);
+        write_reply(reply);
         let after = reply.state;
         return after;
     }
@@ -95,7 +94,6 @@ fn main() {
     let mut spt_dir = pair_buffer();
     let mut tsp = tree_buffer();
     let mut tsp_dir = pair_buffer();
-    let mut prune = pair_buffer();
     let o = store::open::open(
         [0; 16],
         LIMIT,
@@ -119,7 +117,6 @@ fn main() {
             &mut spt_dir,
             &mut tsp,
             &mut tsp_dir,
-            &mut prune,
             &line,
             l.n,
         );

@@ -50,14 +50,17 @@ fn say_obsolete(e: Entry, out: &mut [u8]) -> usize
     say_entry(e, out, a)
 }
 
-pub fn say_reply(reply: Reply, prune: &[u32], out: &mut [u8]) -> usize
+pub fn say_reply(reply: Reply, out: &mut [u8]) -> usize
     ensures { λ r. ⌜ r ≤ length (now (out .entry)) ⌝ }
 {
     let said = reply.said;
     match said {
         Said::Bad => bad(out),
         Said::Opened => say(b"ok", out, 0),
-        Said::Taken(n) => say_taken(n, prune, out),
+        Said::Taken(n) => {
+            let pruned = reply.pruned;
+            say_taken(n, &pruned, out)
+        }
         Said::Obsolete => {
             let e = reply.newer;
             say_obsolete(e, out)

@@ -1,8 +1,8 @@
 -- `pairs::ingest_entry` meets its contract: a walk of its MIR, by hand. All that it knows of `ingest_with_room` and `write_pairs` is that each meets its contract.
 -- The four buffers are lent to the one, the pairs to the other; every borrow is given up for good.
 -- Assumes nothing.
-use mathlib.Core.Path.{_≡_, refl, sym, _∙_, ap, subst}
-use Prim.Native.Nat.{ℕ, _*_, _≤_, _<_, _^_}
+use mathlib.Core.Path.{_≡_, refl, ap, subst}
+use Prim.Native.Nat.{ℕ, _*_, _<_, _^_}
 use mathlib.Core.Bool.{Bool}
 use mathlib.Core.List.{[], _∷_, List, map}
 use lib.Dec.{T as Holds}
@@ -50,7 +50,6 @@ use Rattle.data_model.proofs.entry.Entry.Laws as E′
 use Rattle.store.specs.Store.{Store, storeOf}
 use Rattle.store.specs.Ingest.{ingestOutcome, ingested}
 use Rattle.store.specs.declared.state.State.{State}
-use Rattle.store.specs.declared.ingest.Ingested.{Ingested}
 use Rattle.store.proofs.state.State as S
 use Rattle.store.proofs.state.State.Laws as S′
 use Rattle.store.proofs.ingest.Ingested as I

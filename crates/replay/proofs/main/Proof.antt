@@ -6,10 +6,10 @@ use Rattle.replay.proofs.main.Statement.{statement}
 use Rattle.replay.proofs.main.Tie as tie
 
 abbrev Inv-loop : tie.InvT-loop
-Inv-loop input₀ line₀ spt₀ spt-dir₀ tsp₀ tsp-dir₀ prune₀ state₀ cursor₀ turns₀ input line spt spt-dir tsp tsp-dir prune state cursor turns = (length input ≡ 65536) × (length line ≡ 1024) × (length spt ≡ 419840) × (length spt-dir ≡ 2048) × (length tsp ≡ 419840) × (length tsp-dir ≡ 2048) × (length prune ≡ 2048)
+Inv-loop input₀ line₀ spt₀ spt-dir₀ tsp₀ tsp-dir₀ state₀ cursor₀ turns₀ input line spt spt-dir tsp tsp-dir state cursor turns = (length input ≡ 65536) × (length line ≡ 1024) × (length spt ≡ 419840) × (length spt-dir ≡ 2048) × (length tsp ≡ 419840) × (length tsp-dir ≡ 2048)
 
 abbrev μ-loop : tie.MeasureT-loop
-μ-loop input₀ line₀ spt₀ spt-dir₀ tsp₀ tsp-dir₀ prune₀ state₀ cursor₀ turns₀ input line spt spt-dir tsp tsp-dir prune state cursor turns = turns
+μ-loop input₀ line₀ spt₀ spt-dir₀ tsp₀ tsp-dir₀ state₀ cursor₀ turns₀ input line spt spt-dir tsp tsp-dir state cursor turns = turns
 
 large-buffer-requires : tie.Need-large-buffer-requires Inv-loop μ-loop
 large-buffer-requires c κs = search needs
@@ -25,9 +25,6 @@ tree-buffer-requires-2 c κs = search needs
 
 pair-buffer-requires-2 : tie.Need-pair-buffer-requires-2 Inv-loop μ-loop
 pair-buffer-requires-2 c κs = search needs
-
-pair-buffer-requires-3 : tie.Need-pair-buffer-requires-3 Inv-loop μ-loop
-pair-buffer-requires-3 c κs = search needs
 
 slice-aggregate-open : tie.Need-slice-aggregate-open Inv-loop μ-loop
 slice-aggregate-open c = search needs
@@ -74,9 +71,6 @@ slice-aggregate-turn-4 c = search needs
 slice-aggregate-turn-5 : tie.Need-slice-aggregate-turn-5 Inv-loop μ-loop
 slice-aggregate-turn-5 c = search needs
 
-slice-aggregate-turn-6 : tie.Need-slice-aggregate-turn-6 Inv-loop μ-loop
-slice-aggregate-turn-6 c = search needs
-
 turn-requires : tie.Need-turn-requires Inv-loop μ-loop
 turn-requires c κs = search needs
 
@@ -103,7 +97,6 @@ main-spec =
     pair-buffer-requires
     tree-buffer-requires-2
     pair-buffer-requires-2
-    pair-buffer-requires-3
     slice-aggregate-open
     slice-aggregate-open-2
     slice-aggregate-open-3
@@ -119,7 +112,6 @@ main-spec =
     slice-aggregate-turn-3
     slice-aggregate-turn-4
     slice-aggregate-turn-5
-    slice-aggregate-turn-6
     turn-requires
     sub-turns
     loop-less
