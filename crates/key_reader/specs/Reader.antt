@@ -2,13 +2,14 @@
 use Prim.Native.Nat.{ℕ, zero, suc, _-_}
 use mathlib.Core.List.{List, [], _∷_}
 use mathlib.Core.Bool.{cond}
-use lib.ListN.{take, drop}
+use lib.ListN.{length, take, drop}
 use lib.Dec.{leb}
 use Rattle.data_model.specs.Path.{field, Components}
 use Rattle.keys.specs.Decode.{Taken, refused, took, more, componentRead}
 use Rattle.keys.specs.declared.decode.Next.{Next}
 use Rattle.keys.specs.declared.decode.Next.the-variants as next
 use Rattle.keys.specs.declared.decode.ComponentRead.{ComponentRead}
+use Rattle.key_reader.specs.declared.Stepped.{Stepped}
 
 -- Behind the component or the path's end; a refusal takes nothing.
 abbrev pub behindNext : Next → ℕ → ℕ
@@ -18,6 +19,12 @@ behindNext (next.Refused k) at = at
 
 unfoldable pub behind : ComponentRead → ℕ → ℕ
 behind c at = behindNext (c .next) at
+
+-- What a reader takes at a position of a key: the component or the path's end, its position behind it, and how many bytes are left.
+unfoldable pub stepped : (at : ℕ) → List ℕ → Stepped
+stepped at k =
+    let c = componentRead field at (drop at k) in
+    record { component = c; position = behind c at; left = length (drop (behind c at) k) }
 
 -- How a path goes on that has room bytes left, after what came next: on from the position behind it.
 abbrev pub onward : (room at : ℕ) → Next → List ℕ → (ℕ → ℕ → Taken Components) → Taken Components
