@@ -230,13 +230,13 @@ module _ {M : Type 1} (𝓤 : URA M) (H : Heap 𝓤) (A : Atoms 𝓤) (W : Given
         move ! (3 ∷ 0 ∷ 2 ∷ []) $ use3 W (raw (Next 𝓤 H A at-mem run .pre (to-next l₃ ν γ))) (asked-next l₃ ν γ) $
         calls-at ! fm (Next 𝓤 H A at-mem run) known-next (to-next l₃ ν γ) (and-then ! (load ! (from ! (stop !)) (look ! 8 refl)) (no-more !)) (λ u.
         use1 W (later (some (λ (c : ComponentRead). ((‵ (flft (ν ∷ κ) (PosShare·left q)) ⊛ ‵ (flft κ (PosShare·right q)) ⊛ ‵ ftrue) ⊛ ‵ (S.the-row .own c (u ∷ []))) ⊛ raw (ensured 𝓤 H A next.ended (next.clauses 𝓤 H A at-mem run) ((ν ∷ κ), (κ, tt)) (x l₃ γ, tt) tt c)))) (id⊢ 𝓤 _) $ await ! tt $ pick ! (λ c.
-        move ! (0 ∷ []) $ split ! $ move ! (1 ∷ []) $ use1 W (some (λ (ws : KeyReader × Unit {0}). ‵ (lasts next.ended ((ν ∷ κ), (κ, tt)) (x l₃ γ, tt) ws) ⊛ raw (fact 𝓤 (Took c (ws .0))))) (id⊢ 𝓤 _) $ pick ! (λ ws. split ! $
+        split ! $ move ! (1 ∷ []) $ use1 W (some (λ (ws : KeyReader × Unit {0}). ‵ (lasts next.ended ((ν ∷ κ), (κ, tt)) (x l₃ γ, tt) ws) ⊛ raw (fact 𝓤 (Took c (ws .0))))) (id⊢ 𝓤 _) $ pick ! (λ ws. split ! $
         move ! (1 ∷ []) $ heard ! (Took c (ws .0)) (λ e.
-        move ! (0 ∷ []) $ fsplit ! $ move ! (2 ∷ []) $ split ! $ move ! (1 ∷ []) $ peeks ! S.the-row (Is S.the-row) (shows 𝓤 H A S.the-row) c (u ∷ []) (λ ic.
+        fsplit ! $ move ! (2 ∷ []) $ split ! $ move ! (1 ∷ []) $ peeks ! S.the-row (Is S.the-row) (shows 𝓤 H A S.the-row) c (u ∷ []) (λ ic.
         land ! (from ! (stop !)) (init ! 17 refl (LL.lawful S.the-type S′.the-laws 𝓤 H A W .typed c _ ic .0)) $ rewrite ! 17 (λ (z : Val). ‵ (fat fullShare S′.mir l₄ 0 z)) (ap only (LL.tells S.the-type S′.the-laws c _ ic)) refl $
         -- the reader comes back
         move ! (1 ∷ []) $ split3 ! $ move ! (0 ∷ 1 ∷ 6 ∷ 4 ∷ []) $ group ! 4 $ use1 W (later (‵ (partAt (B κ) fullShare (ws .0) l₃ 0) ⊛ ‵ (flft κ q))) (returned 𝓤 H A (B κ) κ q l₃ 0 W (ws .0) ν γ) $ await ! tt $ split ! $
-        move ! (0 ∷ []) $ use1 W (‵ (cellAt fullShare (B κ .mir) (mach (ws .0) ∷ []) l₃ 0) ⊛ ‵ (B κ .own (ws .0) (mach (ws .0) ∷ []))) (out-of-memory (ws .0) l₃) $ split ! $
+        use1 W (‵ (cellAt fullShare (B κ .mir) (mach (ws .0) ∷ []) l₃ 0) ⊛ ‵ (B κ .own (ws .0) (mach (ws .0) ∷ []))) (out-of-memory (ws .0) l₃) $ split ! $
         use1 W (‵ (fat fullShare (T′.mir erased) l₃ 0 (mach (ws .0)))) (W .laws .raw-at fullShare (T′.mir erased) l₃ 0 (mach (ws .0))) $
         move ! (1 ∷ []) $ peeks ! (B κ) (Is (B κ)) (shows 𝓤 H A (B κ)) (ws .0) (mach (ws .0) ∷ []) (λ ih.
         use1 W (‵ (B κ .own (ws .0) (mach (ws .0) ∷ [])) ⊛ ‵ (B κ .own (ws .0) (mach (ws .0) ∷ []))) (LL.copy (T.the-type (α κ)) (T′.the-copy (α κ)) 𝓤 H A W .twice (ws .0) (mach (ws .0) ∷ [])) $ split ! $
@@ -245,18 +245,18 @@ module _ {M : Type 1} (𝓤 : URA M) (H : Heap 𝓤) (A : Atoms 𝓤) (W : Given
         nothing ! $ move ! (4 ∷ 0 ∷ []) $ join ! $ move ! (1 ∷ 0 ∷ []) $ use2 W (raw (Position 𝓤 H A at-mem run .pre (to-position (ws .0)))) (asked-position (ws .0)) $
         calls-at ! fm (Position 𝓤 H A at-mem run) known-position (to-position (ws .0)) (and-then ! (load ! (from ! (stop !)) (look ! 10 refl)) (no-more !)) (λ y.
         use1 W (later (some (λ (m : ℕ). ((‵ (flft κ q) ⊛ ‵ ftrue) ⊛ ‵ (usize .own m (y ∷ []))) ⊛ raw (ensured 𝓤 H A position.ended (position.clauses 𝓤 H A at-mem run) (κ, tt) (ws .0, tt) tt m)))) (id⊢ 𝓤 _) $ await ! tt $ pick ! (λ m.
-        move ! (0 ∷ []) $ split ! $ move ! (1 ∷ []) $ use1 W (raw (fact 𝓤 (m ≡ ws .0 .at))) (position-said (ws .0) m) $
+        split ! $ move ! (1 ∷ []) $ use1 W (raw (fact 𝓤 (m ≡ ws .0 .at))) (position-said (ws .0) m) $
         heard ! (m ≡ ws .0 .at) (λ em.
-        move ! (0 ∷ []) $ split ! $ move ! (1 ∷ []) $ peeks ! usize (Is usize) (shows 𝓤 H A usize) m (y ∷ []) (λ iy.
+        split ! $ move ! (1 ∷ []) $ peeks ! usize (Is usize) (shows 𝓤 H A usize) m (y ∷ []) (λ iy.
         land ! (from ! (stop !)) (init ! 17 refl (uint-lawful 𝓤 H A W w64 .typed m _ iy .0)) $ rewrite ! 17 (λ (z : Val). ‵ (fat fullShare (tyInt w64) l₅ 0 z)) (ap only (iy .0)) refl $
         -- `rest`, and its length
         assigns ! (of-opd ! (load ! (from ! (stop !)) (look ! 3 refl))) (from ! (stop !)) (store ! 11 refl (LL.lawful (T.the-type αᵉ) (T′.the-laws αᵉ) 𝓤 H A W .typed (ws .0) _ ih .0)) $
         move ! (2 ∷ 1 ∷ []) $ use2 W (raw (Rest 𝓤 H A at-mem run .pre (to-rest (ws .0)))) (asked-rest (ws .0)) $
         calls-at ! fm (Rest 𝓤 H A at-mem run) known-rest (to-rest (ws .0)) (and-then ! (load ! (from ! (stop !)) (look ! 10 refl)) (no-more !)) (λ z.
         use1 W (later (some (λ (r : RefT (List ℕ)). ((‵ (flft κ q) ⊛ ‵ ftrue) ⊛ ‵ (ShrSlice (named 0) κ u8 .own r (z ∷ []))) ⊛ raw (ensured 𝓤 H A rest.ended (rest.clauses 𝓤 H A at-mem run) (κ, tt) (ws .0, tt) tt r)))) (id⊢ 𝓤 _) $ await ! tt $ pick ! (λ r.
-        move ! (0 ∷ []) $ split ! $ move ! (1 ∷ []) $ use1 W (raw (fact 𝓤 (now r ≡ past (ws .0 .at) (now (ws .0 .bytes))))) (rest-said (ws .0) r) $
+        split ! $ move ! (1 ∷ []) $ use1 W (raw (fact 𝓤 (now r ≡ past (ws .0 .at) (now (ws .0 .bytes))))) (rest-said (ws .0) r) $
         heard ! (now r ≡ past (ws .0 .at) (now (ws .0 .bytes))) (λ er.
-        move ! (0 ∷ []) $ split ! $ move ! (1 ∷ []) $ peeks ! (ShrSlice (named 0) κ u8) (Is (ShrSlice (named 0) κ u8)) (shows 𝓤 H A (ShrSlice (named 0) κ u8)) r (z ∷ []) (λ iz.
+        split ! $ move ! (1 ∷ []) $ peeks ! (ShrSlice (named 0) κ u8) (Is (ShrSlice (named 0) κ u8)) (shows 𝓤 H A (ShrSlice (named 0) κ u8)) r (z ∷ []) (λ iz.
         land ! (from ! (stop !)) (init ! 9 refl (shr-slice-lawful 𝓤 H A W (named 0) κ u8 .typed r _ iz .0)) $ rewrite ! 9 (λ (y′ : Val). ‵ (fat fullShare sliceTy l₉ 0 y′)) (ap only (shr-slice-tells (named 0) κ u8 r _ iz)) refl $
         assigns ! (of-opd ! (load ! (from ! (fld ! refl (stop !))) (look-in ! 9 (sub ! 1 refl (whole !))))) (from ! (stop !)) (init ! 15 refl (tt, record { fits = room r z iz })) $
         assigns ! (agg ! (and-then ! (load ! (from ! (stop !)) (look ! 19 refl)) (and-then ! (load ! (from ! (stop !)) (look ! 17 refl)) (and-then ! (load ! (from ! (stop !)) (look ! 15 refl)) (no-more !))))) (from ! (stop !)) (init ! 26 refl (LL.lawful P.the-type P′.the-laws 𝓤 H A W .typed (made c m (length (now r))) _ (is-made c u m (length (now r)) ic (iy .1) (room r z iz)) .0)) $
