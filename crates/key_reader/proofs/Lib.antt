@@ -1,1 +1,2 @@
 pub mod TakingPath
+pub mod Lending

@@ -3,18 +3,17 @@
 use Prim.Native.Nat.{ℕ, zero, suc, _+_, _-_, min}
 use mathlib.Core.Path.{_≡_, refl, sym, ap, _∙_}
 use mathlib.Core.Bool.{Bool, true, false, cond}
-use mathlib.Core.List.{List, [], _∷_, _++_}
+use mathlib.Core.List.{List, [], _∷_}
 use native.Mathlib.Omega.{arith}
 use native.Mathlib.Nat.{min-zero, zero-min, suc-min-suc}
 use lib.Dec.{leb, leb·zero, leb·suc-zero, leb·suc-suc}
-use lib.ListN.{length, take, drop, replicate}
+use lib.ListN.{length, drop, replicate}
 use lib.Seq.{drop-drop, take-append-seam}
 use Rattle.laws.proofs.Truth.{split}
 use Rattle.data_model.specs.Path.{field, Component, Components}
-use Rattle.keys.specs.Decode.{Taken, refused, took, more, tokenOf, endsPath, readComponent, readComponents, readPath, nextComponent, componentRead, pathRead}
-use Rattle.keys.specs.declared.decode.PathRead.{PathRead}
+use Rattle.keys.specs.Decode.{Taken, refused, took, more, tokenOf, endsPath, readComponent, readComponents, readPath, nextComponent, componentRead}
 use Rattle.keys.proofs.Walking.{path-ends, path-stops, path-goes, path-fails}
-use Rattle.key_reader.specs.Reader.{takeOn, takePath}
+use Rattle.key_reader.specs.Reader.{behind, stepped, takeOn, takePath}
 
 -- A component that has room.
 abbrev within : ℕ → Taken Component → Taken Component
@@ -50,38 +49,38 @@ limited (suc mcl) (suc room) (zero ∷ suc (suc zero) ∷ k) = rw (suc-min-suc m
 limited mcl room (zero ∷ suc (suc (suc m)) ∷ k) = refl
 
 module _ (room at : ℕ) (k : List ℕ) (on : ℕ → ℕ → Taken Components) where
-  -- What the reader takes, by what stands there.
-  take-end : endsPath (tokenOf k) ≡ true → takeOn room at (componentRead field at k) on ≡ took [] 2
-  unfolding takeOn componentRead
+  -- What a step gives, by what stands there.
+  take-end : endsPath (tokenOf (drop at k)) ≡ true → takeOn room at (stepped at k) on ≡ took [] 2
+  unfolding takeOn stepped behind componentRead
   take-end e = let d : at + 2 - at ≡ 2 = omega arith in rw e (ap (took []) d)
 
-  take-refused : endsPath (tokenOf k) ≡ false → readComponent (field .mcl) k ≡ refused → takeOn room at (componentRead field at k) on ≡ refused
-  unfolding takeOn componentRead nextComponent
+  take-refused : endsPath (tokenOf (drop at k)) ≡ false → readComponent (field .mcl) (drop at k) ≡ refused → takeOn room at (stepped at k) on ≡ refused
+  unfolding takeOn stepped behind componentRead nextComponent
   take-refused e d = rw (e, d)
 
-  module _ (c : List ℕ) (u : ℕ) (e : endsPath (tokenOf k) ≡ false) (d : readComponent (field .mcl) k ≡ took c u) where
-    take-long : leb (length c) room ≡ false → takeOn room at (componentRead field at k) on ≡ refused
-    unfolding takeOn componentRead nextComponent
+  module _ (c : List ℕ) (u : ℕ) (e : endsPath (tokenOf (drop at k)) ≡ false) (d : readComponent (field .mcl) (drop at k) ≡ took c u) where
+    take-long : leb (length c) room ≡ false → takeOn room at (stepped at k) on ≡ refused
+    unfolding takeOn stepped behind componentRead nextComponent
     take-long l = rw (e, d) (rw l)
 
-    take-one : leb (length c) room ≡ true → takeOn room at (componentRead field at k) on ≡ more (c ∷_) u (on (room - length c) (at + u))
-    unfolding takeOn componentRead nextComponent
+    take-one : leb (length c) room ≡ true → takeOn room at (stepped at k) on ≡ more (c ∷_) u (on (room - length c) (at + u))
+    unfolding takeOn stepped behind componentRead nextComponent
     take-one l =
         let n : at + u - at ≡ u = omega arith in
         rw (e, d) (rw l (rw (take-append-seam c (replicate (64 - length c) 0), n)))
 
 -- What came next, after a component that has room, or none.
 takes : (room at : ℕ) (k : List ℕ) (n : ℕ) (on : ℕ → ℕ → Taken Components)
-    → ((c : List ℕ) (u : ℕ) → readComponent (min (field .mcl) room) k ≡ took c u → more (c ∷_) u (on (room - length c) (at + u)) ≡ readComponents (field .mcl) room n k)
-    → (readComponent (min (field .mcl) room) k ≡ refused → refused ≡ readComponents (field .mcl) room n k)
-    → (t : Taken Component) → readComponent (field .mcl) k ≡ t → endsPath (tokenOf k) ≡ false
-    → takeOn room at (componentRead field at k) on ≡ readComponents (field .mcl) room n k
+    → ((c : List ℕ) (u : ℕ) → readComponent (min (field .mcl) room) (drop at k) ≡ took c u → more (c ∷_) u (on (room - length c) (at + u)) ≡ readComponents (field .mcl) room n (drop at k))
+    → (readComponent (min (field .mcl) room) (drop at k) ≡ refused → refused ≡ readComponents (field .mcl) room n (drop at k))
+    → (t : Taken Component) → readComponent (field .mcl) (drop at k) ≡ t → endsPath (tokenOf (drop at k)) ≡ false
+    → takeOn room at (stepped at k) on ≡ readComponents (field .mcl) room n (drop at k)
 takes room at k n on goes fails refused d e =
-    take-refused room at k on e d ∙ fails (sym (limited (field .mcl) room k) ∙ ap (within room) d)
+    take-refused room at k on e d ∙ fails (sym (limited (field .mcl) room (drop at k)) ∙ ap (within room) d)
 takes room at k n on goes fails (took c u) d e =
     split (leb (length c) room)
-    (λ l. take-one room at k on c u e d l ∙ goes c u (sym (limited (field .mcl) room k) ∙ ap (within room) d ∙ ap (λ (b : Bool). cond b (took c u) refused) l))
-    (λ l. take-long room at k on c u e d l ∙ fails (sym (limited (field .mcl) room k) ∙ ap (within room) d ∙ ap (λ (b : Bool). cond b (took c u) refused) l))
+    (λ l. take-one room at k on c u e d l ∙ goes c u (sym (limited (field .mcl) room (drop at k)) ∙ ap (within room) d ∙ ap (λ (b : Bool). cond b (took c u) refused) l))
+    (λ l. take-long room at k on c u e d l ∙ fails (sym (limited (field .mcl) room (drop at k)) ∙ ap (within room) d ∙ ap (λ (b : Bool). cond b (took c u) refused) l))
 
 more-refused : (c : List ℕ) (u : ℕ) → more {A = Components} (c ∷_) u refused ≡ refused
 unfolding more
@@ -91,12 +90,12 @@ taken-components : (n room at : ℕ) (k : List ℕ) → takePath n room at k ≡
 unfolding takePath
 taken-components zero room at k =
     split (endsPath (tokenOf (drop at k)))
-    (λ e. take-end room at (drop at k) (λ r a. refused) e ∙ sym (path-ends (field .mcl) room 0 (drop at k) e))
-    (λ e. takes room at (drop at k) 0 (λ r a. refused) (λ c u d. more-refused c u ∙ sym (path-stops (field .mcl) room (drop at k) e)) (λ d. sym (path-stops (field .mcl) room (drop at k) e)) (readComponent (field .mcl) (drop at k)) refl e)
+    (λ e. take-end room at k (λ r a. refused) e ∙ sym (path-ends (field .mcl) room 0 (drop at k) e))
+    (λ e. takes room at k 0 (λ r a. refused) (λ c u d. more-refused c u ∙ sym (path-stops (field .mcl) room (drop at k) e)) (λ d. sym (path-stops (field .mcl) room (drop at k) e)) (readComponent (field .mcl) (drop at k)) refl e)
 taken-components (suc n) room at k =
     split (endsPath (tokenOf (drop at k)))
-    (λ e. take-end room at (drop at k) (λ r a. takePath n r a k) e ∙ sym (path-ends (field .mcl) room (suc n) (drop at k) e))
-    (λ e. takes room at (drop at k) (suc n) (λ r a. takePath n r a k)
+    (λ e. take-end room at k (λ r a. takePath n r a k) e ∙ sym (path-ends (field .mcl) room (suc n) (drop at k) e))
+    (λ e. takes room at k (suc n) (λ r a. takePath n r a k)
     (λ c u d. ap (more (c ∷_) u) (taken-components n (room - length c) (at + u) k ∙ ap (readComponents (field .mcl) (room - length c) n) (sym (drop-drop u at k))) ∙ sym (path-goes (field .mcl) room n (drop at k) c u e d))
     (λ d. sym (path-fails (field .mcl) room n (drop at k) e d)) (readComponent (field .mcl) (drop at k)) refl e)
 

@@ -2,13 +2,14 @@
 use Prim.Native.Nat.{ℕ, zero, suc, _-_}
 use mathlib.Core.List.{List, [], _∷_}
 use mathlib.Core.Bool.{cond}
-use lib.ListN.{take, drop}
+use lib.ListN.{length, take, drop}
 use lib.Dec.{leb}
 use Rattle.data_model.specs.Path.{field, Components}
 use Rattle.keys.specs.Decode.{Taken, refused, took, more, componentRead}
 use Rattle.keys.specs.declared.decode.Next.{Next}
 use Rattle.keys.specs.declared.decode.Next.the-variants as next
 use Rattle.keys.specs.declared.decode.ComponentRead.{ComponentRead}
+use Rattle.key_reader.specs.declared.Stepped.{Stepped}
 
 -- Behind the component or the path's end; a refusal takes nothing.
 abbrev pub behindNext : Next → ℕ → ℕ
@@ -19,17 +20,23 @@ behindNext (next.Refused k) at = at
 unfoldable pub behind : ComponentRead → ℕ → ℕ
 behind c at = behindNext (c .next) at
 
--- How a path goes on that has room bytes left, after what came next: on from the position behind it.
-abbrev pub onward : (room at : ℕ) → Next → List ℕ → (ℕ → ℕ → Taken Components) → Taken Components
-onward room at (next.Component len n) bytes on =
-    cond (leb len room) (more (take len bytes ∷_) (n - at) (on (room - len) n)) refused
-onward room at (next.PathEnd n) bytes on = took [] (n - at)
-onward room at (next.Refused k) bytes on = refused
+-- What a reader takes at a position of a key: the component or the path's end, its position behind it, and how many bytes are left.
+unfoldable pub stepped : (at : ℕ) → List ℕ → Stepped
+stepped at k =
+    let c = componentRead field at (drop at k) in
+    record { component = c; position = behind c at; left = length (drop (behind c at) k) }
 
-unfoldable pub takeOn : (room at : ℕ) → ComponentRead → (ℕ → ℕ → Taken Components) → Taken Components
-takeOn room at c on = onward room at (c .next) (c .bytes) on
+-- How a path goes on that has room bytes left, after a step that used so many.
+abbrev pub onward : (room used : ℕ) → Next → List ℕ → (ℕ → Taken Components) → Taken Components
+onward room used (next.Component len n) bytes on = cond (leb len room) (more (take len bytes ∷_) used (on (room - len))) refused
+onward room used (next.PathEnd n) bytes on = took [] used
+onward room used (next.Refused k) bytes on = refused
 
--- The path that a reader at a position takes, one component after another: at most n of them, of room bytes in all.
+-- From the position behind the step.
+unfoldable pub takeOn : (room at : ℕ) → Stepped → (ℕ → ℕ → Taken Components) → Taken Components
+takeOn room at s on = onward room (s .position - at) (s .component .next) (s .component .bytes) (λ room′. on room′ (s .position))
+
+-- The path that a reader at a position takes, one step after another: at most n components, of room bytes in all.
 unfoldable pub takePath : (n room at : ℕ) → List ℕ → Taken Components
-takePath zero room at k = takeOn room at (componentRead field at (drop at k)) (λ room′ at′. refused)
-takePath (suc n) room at k = takeOn room at (componentRead field at (drop at k)) (λ room′ at′. takePath n room′ at′ k)
+takePath zero room at k = takeOn room at (stepped at k) (λ room′ at′. refused)
+takePath (suc n) room at k = takeOn room at (stepped at k) (λ room′ at′. takePath n room′ at′ k)

@@ -8,7 +8,7 @@ ghost use mathlib.Core.Path.{_≡_};
 ghost use lib.ListN.{drop};
 ghost use Rattle.data_model.specs.Path.{field};
 ghost use Rattle.keys.specs.Decode.{readPath, componentRead, pathRead, readSpt, readTsp, decoded};
-ghost use Rattle.key_reader.specs.Reader.{behind};
+ghost use Rattle.key_reader.specs.Reader.{behind, stepped};
 
 pub struct KeyReader<'a> {
     pub bytes: &'a [u8],
@@ -85,6 +85,35 @@ pub fn decode_tsp_entry_key<'a>(r: KeyReader<'a>) -> Decoded
     ensures { λ d. ⌜ d ≡ decoded (readTsp field (drop (r .entry .at) (now (r .entry .bytes)))) ⌝ }
 {
     keys::decode::decode_tsp_entry_key_at(r.bytes, r.at)
+}
+
+// What a reader took at a position, where it then stands, and how many bytes are left to read.
+pub struct Stepped {
+    pub component: ComponentRead,
+    pub position: usize,
+    pub left: usize,
+}
+
+// One step of a reader at a position of a key: for whoever cannot hold a reader.
+pub fn component_at(bytes: &[u8], at: usize) -> Stepped
+    ensures { λ s. ⌜ s ≡ stepped at (now (bytes .entry)) ⌝ }
+{
+    let mut r = KeyReader { bytes, at };
+    let component = next_component(&mut r);
+    let position = position(r);
+    let left = rest(r).len();
+    Stepped {
+        component,
+        position,
+        left,
+    }
+}
+
+// The path at a position of a key, through a reader.
+pub fn path_at(bytes: &[u8], at: usize) -> PathRead
+    ensures { λ p. ⌜ p ≡ pathRead at (readPath field (drop at (now (bytes .entry)))) ⌝ }
+{
+    decode_path(KeyReader { bytes, at })
 }
 
 // A whole key through a reader: what the decoder says of it.

@@ -1,9 +1,9 @@
 // `dump`: the records of both trees, a record a line.
 use crate::lines::write_line;
 use crate::poke::part_at;
-use calls::say::say_hex;
-use calls::say::say_space;
-use calls::say_entry::say_count;
+use answers::say::say_hex;
+use answers::say::say_space;
+use answers::say_entry::say_count;
 use tree::value::VALUE;
 
 // The key and the value of a record.

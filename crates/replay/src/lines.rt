@@ -1,5 +1,5 @@
 // Lines of input and output.
-use calls::say::say;
+use answers::say::say;
 use libc::STDOUT_FILENO;
 ghost use Prim.Native.Nat.{_≤_};
 ghost use lib.ListN.{length};

@@ -1,10 +1,10 @@
 // Listings: the places of all matches, then the record at each of them.
 use crate::lines::write_line;
+use answers::outcome::refused;
+use answers::say_entry::say_count;
+use answers::say_entry::say_lengthy;
 use calls::ask::Ask;
 use calls::ask::Question;
-use calls::outcome::refused;
-use calls::say_entry::say_count;
-use calls::say_entry::say_lengthy;
 use query::answer::Listed;
 use query::listing::query_area;
 use query::listing::query_area_place;

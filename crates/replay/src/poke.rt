@@ -1,5 +1,5 @@
 // A poke from outside into the available length of a record, in both trees; and where records lie.
-use calls::outcome::is_yes;
+use answers::outcome::is_yes;
 use data_model::parameters::Subspace;
 use data_model::path::Path;
 use keys::decode::Decoded;

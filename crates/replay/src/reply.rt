@@ -1,13 +1,13 @@
 // The outcomes of calls that write, said.
 use crate::apply::Reply;
 use crate::apply::Said;
-use calls::outcome::bad;
-use calls::outcome::refused;
-use calls::say::say;
-use calls::say::say_number;
-use calls::say::say_space;
-use calls::say_entry::say_count;
-use calls::say_entry::say_entry;
+use answers::outcome::bad;
+use answers::outcome::refused;
+use answers::say::say;
+use answers::say::say_number;
+use answers::say::say_space;
+use answers::say_entry::say_count;
+use answers::say_entry::say_entry;
 use data_model::entry::Entry;
 ghost use Prim.Native.Nat.{_≤_};
 ghost use lib.ListN.{length};

@@ -2,8 +2,8 @@
 use native.Mathlib.Omega.{arith}
 use Rattle.text.proofs.Lists.{lent-fits}
 use borrow.Author.Needs.{needs}
-use Rattle.calls.proofs.say.say_subspace.Statement.{statement}
-use Rattle.calls.proofs.say.say_subspace.Tie as tie
+use Rattle.answers.proofs.say.say_subspace.Statement.{statement}
+use Rattle.answers.proofs.say.say_subspace.Tie as tie
 
 sub-if1 : tie.Need-sub-if1
 sub-if1 c = search needs

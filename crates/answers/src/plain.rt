@@ -1,39 +1,30 @@
 // The calls that need no store. Each function writes its answer at the front of a buffer and answers how many bytes.
-use crate::field::area_at;
-use crate::field::entry_at;
-use crate::field::field;
-use crate::field::is_call;
-use crate::field::is_word;
-use crate::field::worse;
+use crate::decoding::decode;
 use crate::outcome::bad;
 use crate::outcome::is_good;
 use crate::outcome::is_yes;
 use crate::outcome::not_good;
-use crate::outcome::refused;
 use crate::say::say;
 use crate::say::say_bit;
 use crate::say::say_key;
-use crate::say::say_number;
-use crate::say::say_path;
 use crate::say::say_path_or;
 use crate::say::say_space;
-use crate::say::say_subspace;
 use crate::say_range::say_range;
+use calls::field::area_at;
+use calls::field::entry_at;
+use calls::field::field;
+use calls::field::is_call;
+use calls::field::worse;
 use data_model::answer::Compared;
 use data_model::entry::Entry;
 use data_model::parameters::Subspace;
 use data_model::path::Path;
 use data_model::range_3d::Range3d;
-use keys::decode::Decoded;
-use keys::decode::decode_spt_entry_key;
-use keys::decode::decode_tsp_entry_key;
 use keys::encode::KEY_MOST;
 use keys::encode::encode_spt_entry_key;
 use keys::encode::encode_tsp_entry_key;
 use text::decimal::NumberRead;
 use text::decimal::read_number;
-use text::hex::HexRead;
-use text::hex::read_hex;
 use text::line::count_fields;
 use text::path::read_path;
 use text::value::SubspaceRead;
@@ -173,54 +164,6 @@ fn key(line: &[u8], out: &mut [u8]) -> usize
     }
     let p = f.path;
     say_keys(subspace, p, timestamp, out)
-}
-
-fn say_decoded(d: Decoded, out: &mut [u8]) -> usize
-    ensures { λ r. ⌜ r ≤ length (now (out .entry)) ⌝ }
-{
-    let refusal = d.refusal;
-    if refusal != 0 {
-        return refused(refusal, out);
-    }
-    let p = d.path;
-    let s = d.subspace;
-    let a = say(b"triple ", out, 0);
-    let b = say_subspace(s, out, a);
-    let c = say_space(out, b);
-    let e = say_path(p, out, c);
-    let f = say_space(out, e);
-    say_number(d.timestamp, out, f)
-}
-
-// The bytes of a key: `-` for none at all, else digits. Of another form, or longer than a line can say, is the answer 600.
-fn read_key(f: &[u8], key: &mut [u8]) -> usize {
-    if is_word(f, b"-") {
-        return 0;
-    }
-    if f.len() == 0 {
-        return 600;
-    }
-    let r = read_hex(f, key);
-    match r {
-        HexRead::Took(n) => n,
-        HexRead::Bad => 600,
-        HexRead::Short => 600,
-    }
-}
-
-// `spt01 HEX` and `tsp01 HEX`; the port has one answer for `spt HEX` and `tsp HEX` too, where the Rust has its own.
-fn decode(time_first: bool, line: &[u8], out: &mut [u8]) -> usize
-    ensures { λ r. ⌜ r ≤ length (now (out .entry)) ⌝ }
-{
-    let mut key = [0u8; 512];
-    let n = read_key(field(line, 1), &mut key);
-    if 512 < n {
-        return bad(out);
-    }
-    if time_first {
-        return say_decoded(decode_tsp_entry_key(&key[0..n]), out);
-    }
-    say_decoded(decode_spt_entry_key(&key[0..n]), out)
 }
 
 // Which call a line is, by its name and the number of its fields; 0 for none.

@@ -6,8 +6,8 @@ use native.Mathlib.Nat.{le-refl}
 use lib.ListN.{length}
 use Rattle.data_model.proofs.Values.{length-piece}
 use borrow.Author.Needs.{needs}
-use Rattle.calls.proofs.say.say_path.Statement.{statement}
-use Rattle.calls.proofs.say.say_path.Tie as tie
+use Rattle.answers.proofs.say.say_path.Statement.{statement}
+use Rattle.answers.proofs.say.say_path.Tie as tie
 
 sub-if1 : tie.Need-sub-if1
 sub-if1 c = search needs

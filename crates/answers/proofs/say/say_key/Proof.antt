@@ -2,8 +2,8 @@
 use mathlib.Core.Path.{sym}
 use lib.Seq.{length-take-le}
 use borrow.Author.Needs.{needs}
-use Rattle.calls.proofs.say.say_key.Statement.{statement}
-use Rattle.calls.proofs.say.say_key.Tie as tie
+use Rattle.answers.proofs.say.say_key.Statement.{statement}
+use Rattle.answers.proofs.say.say_key.Tie as tie
 
 enum-known-e : tie.Need-enum-known-e
 enum-known-e c = search needs
