@@ -13,8 +13,8 @@ use text::hex::read_hex;
 use text::path::Outcome;
 use text::path::PathField;
 
-// A limit `*` stands for the most that the port takes.
-const NO_LIMIT: u64 = 1024;
+// A limit `*` stands for the most that the port takes, as `store::state::LIMIT_MOST`.
+const STAR_LIMIT: u64 = 1024;
 
 pub struct NamespaceField {
     pub good: bool,
@@ -96,7 +96,7 @@ pub fn flag_at(line: &[u8], k: usize) -> u8 {
 pub fn limit_at(line: &[u8], k: usize) -> NumberRead {
     let f = field(line, k);
     if is_word(f, b"*") {
-        return NumberRead::Is(NO_LIMIT);
+        return NumberRead::Is(STAR_LIMIT);
     }
     read_number(f)
 }

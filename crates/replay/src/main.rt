@@ -6,7 +6,10 @@ use crate::lines::whole_line;
 use crate::lines::write_line;
 use calls::request::Call;
 use calls::request::read_request;
+use store::state::LIMIT_MOST;
+use store::state::RECORD_MOST;
 use store::state::State;
+use text::entry_line::LINE_MOST;
 ghost use mathlib.Core.Path.{_≡_};
 ghost use lib.ListN.{length};
 
@@ -18,11 +21,11 @@ mod poke;
 mod reading;
 mod reply;
 
-const LINE: usize = 1024;
+const LINE: usize = LINE_MOST;
 
-const LIMIT: usize = 1024;
+const LIMIT: usize = LIMIT_MOST;
 
-const TREE: usize = 410 * LIMIT;
+const TREE: usize = RECORD_MOST * LIMIT;
 
 const PAIRS: usize = 2 * LIMIT;
 

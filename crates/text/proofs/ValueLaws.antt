@@ -8,13 +8,12 @@ use lib.Dec.{eqb, ltb}
 use borrow.Author.Tests.{eq-eqb, ne-eqb, ltb-true}
 use lib.ListN.{length, getD, drop, replicate, drop-of-length-le}
 use Rattle.laws.specs.Lists.{put}
-use Rattle.laws.specs.Sorted.{all}
 use Rattle.laws.proofs.Truth.{and-true}
 use Rattle.keys.specs.Encode.{subspaceKey}
 use Rattle.keys.specs.Decode.{subspaceAt}
 use Rattle.data_model.specs.declared.parameters.Subspace.{Subspace}
 use Rattle.text.specs.Hex.{isHex, hexOf, hexByte, hexText}
-use Rattle.text.specs.Value.{subspaceOf, subspaceField, noDigest, digestOf, digestField, isShort, subspaceText, isFill, digestText}
+use Rattle.text.specs.Value.{subspaceOf, subspaceField, noDigest, digestOf, digestField, isShort, subspaceText}
 use Rattle.text.specs.declared.value.SubspaceRead.the-variants.{Is, Bad}
 use Rattle.text.proofs.HexLaws.{hex-even, bytes-length}
 
@@ -68,7 +67,7 @@ module _ (s : List ℕ) where
     pub filled : (n : ℕ) (old out : List ℕ) → length s ≡ 2 * n → length old ≡ n → out ≡ put (hexOf s) old → out ≡ hexOf s
     filled n old out l o e = e ∙ put-whole (hexOf s) old (omega (arith, bytes-are n l))
 
--- Which form a subspace and a digest are written in.
+-- Which form a subspace is written in.
 pub short-is : (s : Subspace) → s .high ≡ 0 → ltb (s .low) 256 ≡ isShort s
 unfolding isShort
 short-is s h = rw (eq-eqb (s .high) 0 h)
@@ -76,14 +75,6 @@ short-is s h = rw (eq-eqb (s .high) 0 h)
 pub short-not : (s : Subspace) → (s .high ≡ 0 → ⊥) → false ≡ isShort s
 unfolding isShort
 short-not s h = rw (ne-eqb (s .high) 0 h)
-
-pub fill-is : (b a : ℕ) → a ≡ b → isFill b a ≡ true
-unfolding isFill
-fill-is b a h = eq-eqb a b h
-
-pub fill-not : (b a : ℕ) → (a ≡ b → ⊥) → isFill b a ≡ false
-unfolding isFill
-fill-not b a h = ne-eqb a b h
 
 pub subspace-short : (s : Subspace) → isShort s ≡ true → hexByte (s .low % 256) ≡ subspaceText s
 unfolding isShort subspaceText
@@ -95,11 +86,3 @@ subspace-short s h =
 pub subspace-long : (s : Subspace) → isShort s ≡ false → hexText (subspaceKey s) ≡ subspaceText s
 unfolding subspaceText
 subspace-long s h = rw h
-
-pub digest-short : (d : List ℕ) → all (isFill (getD d 0 0)) d ≡ true → hexByte (getD d 0 0) ≡ digestText d
-unfolding digestText
-digest-short d h = rw h
-
-pub digest-long : (d : List ℕ) → all (isFill (getD d 0 0)) d ≡ false → hexText d ≡ digestText d
-unfolding digestText
-digest-long d h = rw h

@@ -40,9 +40,3 @@ isShort s = eqb (s .high) 0 && ltb (s .low) 256
 
 unfoldable pub subspaceText : Subspace → List ℕ
 subspaceText s = cond (isShort s) (hexByte (s .low)) (hexText (subspaceKey s))
-
-unfoldable pub isFill : ℕ → ℕ → Bool
-isFill b a = eqb a b
-
-unfoldable pub digestText : List ℕ → List ℕ
-digestText d = cond (all (isFill (getD d 0 0)) d) (hexByte (getD d 0 0)) (hexText d)

@@ -16,7 +16,7 @@ ghost use Rattle.laws.specs.Sorted.{all};
 ghost use Rattle.data_model.specs.Path.{field, joined, endsFrom};
 ghost use Rattle.text.specs.Hex.{hexOf};
 ghost use Rattle.text.specs.Fields.{fields};
-ghost use Rattle.text.specs.PathField.{isOnly, dash, dot, slash, isComponentField, isPathField, pathField, emptyPath, fieldsFit, counted, PutIf};
+ghost use Rattle.text.specs.PathField.{isOnly, slash, isComponentField, pathField, emptyPath, fieldsFit, counted, PutIf};
 ghost use Rattle.text.specs.declared.path.Outcome.the-variants.{Illegal, Bad};
 
 // Of the form and within the bounds of a path; of the form alone; not of the form.
@@ -74,15 +74,6 @@ fn all_components(s: &[u8]) -> bool
         }
         at = e + 1;
     }
-}
-
-pub fn is_path_field(s: &[u8]) -> bool
-    ensures { λ r. ⌜ r ≡ isPathField (now (s .entry)) ⌝ }
-{
-    if is_only(s, b'-') {
-        return true;
-    }
-    all_components(s)
 }
 
 // The bytes of a component.

@@ -7,10 +7,10 @@ use data_model::parameters::Subspace;
 use keys::number;
 ghost use mathlib.Core.Path.{_≡_};
 ghost use Prim.Native.Nat.{_≤_};
-ghost use lib.ListN.{length, getD};
+ghost use lib.ListN.{length};
 ghost use Rattle.laws.specs.Lists.{put};
 ghost use Rattle.laws.specs.Sorted.{all};
-ghost use Rattle.text.specs.Value.{subspaceField, digestField, noDigest, isShort, subspaceText, isFill, digestText};
+ghost use Rattle.text.specs.Value.{subspaceField, digestField, noDigest, isShort, subspaceText};
 
 pub enum SubspaceRead {
     Is(Subspace),
@@ -100,30 +100,4 @@ pub fn write_subspace(s: Subspace, out: &mut [u8]) -> usize
     let mut all = [0u8; 16];
     number::write_subspace(s, &mut all);
     write_hex(&all, out)
-}
-
-// Whether every byte is that one.
-fn is_fill(d: &[u8], b: u8) -> bool
-    ensures { λ r. ⌜ r ≡ all (isFill b) (now (d .entry)) ⌝ }
-{
-    let mut i: usize = 0;
-    while i < d.len() {
-        if d[i] != b {
-            return false;
-        }
-        i += 1;
-    }
-    true
-}
-
-// At most 64 digits.
-pub fn write_digest(d: &[u8; 32], out: &mut [u8]) -> usize
-    requires { ⌜ 64 ≤ length (now out) ⌝ }
-    ensures { λ r. ⌜ (r ≡ length (digestText (now (d .entry)))) × (now (out .exit) ≡ put (digestText (now (d .entry))) (now (out .entry))) ⌝ }
-{
-    let b = d[0];
-    if is_fill(d, b) {
-        return write_hex_byte(b, out);
-    }
-    write_hex(d, out)
 }
