@@ -1,28 +1,68 @@
 -- What is in the pairs afterwards, in 01's words: a success says how many pairs were pruned and writes them over those lent, no other
--- outcome writes any, and pairs fewer than the limit are refused with 2. Assumes nothing.
-use Prim.Native.Nat.{ℕ, _*_, _≤_, _<_}
+-- outcome writes any, and pairs fewer than the limit, and no others, are refused with 2. Assumes nothing.
+use Prim.Native.Nat.{ℕ, _≤_, _<_}
 use mathlib.Core.Path.{_≡_, refl, sym, ap, _∙_}
 use mathlib.Core.List.{List}
 use mathlib.Core.Bool.{Bool, true, false, cond, _&&_}
+use mathlib.Core.Option.{Option, some, none}
 use native.Mathlib.Omega.{arith}
 use lib.ListN.{length}
-use lib.Dec.{leb}
-use borrow.Author.Tests.{lt-leb}
+use lib.Dec.{leb, eqb}
+use borrow.Author.Tests.{le-leb, lt-leb}
 use Rattle.laws.specs.Lists.{put}
+use Rattle.laws.specs.Prefix.{sameNumber, sameList}
+use Rattle.laws.specs.Sorted.{any, keep}
 use Rattle.laws.proofs.Truth.{split}
-use Rattle.data_model.specs.Path.{field}
-use Rattle.data_model.specs.Entry.{entryOf}
-use Rattle.data_model.specs.Refusal.{shortBuffer}
+use Rattle.data_model.specs.Path.{field, legal}
+use Rattle.data_model.specs.Entry.{Entry, entryOf}
+use Rattle.data_model.specs.Refusal.{shortBuffer, illegalPath}
 use Rattle.data_model.specs.declared.entry.Entry.{Entry as EntryValue}
-use Rattle.store.specs.Store.{Store, dirRoom}
-use Rattle.store.specs.Refusal.{unless, _orElse_, limitOk, roomy, storeRefusal}
-use Rattle.store.specs.Ingest.{Decision, refuse, obsolete, take-it, ingestRefusal, judged, MayFile, prunedPairs, plainAnswer, carried, ingested}
+use Rattle.tree.specs.Stored.{Stored}
+use Rattle.tree.specs.Matching.{outdates, removes}
+use Rattle.tree.specs.declared.stored.KeyOrder.the-variants.{Spt}
+use Rattle.store.specs.Store.{Store, dirRoom, held, wellFormedStore}
+use Rattle.store.specs.Refusal.{badLimit, notWellFormed, otherNamespace, pruningPrevented, full, unless, _orElse_, limitOk, roomy, storeRefusal}
+use Rattle.store.specs.Ingest.{Decision, refuse, obsolete, take-it, stays, firstThat, decidedOf, decided, ingestRefusal, judged, MayFile, prunedPairs, plainAnswer, carried, ingested}
+use Rattle.store.specs.declared.ingest.IngestVerdict.{IngestVerdict}
 use Rattle.store.specs.declared.ingest.IngestVerdict.the-variants as verdict
 use Rattle.store.proofs.FileLaws.{success-may}
 use Rattle.pairs.specs.Pairs.{pairsOf, numbersOf, pairsIngested}
 use Rattle.pairs.specs.declared.Pair.{Pair}
 use Rattle.pairs.proofs.PairLaws.{pairs-again, length-numbers, pairs-put, length-pairs}
 use Rattle.pairs.proofs.OutcomeLaws.{removedBy, pruned-length}
+
+-- The number of a refusal, 0 for what is none.
+abbrev numberIn : IngestVerdict → ℕ
+numberIn (verdict.Success n) = 0
+numberIn verdict.Obsolete = 0
+numberIn (verdict.Refused n) = n
+
+abbrev refusalIn : Decision → ℕ
+refusalIn (refuse n) = n
+refusalIn (obsolete x) = 0
+refusalIn take-it = 0
+
+carried-number : (s : Store) (prune : List ℕ) (e : Entry) (token : List ℕ) (d : Decision) → numberIn (carried field s prune e token d .answer .verdict) ≡ refusalIn d
+unfolding carried
+carried-number s prune e token (refuse n) = refl
+carried-number s prune e token (obsolete x) = refl
+carried-number s prune e token take-it = refl
+
+-- No decision is 2, and no test is left that gives 2.
+decision-not-2 : (o : Option Stored) (a b : Bool) → refusalIn (decidedOf o (cond a (refuse pruningPrevented) (cond b (refuse full) take-it))) ≡ shortBuffer → ⊥
+unfolding decidedOf
+decision-not-2 (some x) a b h = let z : _≡_ {A = ℕ} 0 2 = h in omega arith
+decision-not-2 none true b h = let z : _≡_ {A = ℕ} 7 2 = h in omega arith
+decision-not-2 none false true h = let z : _≡_ {A = ℕ} 8 2 = h in omega arith
+decision-not-2 none false false h = let z : _≡_ {A = ℕ} 0 2 = h in omega arith
+
+tests-not-2 : (limit well path name : Bool) → ((unless limit badLimit orElse unless true shortBuffer orElse unless well notWellFormed) orElse unless path illegalPath orElse unless name otherNamespace) ≡ shortBuffer → ⊥
+unfolding unless _orElse_
+tests-not-2 false well path name h = let z : _≡_ {A = ℕ} 1 2 = h in omega arith
+tests-not-2 true false path name h = let z : _≡_ {A = ℕ} 3 2 = h in omega arith
+tests-not-2 true true false name h = let z : _≡_ {A = ℕ} 4 2 = h in omega arith
+tests-not-2 true true true false h = let z : _≡_ {A = ℕ} 6 2 = h in omega arith
+tests-not-2 true true true true h = let z : _≡_ {A = ℕ} 0 2 = h in omega arith
 
 module _ (s : Store) (ps : List Pair) (e : EntryValue) (token : List ℕ) (prevent : Bool) where
   -- The pairs of what the entry removes, as they stand in the subspace-first tree, in key order.
@@ -67,3 +107,30 @@ module _ (s : Store) (ps : List Pair) (e : EntryValue) (token : List ℕ) (preve
   short-refused l h =
       let z = lt-leb (dirRoom (s .state .limit)) (length (numbersOf ps)) (omega (arith, length-numbers ps)) in
       split (roomy field (s .state .limit) s) (λ q. rw (l, z, q)) (λ q. rw (l, z, q))
+
+  module _ (room : roomy field (s .state .limit) s ≡ true) (h : s .state .limit ≤ length ps) where
+    refusal-not-2 : ingestRefusal field s (numbersOf ps) e ≡ shortBuffer → ⊥
+    unfolding ingestRefusal storeRefusal
+    refusal-not-2 z =
+        let l = le-leb (dirRoom (s .state .limit)) (length (numbersOf ps)) (omega (arith, length-numbers ps)) in
+        let limit = limitOk (s .state .limit) in
+        let well = wellFormedStore field s in
+        let path = legal field (e .path) in
+        let name = sameList sameNumber (e .«namespace_id») (s .state .«namespace_id») in
+        tests-not-2 limit well path name
+        ((λ i. (unless limit badLimit orElse unless (sym room i && sym l i) shortBuffer orElse unless well notWellFormed) orElse unless path illegalPath orElse unless name otherNamespace) ∙ z)
+
+    judged-not-2 : refusalIn (judged field s (numbersOf ps) e prevent) ≡ shortBuffer → ⊥
+    unfolding judged decided
+    judged-not-2 z =
+        let r = ingestRefusal field s (numbersOf ps) e in
+        let d = decided (s .state .limit) (held field Spt s) (entryOf e) prevent in
+        split (eqb r 0)
+        (λ t. decision-not-2 (firstThat (outdates (entryOf e)) (held field Spt s)) (prevent && any (removes (entryOf e)) (held field Spt s)) (leb (s .state .limit) (length (keep (stays (entryOf e)) (held field Spt s))))
+        (ap (λ (b : Bool). refusalIn (cond b d (refuse r))) (sym t) ∙ z))
+        (λ t. refusal-not-2 (ap (λ (b : Bool). refusalIn (cond b d (refuse r))) (sym t) ∙ z))
+
+    -- And 2 is no answer where the store's own buffers have room and the pairs number the limit at least.
+    pub room-not-refused : pairsIngested field s ps e token prevent .answer .verdict ≡ verdict.Refused shortBuffer → ⊥
+    unfolding pairsIngested ingested
+    room-not-refused v = judged-not-2 (sym (carried-number s (numbersOf ps) (entryOf e) token (judged field s (numbersOf ps) e prevent)) ∙ ap numberIn v)

@@ -1,5 +1,5 @@
 // The thin ingest layer: the pruned pairs go to a lent slice of pair records, over the store's core on numbers. Only the pairs are lent.
-// The borrow checker covers no function over a slice of structs: those two are proved by a walk.
+// The borrow checker covers no function over a slice of structs: those that touch one are proved by a walk.
 use data_model::entry::Entry;
 use store::ingest::IngestVerdict;
 use store::ingest::Ingested;
