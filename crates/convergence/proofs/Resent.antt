@@ -1,5 +1,5 @@
--- A stored entry that comes again is taken, and takes the place of its own record. Assumes nothing.
-use Prim.Native.Nat.{_<_}
+-- A stored entry that comes again is taken, and takes the place of its own record. Assumes nothing but that the token is one.
+use Prim.Native.Nat.{ℕ, _<_}
 use mathlib.Core.Path.{_≡_, refl, sym, ap, subst, _∙_}
 use mathlib.Core.Logic.{⊎-elim}
 use mathlib.Core.Bool.{Bool, true, false}
@@ -10,10 +10,10 @@ use lib.Dec.{leb}
 use borrow.Author.Tests.{leb-true}
 use Rattle.laws.specs.Order.{isLess, below}
 use Rattle.laws.specs.Sorted.{_∈_, any, keep, Ascends}
-use Rattle.laws.proofs.Truth.{split, clash, refute}
-use Rattle.laws.proofs.Sorted.{any-view, keep-view, keep-make, keep-ascends, ascends-unique}
+use Rattle.laws.proofs.Truth.{split, clash, refute, not-true}
+use Rattle.laws.proofs.Sorted.{any-view, any-none, keep-view, keep-make, keep-ascends, ascends-unique, insert-view, insert-new}
 use Rattle.data_model.specs.Path.{Figures, samePath}
-use Rattle.data_model.specs.Entry.{newer}
+use Rattle.data_model.specs.Entry.{Entry, newer, covers}
 use Rattle.data_model.proofs.Orders.{path-equality}
 use Rattle.key_laws.specs.Bytes.{Bytes}
 use Rattle.key_laws.specs.KeyOrder.{sptOrder}
@@ -21,15 +21,18 @@ use Rattle.key_laws.proofs.EntryLaws.{newer-irrefl, newer-total, covers-refl, c
 use Rattle.tree.specs.Stored.{Stored, tripleOf}
 use Rattle.tree.specs.Matching.{outdates, removes}
 use Rattle.tree.specs.declared.stored.KeyOrder.{KeyOrder}
-use Rattle.tree.specs.declared.stored.KeyOrder.the-variants.{Spt}
-use Rattle.store.specs.Store.{Store, treeOf, held, heldBy, wellFormedStore}
-use Rattle.store.specs.Ingest.{sptLess, stays, take-it, decidedOf, decided}
+use Rattle.tree.specs.declared.stored.KeyOrder.the-variants.{Spt, Tsp}
+use Rattle.store.specs.Store.{Store, treeOf, held, Held, heldBy, holding, wellFormedStore}
+use Rattle.store.specs.Ingest.{sptLess, filing, stays, lessIn, filedIn, filed, take-it, decidedOf, decided, storeFiled}
 use Rattle.store.proofs.WellStore.{held-fit}
+use Rattle.store.proofs.Recorded.{Proper}
+use Rattle.store.proofs.Lifted.{listOf, Fit, bears-held, holding-bears}
 use Rattle.store.proofs.Counted.{keep-length}
 use Rattle.store.proofs.IngestLaws.{first-absent}
 use Rattle.store.proofs.Meaning.{SoundHeld, removes-view, removes-make, before-irrefl, before-trans, spt-linear}
 use Rattle.convergence.specs.Demand.{Tied}
 use Rattle.convergence.specs.Resend.{Resent}
+use Rattle.convergence.proofs.Stands.{fit-filed}
 
 -- What is not kept makes a list shorter.
 keep-fewer : {A : Type 0} (p : A → Bool) {x : A} (l : List A) → x ∈ l → p x ≡ false → length (keep p l) < length l
@@ -103,5 +106,52 @@ module _ (f : Figures) (s : Store) (w : wellFormedStore f s ≡ true) (bytes : (
           λ n. ⊎-elim (λ (e : y ≡ x). subst (λ (z : Stored). z ∈ keep (removes (x .entry)) (held f Spt s)) (sym e) (keep-make (removes (x .entry)) (held f Spt s) m own)) (λ k. absurd (none-in k)) (uncons n),
         )
 
-  pub resent : Resent f s x
-  resent = record { taken = taken; removed = own; alone = alone }
+  module _ (token : List ℕ) (long : length token ≡ 64) (in-bytes : Bytes token) where
+    abbrev after : Held
+    after = filed (filing (x .entry) token) (heldBy f s)
+
+    proper : Proper f (filing (x .entry) token)
+    unfolding heldBy
+    proper =
+        let l = held-fit f s w bytes .proper x m .lawful in
+        record {
+          lawful = record {
+            path = l .path;
+            sized = l .sized;
+            payload = l .payload;
+            digest = l .digest;
+            digestBytes = l .digestBytes;
+            token = long;
+            tokenBytes = in-bytes;
+            available = omega arith;
+          };
+          available = omega arith;
+        }
+
+    fit : Fit f (s .state .«namespace_id») (s .state .limit) after
+    unfolding heldBy
+    fit = fit-filed f (held-fit f s w bytes) (filing (x .entry) token) proper (sound .named x m) (λ y n. any-none (outdates (x .entry)) (held f Spt s) current n) room
+
+    held-after : (k : KeyOrder) → held f k (storeFiled f s (x .entry) token) ≡ filedIn k (filing (x .entry) token) (held f k s)
+    unfolding holding
+    held-after k = bears-held f (holding f after s) after fit (holding-bears f s after fit) k ∙ listed k
+      where
+        listed : (k : KeyOrder) → listOf k after ≡ filedIn k (filing (x .entry) token) (held f k s)
+        listed Spt = unfold listOf filed heldBy in refl
+        listed Tsp = unfold listOf filed heldBy in refl
+
+    stands : (k : KeyOrder) → filing (x .entry) token ∈ held f k (storeFiled f s (x .entry) token)
+    unfolding filedIn
+    stands k = rw (held-after k) (insert-new (lessIn k) (filing (x .entry) token) (keep (stays (x .entry)) (held f k s)))
+
+    renewed : (k : KeyOrder) (y : Stored) → y ∈ held f k (storeFiled f s (x .entry) token) → y .entry ≡ x .entry → (y .token ≡ token) × (y .available ≡ 0)
+    unfolding filedIn
+    renewed k y n e = ⊎-elim
+        (λ (q : y ≡ filing (x .entry) token). (ap (λ (z : Stored). z .token) q, ap (λ (z : Stored). z .available) q))
+        (λ j. clash
+        (removes-make (x .entry) y (subst (λ (z : Entry). covers (x .entry) z ≡ true) (sym e) (covers-refl (x .entry))) (subst (λ (z : Entry). newer z (x .entry) ≡ false) (sym e) (newer-irrefl (x .entry))))
+        (not-true (removes (x .entry) y) (keep-view (stays (x .entry)) (held f k s) j .1)))
+        (insert-view (lessIn k) (filing (x .entry) token) (keep (stays (x .entry)) (held f k s)) (rw (held-after k) at n))
+
+    pub resent : Resent f s x token
+    resent = record { taken = taken; removed = own; alone = alone; stands = stands; renewed = renewed }

@@ -4,17 +4,19 @@ use Rattle.layout.specs.Layout.{records}
 use Rattle.tree.proofs.WellFormedLaws.{well-formed}
 use Rattle.tree.proofs.RecordLaws.{contents-length}
 use Rattle.store.proofs.CheckLaws.{or-none, unless-none}
+use Rattle.store.proofs.Counted.{keep-length}
 use mathlib.Core.Logic.{⊎-elim}
-use Prim.Native.Nat.{ℕ, _+_}
+use Prim.Native.Nat.{ℕ, _+_, _<_}
 use mathlib.Core.Path.{_≡_, refl, sym, ap, subst, _∙_}
 use mathlib.Core.Bool.{false, Bool, true, not}
-use mathlib.Core.List.{List, [], _∷_, List·Memᴰ·head as here, List·Memᴰ·not-nil as none-in}
+use mathlib.Core.List.{List, [], _∷_, _++_, List·Memᴰ·head as here, List·Memᴰ·not-nil as none-in}
 use native.Mathlib.Omega.{arith}
 use lib.ListN.{length}
 use lib.Dec.{leb, eqb}
 use borrow.Author.Tests.{eq-eqb, lt-leb, eqb-true}
 use Rattle.laws.specs.Sorted.{_∈_, keep}
 use Rattle.data_model.specs.Path.{field, legalEnds, legal, joined, endsFrom, valueOf, pathOf, Figures}
+use Rattle.data_model.specs.Entry.{entryOf}
 use Rattle.data_model.specs.Range.{includes, beforeEnd, timesEnd, timesInclude}
 use Rattle.data_model.specs.Area.{areaSubspace, areaIncludes}
 use Rattle.data_model.specs.declared.range.RangeEnd.the-variants as times
@@ -26,29 +28,49 @@ use Rattle.tree.specs.Matching.{inArea, isForgotten}
 use Rattle.tree.specs.declared.stored.KeyOrder.the-variants.{Spt}
 use Rattle.store.specs.Store.{Store, dirRoom, held, Held, heldBy, wellFormedStore, wellFormedTree, treeOf, dirOf, holding}
 use Rattle.store.specs.Refusal.{unless, _orElse_, storeRefusal}
-use Rattle.store.specs.Ingest.{verdictNumber, refuse, ingestRefusal, judged, carried, ingested}
+use Rattle.store.specs.Ingest.{verdictNumber, stays, refuse, ingestRefusal, judged, carried, ingested}
 use Rattle.store.specs.Forget.{forgetAreaRefusal, areaForgotten, without}
+use Rattle.store.specs.Open.{OpenOutcome}
 use Rattle.store.specs.declared.ingest.IngestVerdict.{IngestVerdict}
-use Rattle.store.specs.declared.ingest.IngestVerdict.the-variants.{Obsolete, Refused}
-use Rattle.convergence.specs.History.{Opening, opens, Call, ingest, forget-area, answer, Event, historyOf, leftBy, received, refusalIn, IsValue, Steps, ours, after}
-use Rattle.convergence.specs.Conditions.{number}
-use Rattle.convergence.specs.Demand.{OpenedBy, Plain, Current, RefusedRight, Demand3}
+use Rattle.store.specs.declared.ingest.IngestVerdict.the-variants.{Success, Obsolete, Refused}
+use Rattle.convergence.specs.History.{Opening, opens, Call, ingest, forget-entry, forget-area, Answer, of-ingest, of-entry, of-area, AnswersTo, answer, Event, historyOf, leftBy, receipt, received, refusalIn, IsRefused, IsObsolete, IsValue, Steps, ours, after}
+use Rattle.convergence.specs.WellFormed.{WellFormedStore}
+use Rattle.convergence.specs.Conditions.{not-well-formed, store-full, number, Condition}
+use Rattle.convergence.specs.Demand.{OpenedBy, receivesBy, Plain, Current, RefusedRight, Demand3}
 use Rattle.convergence.specs.Examples.{valueIn, tokenIn, callOf, calls, filedAs, atLimit, one, two}
-use Rattle.convergence.specs.WrongStores.{forgottenIn, CountsRight, files-nothing, turned, other-kind, saying, first-only, full-at-1, one-verdict, refuses-all, countMade, made-up-count, ShutOut}
+use Rattle.convergence.specs.WrongStores.{forgottenIn, CountsRight, FilesNothing, FirstOnly, FullBelow, turned, other-kind, saying, one-verdict, refuses-all, countMade, made-up-count, ShutOut}
+use Rattle.convergence.proofs.WellFormedFacts.{well-formed-store}
 use Rattle.convergence.proofs.Stands.{Stands, stands-well, opens-stands}
 use Rattle.convergence.proofs.Computing.{computing}
 use Rattle.convergence.proofs.Shown.{only}
-use Rattle.convergence.proofs.Lines.{line-value, lines-received, lines-stand}
+use Rattle.convergence.proofs.Lines.{line-value, lines-stand}
 use Rattle.convergence.proofs.RightAnswers.{right-number, right-obsolete, success-number, success-current}
 use Rattle.convergence.proofs.Openings.{opens-right}
 use Rattle.convergence.proofs.OneEntry.{s0, s1, shows-one, count-0, count-1, first-answer, second-answer, first-value, first-right, second-right}
-use Rattle.convergence.proofs.Silent.{refusing-without-a-number}
+use Rattle.convergence.proofs.Silent.{number-some, refusing-without-a-number}
 use Rattle.convergence.proofs.Ghosts.{pruning-one-tree}
 
--- It files nothing: what is received is not there.
-one-received : received (historyOf files-nothing s0 (calls 2 (one ∷ []))) ≡ filedAs one ∷ []
-unfolding historyOf computing
-one-received = lines-received 2 refl (one ∷ []) refl
+-- The first call is not refused, and so its entry is received.
+module _ (m : Steps) (same : m .opening (atLimit 2) ≡ opens field (atLimit 2)) (v : Demand3 field m) where
+  first-taken : IsRefused (m .answers s0 (callOf 2 one)) → ⊥
+  first-taken k =
+      let r = first-right m v same (callOf 2 one) first-value in
+      let w = r .refused .0 k in
+      number-some (w .0) (sym (r .exactly (w .0) .1 (w .1)) ∙ right-number field _ r ∙ success-number (answer field s0 (callOf 2 one)) 0 first-answer)
+
+  receipt-one : (a : Answer) → AnswersTo (callOf 2 one) a → (IsRefused a → ⊥) → receipt (callOf 2 one) a ≡ filedAs one ∷ []
+  receipt-one (of-ingest r) t k = go (r .verdict) refl
+    where
+      go : (w : IngestVerdict) → r .verdict ≡ w → receipt (callOf 2 one) (of-ingest r) ≡ filedAs one ∷ []
+      go (Success n) q = unfold receipt in rw q
+      go Obsolete q = unfold receipt in rw q
+      go (Refused n) q = absurd (k (n, q))
+  receipt-one (of-entry r) t k = absurd t
+  receipt-one (of-area r) t k = absurd t
+
+  one-received : received (historyOf m s0 (calls 2 (one ∷ []))) ≡ filedAs one ∷ []
+  unfolding historyOf received
+  one-received = ap (_++ []) (receipt-one (m .answers s0 (callOf 2 one)) (v .answers-to s0 (callOf 2 one)) first-taken)
 
 none-of : {A : Type 0} {x : A} (l : List A) → length l ≡ 0 → x ∈ l → ⊥
 none-of [] e m = none-in m
@@ -63,29 +85,51 @@ one-plain = record {
   no-tie = λ a b m n t. t .properly (ap (λ (x : Stored). x .entry .path) (only m ∙ sym (only n)));
 }
 
-filing-nothing : Demand3 field files-nothing → ⊥
+-- It files nothing: what is received is not there.
+filing-nothing : (m : Steps) → FilesNothing m → Demand3 field m → ⊥
 unfolding leftBy
-filing-nothing v =
-    let c = v .contents (atLimit 2) (shows-one .opened) (calls 2 (one ∷ [])) (shows-one .values) (shows-one .ingestions) (subst Plain (sym one-received) one-plain) Spt in
-    let m = c .exactly (filedAs one) .1 (subst (λ (R : List Stored). Current R (filedAs one)) (sym one-received) one-current) in
-    none-of (c .entries) (sym (c .count) ∙ count-0) m
+filing-nothing m w v =
+    let same = w .opens-so (atLimit 2) in
+    let so : receivesBy m (atLimit 2) (calls 2 (one ∷ [])) ≡ filedAs one ∷ [] = ap (λ (r : OpenOutcome). received (historyOf m (r .store) (calls 2 (one ∷ [])))) same ∙ one-received m same v in
+    let opened : OpenedBy m (atLimit 2) = ap (λ (r : OpenOutcome). r .answer .refusal) same ∙ shows-one .opened in
+    let c = v .contents (atLimit 2) opened (calls 2 (one ∷ [])) (shows-one .values) (shows-one .ingestions) (subst Plain (sym so) one-plain) Spt in
+    let k = c .exactly (filedAs one) .1 (subst (λ (R : List Stored). Current R (filedAs one)) (sym so) one-current) in
+    let left : m .leaves (m .opening (atLimit 2) .store) (callOf 2 one) ≡ s0 = w .leaves-so _ (callOf 2 one) ∙ ap (λ (r : OpenOutcome). r .store) same in
+    none-of (c .entries) (sym (c .count) ∙ ap (λ (s : Store). s .state .count) left ∙ count-0) k
 
 -- It files its first entry and calls the rest obsolete: the second is not.
-filing-the-first : Demand3 field first-only → ⊥
-unfolding saying
-filing-the-first v =
-    let e : Event = record { before = s1; call = callOf 2 two; answered = saying Obsolete s1 (callOf 2 two) } in
-    let r : RefusedRight field (atLimit 2) e = second-right first-only v refl (saying Obsolete s1 (callOf 2 two)) (rw count-0) (rw count-1) in
-    success-current (answer field s1 (callOf 2 two)) 0 second-answer (right-obsolete field e r refl)
+filing-the-first : (m : Steps) → FirstOnly m → Demand3 field m → ⊥
+filing-the-first m w v =
+    let e : Event = record { before = s1; call = callOf 2 two; answered = m .answers s1 (callOf 2 two) } in
+    let r : RefusedRight field (atLimit 2) e = second-right m v (w .opens-so (atLimit 2)) (m .answers s1 (callOf 2 two)) (w .first s0 (callOf 2 one) count-0) refl in
+    let o : IsObsolete (e .answered) = w .rest s1 _ _ _ _ (λ z. let k = count-1 in omega arith) in
+    success-current (answer field s1 (callOf 2 two)) 0 second-answer (right-obsolete field e r o)
 
--- Full below the limit.
-full-below-the-limit : Demand3 field full-at-1 → ⊥
-unfolding saying refusalIn verdictNumber
-full-below-the-limit v =
-    let e : Event = record { before = s1; call = callOf 2 two; answered = saying (Refused 8) s1 (callOf 2 two) } in
-    let r : RefusedRight field (atLimit 2) e = second-right full-at-1 v refl (saying (Refused 8) s1 (callOf 2 two)) (rw count-0) (rw count-1) in
-    let z : _≡_ {A = ℕ} 8 0 = right-number field e r ∙ success-number (answer field s1 (callOf 2 two)) 0 second-answer in
+well-count : (f : Figures) (s : Store) → wellFormedStore f s ≡ true → s .state .count ≡ length (held f Spt s)
+unfolding wellFormedStore wellFormedTree held
+well-count f s w =
+    let rs = records (s .state .count) (dirOf Spt s) (treeOf f Spt s) in
+    let k = and-true (leb (s .state .count) (s .state .limit)) _ w in
+    let t = and-true (wellFormedTree f Spt s) _ (k .1) .0 in
+    sym (contents-length Spt f (s .state .«namespace_id») rs ∙ well-formed Spt f (s .state .count) (dirOf Spt s) (treeOf f Spt s) .0 t .many)
+
+-- Full below the limit: those that would be left are no more than there are.
+not-full : (s : Store) (c : Call) → WellFormedStore field s → s .state .count < s .state .limit → Condition field s c store-full → ⊥
+unfolding Condition
+not-full s (ingest prune e token prevent) w l k =
+    let h = well-count field s (well-formed-store field s .1 w) in
+    let g = keep-length (stays (entryOf e)) (held field Spt s) in
+    let q = k .1 in
     omega arith
+not-full s (forget-entry subspace path expects digest) w l k = k
+not-full s (forget-area area protects protected) w l k = k
+
+full-below-the-limit : (m : Steps) → FullBelow m → Demand3 field m → ⊥
+unfolding Condition number
+full-below-the-limit m w v =
+    let r = v .refused-right (w .at) (w .opened) (w .calls) (w .values) (w .event) (w .within) in
+    let first = r .exactly store-full .0 (w .says) in
+    first .none-before not-well-formed (omega arith) λ well. not-full (w .event .before) (w .event .call) well (w .below) (first .holds)
 
 -- One verdict: the first call is taken, and one with too short a prune list is refused with 2.
 abbrev careless : Call
@@ -156,14 +200,6 @@ keep-both : {A : Type 0} (p : A → Bool) (l : List A) → length (keep p l) + l
 unfolding keep
 keep-both p [] = refl
 keep-both p (a ∷ l) = let h = keep-both p l in split (p a) (λ q. rw q (omega arith)) (λ q. rw q (omega arith))
-
-well-count : (f : Figures) (s : Store) → wellFormedStore f s ≡ true → s .state .count ≡ length (held f Spt s)
-unfolding wellFormedStore wellFormedTree held
-well-count f s w =
-    let rs = records (s .state .count) (dirOf Spt s) (treeOf f Spt s) in
-    let k = and-true (leb (s .state .count) (s .state .limit)) _ w in
-    let t = and-true (wellFormedTree f Spt s) _ (k .1) .0 in
-    sym (contents-length Spt f (s .state .«namespace_id») rs ∙ well-formed Spt f (s .state .count) (dirOf Spt s) (treeOf f Spt s) .0 t .many)
 
 area-well : (f : Figures) (s : Store) (area : Area) (protects : Bool) (protected : Area) → forgetAreaRefusal f s area protects protected ≡ 0 → wellFormedStore f s ≡ true
 unfolding forgetAreaRefusal storeRefusal

@@ -13,7 +13,7 @@ use Rattle.convergence.specs.Examples.{callOf, atLimit, verdictIn, one}
 use Rattle.convergence.specs.WrongStores.{unnumbered, hushed, silent}
 use Rattle.convergence.proofs.OneEntry.{s0, shows-one, first-answer, first-value}
 
-number-some : (r : Reason) → number r ≡ 0 → ⊥
+pub number-some : (r : Reason) → number r ≡ 0 → ⊥
 unfolding number
 number-some limit-outside e = omega arith
 number-some short-buffer e = omega arith

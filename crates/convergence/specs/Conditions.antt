@@ -16,7 +16,7 @@ use Rattle.store.specs.Ingest.{stays}
 use Rattle.convergence.specs.WellFormed.{WellFormedStore}
 use Rattle.convergence.specs.History.{Call, ingest, forget-entry, forget-area}
 
--- An entry is stored if a tree has its record.
+-- An entry is stored if the subspace-first tree has its record; in a well-formed store the other has the same.
 abbrev pub IsStored : Figures → Store → Stored → Type 0
 IsStored f s x = x ∈ held f Spt s
 

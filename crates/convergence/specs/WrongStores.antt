@@ -1,11 +1,12 @@
 -- The wrong stores of 01's marking rule c: `shut-out` refutes demand 3 of each, of the made-up count `CountsRight`; of ours both are proved.
-use Prim.Native.Nat.{ℕ, _+_}
+use Prim.Native.Nat.{ℕ, _+_, _<_}
 use mathlib.Core.Path.{_≡_}
-use mathlib.Core.Bool.{Bool, cond}
-use lib.Dec.{leb, eqb}
-use Rattle.laws.specs.Sorted.{insert}
+use mathlib.Core.List.{List}
+use mathlib.Core.Bool.{Bool}
+use Rattle.laws.specs.Sorted.{_∈_, insert}
 use Rattle.data_model.specs.Path.{Figures, field}
 use Rattle.data_model.specs.Entry.{entryOf}
+use Rattle.data_model.specs.declared.entry.Entry.{Entry as EntryValue}
 use Rattle.data_model.specs.declared.area.Area.{Area}
 use Rattle.tree.specs.Stored.{Stored}
 use Rattle.tree.specs.declared.stored.KeyOrder.the-variants.{Spt, Tsp}
@@ -14,7 +15,8 @@ use Rattle.store.specs.Ingest.{tspLess, filing, filedIn, Decision, refuse, obso
 use Rattle.store.specs.declared.state.State.{State}
 use Rattle.store.specs.declared.ingest.IngestVerdict.{IngestVerdict}
 use Rattle.store.specs.declared.ingest.IngestVerdict.the-variants.{Success, Obsolete, Refused}
-use Rattle.convergence.specs.History.{Call, ingest, forget-entry, forget-area, Answer, of-ingest, of-entry, of-area, answer, after, Steps, ours, Opening, opens, refusalIn}
+use Rattle.convergence.specs.History.{Call, ingest, forget-entry, forget-area, Answer, of-ingest, of-entry, of-area, answer, after, Event, Steps, ours, historyOf, Opening, opens, refusalIn, IsObsolete, AreValues}
+use Rattle.convergence.specs.Conditions.{store-full, number}
 use Rattle.convergence.specs.Demand.{OpenedBy, Demand3}
 
 -- Demand 2 of a forgotten count: as many as the store then holds less.
@@ -27,9 +29,27 @@ abbrev pub CountsRight : Steps → Type 0
 CountsRight m = (s : Store) (area : Area) (protects : Bool) (protected : Area) → refusalIn (m .answers s (forget-area area protects protected)) ≡ 0
     → forgottenIn (m .answers s (forget-area area protects protected)) + m .leaves s (forget-area area protects protected) .state .count ≡ s .state .count
 
--- It answers as ours, and files nothing.
-abbrev pub files-nothing : Steps
-files-nothing = record { opening = opens field; answers = answer field; leaves = λ s c. s }
+-- It opens as ours does, and then files nothing, whatever it answers.
+pub record FilesNothing (m : Steps) : Type 0 where
+  pub opens-so : (o : Opening) → m .opening o ≡ opens field o
+  pub leaves-so : (s : Store) (c : Call) → m .leaves s c ≡ s
+
+-- It opens as ours does, files its first entry and calls the rest obsolete, whatever else it does.
+pub record FirstOnly (m : Steps) : Type 0 where
+  pub opens-so : (o : Opening) → m .opening o ≡ opens field o
+  pub first : (s : Store) (c : Call) → s .state .count ≡ 0 → m .leaves s c ≡ after field s c
+  pub rest : (s : Store) (prune : List ℕ) (e : EntryValue) (token : List ℕ) (prevent : Bool) → (s .state .count ≡ 0 → ⊥) → IsObsolete (m .answers s (ingest prune e token prevent))
+
+-- In some list it refuses with 8 on a store of fewer entries than the limit.
+pub record FullBelow (m : Steps) : Type 0 where
+  pub at : Opening
+  pub opened : OpenedBy m at
+  pub calls : List Call
+  pub values : AreValues field calls
+  pub event : Event
+  pub within : event ∈ historyOf m (m .opening at .store) calls
+  pub below : event .before .state .count < event .before .state .limit
+  pub says : refusalIn (event .answered) ≡ number store-full
 
 -- It answers an ingestion as if it were a forgetting, and files nothing.
 unfoldable pub turned : State → ℕ → Answer
@@ -43,22 +63,6 @@ unfoldable pub saying : IngestVerdict → Store → Call → Answer
 saying v s (ingest prune e token prevent) = of-ingest (plainAnswer v (s .state))
 saying v s (forget-entry subspace path expects digest) = answer field s (forget-entry subspace path expects digest)
 saying v s (forget-area area protects protected) = answer field s (forget-area area protects protected)
-
--- It files its first entry and calls the rest obsolete.
-abbrev pub first-only : Steps
-first-only = record {
-  opening = opens field;
-  answers = λ s c. cond (eqb (s .state .count) 0) (answer field s c) (saying Obsolete s c);
-  leaves = λ s c. cond (eqb (s .state .count) 0) (after field s c) s;
-}
-
--- It is full with one entry, whatever the limit.
-abbrev pub full-at-1 : Steps
-full-at-1 = record {
-  opening = opens field;
-  answers = λ s c. cond (leb 1 (s .state .count)) (saying (Refused 8) s c) (answer field s c);
-  leaves = λ s c. cond (leb 1 (s .state .count)) s (after field s c);
-}
 
 -- It gives one verdict to all, whatever it does: refusing everybody is one of these.
 abbrev pub one-verdict : IngestVerdict → (Store → Call → Store) → Steps
@@ -106,9 +110,9 @@ made-up-count n = record { opening = opens field; answers = λ s c. countMade n 
 
 -- None of them is let through.
 pub record ShutOut : Type 0 where
-  pub filing-nothing : Demand3 field files-nothing → ⊥
-  pub filing-the-first : Demand3 field first-only → ⊥
-  pub full-below-the-limit : Demand3 field full-at-1 → ⊥
+  pub filing-nothing : (m : Steps) → FilesNothing m → Demand3 field m → ⊥
+  pub filing-the-first : (m : Steps) → FirstOnly m → Demand3 field m → ⊥
+  pub full-below-the-limit : (m : Steps) → FullBelow m → Demand3 field m → ⊥
   pub refusing-everybody : (n : ℕ) → Demand3 field (refuses-all n) → ⊥
   pub refusing-every-opening : (m : Steps) → ((o : Opening) → OpenedBy m o → ⊥) → Demand3 field m → ⊥
   pub answering-in-another-kind : Demand3 field other-kind → ⊥

@@ -4,3 +4,4 @@ pub mod FoundLaws
 pub mod Walked
 pub mod AreaAsRange
 pub mod TimeSaid
+pub mod TimesFrom

@@ -1,41 +1,21 @@
--- Where the times of an area of interest start, in 01's words; and what its 3d range includes: the matches from that time on. Assumes
--- nothing.
-use Prim.Native.Nat.{ℕ, _+_, _≤_}
+-- Where the times of an area of interest start, in 01's words. Assumes nothing.
+use Prim.Native.Nat.{ℕ, _+_}
 use mathlib.Core.Path.{_≡_, refl, sym, ap, subst, _∙_}
-use mathlib.Core.Logic.{⊎-elim}
-use mathlib.Core.List.{List, [], _∷_, _++_, reverse, reverse-append, List·Memᴰ·head as here, List·Memᴰ·tail as there, List·Memᴰ·append-cases as in-either, List·Memᴰ·eq-of-singleton as only, List·Memᴰ·not-nil as none-in, List·Memᴰ·cases-cons as uncons}
-use mathlib.Core.Bool.{Bool, true, false, not, _&&_, _||_}
+use mathlib.Core.Logic.{_⊎_, inl, inr, ⊎-elim}
+use mathlib.Core.List.{List, [], _∷_, _++_, reverse, reverse-append, append-nil, append-assoc}
+use mathlib.Core.Bool.{Bool, true, false, not, _||_}
 use native.Mathlib.Omega.{arith}
-use lib.ListN.{length}
-use lib.Dec.{leb}
-use borrow.Author.Tests.{leb-true, leb-false, lt-ltb, le-ltb, ltb-false, le-leb}
-use Rattle.laws.specs.Order.{byNumber, isLess, below}
-use Rattle.laws.specs.Sorted.{_∈_, keep, Ascends}
-use Rattle.laws.proofs.Truth.{split, and-true, not-true}
-use Rattle.laws.proofs.Sorted.{keep-view, keep-ascends}
-use Rattle.data_model.specs.Path.{field, components, isPrefix}
-use Rattle.data_model.specs.Range.{timesInclude, subspacesInclude, pathsInclude, includes, beforeEnd, timesEnd}
-use Rattle.data_model.specs.Range3d.{rangeIncludes}
-use Rattle.data_model.specs.Area.{areaSubspace, areaIncludes, areaRange}
-use Rattle.data_model.specs.declared.range.RangeEnd.{RangeEnd}
-use Rattle.data_model.specs.declared.area.Area.{Area}
+use lib.ListN.{length, length-append}
+use lib.Dec.{eqb, ltb}
+use borrow.Author.Tests.{ltb-true, lt-ltb, eqb-false, ne-eqb}
+use Rattle.laws.specs.Prefix.{sameNumber}
+use Rattle.laws.specs.Sorted.{keep}
+use Rattle.laws.proofs.Truth.{split, clash, and-true, not-true}
 use Rattle.data_model.specs.declared.«area_of_interest».AreaOfInterest.{AreaOfInterest}
-use Rattle.tree.specs.Stored.{Stored, tripleOf}
-use Rattle.tree.specs.Matching.{inArea, inRange}
-use Rattle.tree.specs.Interest.{breaks, addSize, interestFrom}
-use Rattle.tree.specs.declared.stored.KeyOrder.{KeyOrder}
-use Rattle.data_model.proofs.RangeLaws.{number-below}
-use Rattle.key_laws.specs.Bytes.{Bytes}
-use Rattle.key_laws.proofs.AreaLaws.{AreaWords}
-use Rattle.store.specs.Store.{Store, treeOf, held, heldBy, wellFormedStore}
-use Rattle.query.specs.Reading.{areaRefusal}
-use Rattle.query.specs.Interest.{interestTime, startingAt, broke, timeOr, leastTime}
-use Rattle.query.proofs.AreaAsRange.{same-included}
-use Rattle.laws.proofs.Order.{then-less-view, is-less, number-is-less, number-linear}
-use Rattle.key_laws.specs.KeyOrder.{tspOrder}
-use Rattle.store.specs.Ingest.{tspLess}
-use Rattle.store.proofs.WellStore.{held-fit}
-use Rattle.tree.specs.declared.stored.KeyOrder.the-variants.{Tsp}
+use Rattle.tree.specs.Stored.{Stored}
+use Rattle.tree.specs.Matching.{inArea}
+use Rattle.tree.specs.Interest.{noLimit, breaks, addSize, interestFrom}
+use Rattle.query.specs.Interest.{interestTime, payload, Over, Breaks, Starts, broke, least, as-given}
 
 -- The time of the last that is met.
 unfoldable last-time : ℕ → List Stored → ℕ
@@ -47,109 +27,154 @@ unfolding last-time
 last-met t [] x = refl
 last-met t (y ∷ l) x = last-met (y .entry .rank .timestamp) l x
 
-least-last : (t : ℕ) (l : List Stored) → last-time t (reverse l) ≡ leastTime t l
-unfolding leastTime last-time
-least-last t [] = refl
-least-last t (x ∷ l) = ap (last-time t) (reverse-append (x ∷ []) l) ∙ last-met t (reverse l) x
+last-reverse : (t : ℕ) (x : Stored) (l : List Stored) → last-time t (reverse (x ∷ l)) ≡ x .entry .rank .timestamp
+last-reverse t x l = ap (last-time t) (reverse-append (x ∷ []) l) ∙ last-met t (reverse l) x
 
-met : (maxCount maxSize n size t : ℕ) (l : List Stored) → interestFrom maxCount maxSize n size t l ≡ timeOr (broke maxCount maxSize n size l) (last-time t l)
-unfolding interestFrom broke timeOr last-time
-met maxCount maxSize n size t [] = refl
-met maxCount maxSize n size t (x ∷ l) =
-    let i = met maxCount maxSize (n + 1) (addSize maxSize size (x .entry .rank .«payload_length»)) (x .entry .rank .timestamp) l in
-    split (breaks maxCount (n + 1) || breaks maxSize (size + x .entry .rank .«payload_length»)) (λ q. rw q) (λ q. rw q i)
+-- A limit that is broken.
+over-true : (limit n : ℕ) → breaks limit n ≡ true → Over limit n
+unfolding breaks sameNumber
+over-true limit n e =
+    let k = and-true (not (eqb limit noLimit)) (ltb limit n) e in
+    (eqb-false limit noLimit (not-true _ (k .0)), ltb-true limit n (k .1))
+
+over-false : (limit n : ℕ) → breaks limit n ≡ false → Over limit n → ⊥
+unfolding breaks sameNumber
+over-false limit n e o = clash (rw (ne-eqb limit noLimit (o .0), lt-ltb limit n (o .1))) e
+
+payload-last : (l : List Stored) (x : Stored) → payload (l ++ x ∷ []) ≡ payload l + x .entry .rank .«payload_length»
+unfolding payload
+payload-last [] x = omega arith
+payload-last (y ∷ l) x = let h = payload-last l x in omega arith
+
+no-front : (p : List Stored) (x : Stored) (q : List Stored) → [] ≡ p ++ x ∷ q → ⊥
+no-front [] x q e = let z : _≡_ {A = ℕ} 0 1 = cc in omega arith
+no-front (y ∷ p) x q e = let z : _≡_ {A = ℕ} 0 1 = cc in omega arith
+
+module _ (a : AreaOfInterest) where
+  -- What the walk carries along: how many were met, and their payload where a sum is kept.
+  record Carries (before : List Stored) (n size : ℕ) : Type 0 where
+    number : n ≡ length before
+    sum : (a .«max_size» ≡ noLimit → ⊥) → size ≡ payload before
+
+  abbrev breaks-one : (n size : ℕ) → Stored → Bool
+  breaks-one n size x = breaks (a .«max_count») (n + 1) || breaks (a .«max_size») (size + x .entry .rank .«payload_length»)
+
+  one-breaks : (before : List Stored) (n size : ℕ) (x : Stored) → Carries before n size → breaks-one n size x ≡ true → Breaks a before x
+  one-breaks before n size x c e = split (breaks (a .«max_count») (n + 1))
+      (λ q. let o = over-true (a .«max_count») (n + 1) q in inl (o .0, (let h = c .number in let k = o .1 in omega arith)))
+      (λ q. let o = over-true (a .«max_size») (size + x .entry .rank .«payload_length») (rw q at e) in inr (o .0, (let h = c .sum (o .0) in let k = o .1 in omega arith)))
+
+  none-breaks : (before : List Stored) (n size : ℕ) (x : Stored) → Carries before n size → breaks-one n size x ≡ false → Breaks a before x → ⊥
+  none-breaks before n size x c e = split (breaks (a .«max_count») (n + 1))
+      (λ q. let z : true ≡ false = rw q at e in clash refl z)
+      (λ q. ⊎-elim
+      (λ o. over-false (a .«max_count») (n + 1) q (o .0, (let h = c .number in let k = o .1 in omega arith)))
+      (λ o. over-false (a .«max_size») (size + x .entry .rank .«payload_length») (rw q at e) (o .0, (let h = c .sum (o .0) in let k = o .1 in omega arith))))
+
+  carries-on : (before : List Stored) (n size : ℕ) (x : Stored) → Carries before n size
+      → Carries (before ++ x ∷ []) (n + 1) (addSize (a .«max_size») size (x .entry .rank .«payload_length»))
+  unfolding addSize sameNumber
+  carries-on before n size x c = record {
+    number = let h = c .number in simp length-append (omega arith);
+    sum = λ k. let h = c .sum k in rw (ne-eqb (a .«max_size») noLimit k, payload-last) (omega arith);
+  }
+
+  -- Of those that are met after others.
+  abbrev NoneAfter : (before met : List Stored) → Type 0
+  NoneAfter before met = (p : List Stored) (x : Stored) (q : List Stored) → met ≡ p ++ x ∷ q → Breaks a (before ++ p) x → ⊥
+
+  none-more : (before : List Stored) (x : Stored) (l : List Stored) → (Breaks a before x → ⊥) → NoneAfter (before ++ x ∷ []) l → NoneAfter before (x ∷ l)
+  none-more before x l kept rest [] y q e b =
+      let h : y ≡ x = cc in
+      kept (subst (Breaks a before) h (subst (λ k. Breaks a k y) (append-nil before) b))
+  none-more before x l kept rest (z ∷ p) y q e b =
+      let h : z ≡ x = cc in
+      let g : l ≡ p ++ y ∷ q = cc in
+      rest p y q g (subst (λ k. Breaks a k y) (ap (λ (z : Stored). before ++ z ∷ p) h ∙ sym (append-assoc before (x ∷ []) p)) b)
+
+  record FirstAfter (before met : List Stored) (time : ℕ) : Type 0 where
+    front : List Stored
+    at : Stored
+    behind : List Stored
+    met-so : met ≡ front ++ at ∷ behind
+    none-yet : NoneAfter before front
+    breaks-now : Breaks a (before ++ front) at
+    its-time : time ≡ at .entry .rank .timestamp
+
+  walks : (before : List Stored) (n size t : ℕ) (l : List Stored) → Carries before n size
+      → FirstAfter before l (interestFrom (a .«max_count») (a .«max_size») n size t l)
+      ⊎ (NoneAfter before l × (interestFrom (a .«max_count») (a .«max_size») n size t l ≡ last-time t l))
+  unfolding interestFrom last-time
+  walks before n size t [] c = inr ((λ p x q e. absurd (no-front p x q e)), refl)
+  walks before n size t (x ∷ l) c =
+      let i = walks (before ++ x ∷ []) (n + 1) (addSize (a .«max_size») size (x .entry .rank .«payload_length»)) (x .entry .rank .timestamp) l (carries-on before n size x c) in
+      split (breaks-one n size x)
+      (λ q. rw q (inl (record {
+        front = [];
+        at = x;
+        behind = l;
+        met-so = refl;
+        none-yet = λ p y r e. absurd (no-front p y r e);
+        breaks-now = rw append-nil (one-breaks before n size x c q);
+        its-time = refl;
+      })))
+      (λ q. rw q (⊎-elim
+      (λ r. inl (record {
+        front = x ∷ r .front;
+        at = r .at;
+        behind = r .behind;
+        met-so = ap (x ∷_) (r .met-so);
+        none-yet = none-more before x (r .front) (none-breaks before n size x c q) (r .none-yet);
+        breaks-now = subst (λ k. Breaks a k (r .at)) (append-assoc before (x ∷ []) (r .front)) (r .breaks-now);
+        its-time = r .its-time;
+      }))
+      (λ r. inr (none-more before x l (none-breaks before n size x c q) (r .0), r .1))
+      i))
+
+  -- There is one first that breaks a limit.
+  first-once : (before p p′ : List Stored) (x x′ : Stored) (q q′ : List Stored) → p ++ x ∷ q ≡ p′ ++ x′ ∷ q′ → NoneAfter before p → NoneAfter before p′
+      → Breaks a (before ++ p) x → Breaks a (before ++ p′) x′ → x ≡ x′
+  first-once before [] [] x x′ q q′ e n n′ b b′ = cc
+  first-once before [] (z ∷ p′) x x′ q q′ e n n′ b b′ =
+      let h : x ≡ z = cc in
+      absurd (n′ [] z p′ refl (subst (Breaks a (before ++ [])) h b))
+  first-once before (z ∷ p) [] x x′ q q′ e n n′ b b′ =
+      let h : x′ ≡ z = cc in
+      absurd (n [] z p refl (subst (Breaks a (before ++ [])) h b′))
+  first-once before (z ∷ p) (z′ ∷ p′) x x′ q q′ e n n′ b b′ =
+      let h : z′ ≡ z = cc in
+      let g : p ++ x ∷ q ≡ p′ ++ x′ ∷ q′ = cc in
+      first-once (before ++ z ∷ []) p p′ x x′ q q′ g (behind z p n) (behind z p′ (subst (λ (y : Stored). NoneAfter before (y ∷ p′)) h n′))
+      (subst (λ k. Breaks a k x) (sym (append-assoc before (z ∷ []) p)) b)
+      (subst (λ k. Breaks a k x′) (ap (λ (y : Stored). before ++ y ∷ p′) h ∙ sym (append-assoc before (z ∷ []) p′)) b′)
+    where
+      behind : (z : Stored) (p : List Stored) → NoneAfter before (z ∷ p) → NoneAfter (before ++ z ∷ []) p
+      behind z p n k y r e b = n (z ∷ k) y r (ap (z ∷_) e) (subst (λ l. Breaks a l y) (append-assoc before (z ∷ []) k) b)
+
+  -- Where the times start.
+  said : (matches : List Stored) → Starts a matches (interestFrom (a .«max_count») (a .«max_size») 0 0 (a .area .times .start) (reverse matches))
+  unfolding interestFrom
+  said [] = as-given refl refl
+  said (x ∷ l) = ⊎-elim
+      (λ r. broke (r .front) (r .at) (r .behind) (r .met-so) (r .none-yet) (r .breaks-now) (r .its-time))
+      (λ r. least x l refl (r .0) (r .1 ∙ last-reverse (a .area .times .start) x l))
+      (walks [] 0 0 (a .area .times .start) (reverse (x ∷ l)) (record { number = refl; sum = λ k. unfold payload in refl }))
+
+  -- There is one such time.
+  pub starts-once : (matches : List Stored) (t u : ℕ) → Starts a matches t → Starts a matches u → t ≡ u
+  starts-once matches t u (broke p x q m n b e) (broke p′ x′ q′ m′ n′ b′ e′) =
+      e ∙ ap (λ (y : Stored). y .entry .rank .timestamp) (first-once [] p p′ x x′ q q′ (sym m ∙ m′) n n′ b b′) ∙ sym e′
+  starts-once matches t u (broke p x q m n b e) (least x′ q′ m′ n′ e′) = absurd (n′ p x q m b)
+  starts-once matches t u (broke p x q m n b e) (as-given m′ e′) = absurd (no-front p x q (sym (ap reverse m′) ∙ m))
+  starts-once matches t u (least x q m n e) (broke p′ x′ q′ m′ n′ b′ e′) = absurd (n p′ x′ q′ m′ b′)
+  starts-once matches t u (least x q m n e) (least x′ q′ m′ n′ e′) =
+      let h : x ≡ x′ = cc in
+      e ∙ ap (λ (y : Stored). y .entry .rank .timestamp) h ∙ sym e′
+  starts-once matches t u (least x q m n e) (as-given m′ e′) = absurd (no-front [] x q (sym m′ ∙ m))
+  starts-once matches t u (as-given m e) (broke p′ x′ q′ m′ n′ b′ e′) = absurd (no-front p′ x′ q′ (sym (ap reverse m) ∙ m′))
+  starts-once matches t u (as-given m e) (least x′ q′ m′ n′ e′) = absurd (no-front [] x′ q′ (sym m ∙ m′))
+  starts-once matches t u (as-given m e) (as-given m′ e′) = e ∙ sym e′
 
 -- That of the first entry met that broke a limit, else of the least match, else as given.
-pub interest-said : (a : AreaOfInterest) (tsp : List Stored)
-    → interestTime a tsp ≡ timeOr (broke (a .«max_count») (a .«max_size») 0 0 (reverse (keep (inArea (a .area)) tsp))) (leastTime (a .area .times .start) (keep (inArea (a .area)) tsp))
-interest-said a tsp =
-    met (a .«max_count») (a .«max_size») 0 0 (a .area .times .start) (reverse (keep (inArea (a .area)) tsp))
-    ∙ ap (timeOr (broke (a .«max_count») (a .«max_size») 0 0 (reverse (keep (inArea (a .area)) tsp)))) (least-last (a .area .times .start) (keep (inArea (a .area)) tsp))
-
--- It is not before the area's times start.
-in-time : (area : Area) (x : Stored) → inArea area x ≡ true → area .times .start ≤ x .entry .rank .timestamp
-unfolding inArea areaIncludes timesInclude includes
-in-time area x e =
-    let t = x .entry .rank .timestamp in
-    let before = not (isLess (byNumber t (area .times .start))) in
-    let rest = beforeEnd byNumber t (timesEnd (area .times .end)) in
-    let prefix = isPrefix (components (area .path)) (x .entry .path) in
-    let a = and-true (areaSubspace (area .subspace) (x .entry .subspace)) (prefix && (before && rest)) e .1 in
-    let b = and-true prefix (before && rest) a .1 in
-    let c = not-true (isLess (byNumber t (area .times .start))) (and-true before rest b .0) in
-    ltb-false t (area .times .start) (sym (number-below t (area .times .start)) ∙ c)
-
-reverse-in : {x : Stored} (l : List Stored) → x ∈ reverse l → x ∈ l
-reverse-in [] m = m
-reverse-in {x} (a ∷ l) m = ⊎-elim (λ k. there (reverse-in l k)) (λ k. here (only k)) (in-either (reverse l) (subst (x ∈_) (reverse-append (a ∷ []) l) m))
-
-at-least : (maxCount maxSize n size t start : ℕ) (l : List Stored) → start ≤ t → ((x : Stored) → x ∈ l → start ≤ x .entry .rank .timestamp) → start ≤ interestFrom maxCount maxSize n size t l
-unfolding interestFrom
-at-least maxCount maxSize n size t start [] h each = h
-at-least maxCount maxSize n size t start (x ∷ l) h each =
-    let i = at-least maxCount maxSize (n + 1) (addSize maxSize size (x .entry .rank .«payload_length»)) (x .entry .rank .timestamp) start l (each x (here refl)) (λ y m. each y (there m)) in
-    split (breaks maxCount (n + 1) || breaks maxSize (size + x .entry .rank .«payload_length»)) (λ q. rw q (each x (here refl))) (λ q. rw q i)
-
-pub interest-late : (a : AreaOfInterest) (tsp : List Stored) → a .area .times .start ≤ interestTime a tsp
-interest-late a tsp =
-    at-least (a .«max_count») (a .«max_size») 0 0 (a .area .times .start) (a .area .times .start) (reverse (keep (inArea (a .area)) tsp)) (omega arith)
-    (λ x m. in-time (a .area) x (keep-view (inArea (a .area)) tsp (reverse-in (keep (inArea (a .area)) tsp) m) .1))
-
--- Times that start later.
-later : (start t ts : ℕ) (end : RangeEnd) → start ≤ t → timesInclude (record { start = t; end = end }) ts ≡ (leb t ts && timesInclude (record { start = start; end = end }) ts)
-unfolding timesInclude includes
-later start t ts end h = split (leb t ts)
-    (λ q. let w = leb-true t ts q in rw (q, number-below ts t, number-below ts start, le-ltb ts t w, le-ltb ts start (omega arith)))
-    (λ q. rw (q, number-below ts t, lt-ltb ts t (leb-false t ts q)))
-
-move-first : (a b c d : Bool) → (a && (b && (c && d))) ≡ (c && (a && (b && d)))
-move-first true true c d = refl
-move-first true false true d = refl
-move-first true false false d = refl
-move-first false b true d = refl
-move-first false b false d = refl
-
--- Of what a tree holds, the range that is answered includes the matches from its start on: the one that broke a limit too.
-module _ (s : Store) (a : AreaOfInterest) (long : field .mpl ≤ length (a .area .path .bytes)) (bytes : Bytes (a .area .path .bytes)) (words : AreaWords (a .area .subspace))
-    (z : areaRefusal field s (a .area) ≡ 0) (tsp : List Stored) where
-  pub interest-includes : (o : KeyOrder) → Bytes (treeOf field o s) → (x : Stored) → x ∈ held field o s
-      → inRange (startingAt (interestTime a tsp) (areaRange field (a .area))) x ≡ (leb (interestTime a tsp) (x .entry .rank .timestamp) && inArea (a .area) x)
-  unfolding inRange rangeIncludes areaRange
-  interest-includes o tree x m =
-      let r = areaRange field (a .area) in
-      let ts = x .entry .rank .timestamp in
-      let S = subspacesInclude (r .subspaces) (x .entry .subspace) in
-      let P = pathsInclude (r .paths) (x .entry .path) in
-      ap (λ (b : Bool). S && (P && b)) (later (a .area .times .start) (interestTime a tsp) ts (a .area .times .end) (interest-late a tsp))
-      ∙ move-first S P (leb (interestTime a tsp) ts) (timesInclude (a .area .times) ts)
-      ∙ ap (λ (b : Bool). leb (interestTime a tsp) ts && b) (sym (same-included s (a .area) long bytes words z o tree x m))
-
--- Matches of a well-formed store are met from the latest: in time-first order no later one is of an earlier time, so that the first of them is the least.
-time-first : (a b : Stored) → tspLess a b ≡ true → a .entry .rank .timestamp ≤ b .entry .rank .timestamp
-unfolding tspOrder below tripleOf
-time-first a b e = ⊎-elim
-    (λ l. let h = number-is-less (a .entry .rank .timestamp) (b .entry .rank .timestamp) l in omega arith)
-    (λ l. let h = number-linear .equal (a .entry .rank .timestamp) (b .entry .rank .timestamp) (l .0) in omega arith)
-    (then-less-view (byNumber (a .entry .rank .timestamp) (b .entry .rank .timestamp)) _ (is-less _ e))
-
-abbrev inTime : Stored → Stored → Bool
-inTime a b = leb (a .entry .rank .timestamp) (b .entry .rank .timestamp)
-
-ascends-as : {A : Type 0} (test other : A → A → Bool) → ((a b : A) → test a b ≡ true → other a b ≡ true) → (l : List A) → Ascends test l → Ascends other l
-unfolding Ascends
-ascends-as test other h [] s = tt
-ascends-as test other h (a ∷ l) s = ((λ x m. h a x (s .0 x m)), ascends-as test other h l (s .1))
-
-module _ (s : Store) (area : Area) (w : wellFormedStore field s ≡ true) (tree : (o : KeyOrder) → Bytes (treeOf field o s)) where
-  pub matches-ascend : Ascends inTime (keep (inArea area) (held field Tsp s))
-  unfolding heldBy
-  matches-ascend =
-      ascends-as tspLess inTime (λ a b e. le-leb _ _ (time-first a b e)) (keep (inArea area) (held field Tsp s))
-      (keep-ascends tspLess (inArea area) (held field Tsp s) (held-fit field s w tree .sound .tsp-ascends))
-
-  pub least-match : (given : ℕ) (x : Stored) → x ∈ keep (inArea area) (held field Tsp s) → leastTime given (keep (inArea area) (held field Tsp s)) ≤ x .entry .rank .timestamp
-  least-match given x m = go (keep (inArea area) (held field Tsp s)) matches-ascend m
-    where
-      go : (l : List Stored) → Ascends inTime l → x ∈ l → leastTime given l ≤ x .entry .rank .timestamp
-      go [] a m = absurd (none-in m)
-      go (y ∷ l) a m = unfold Ascends leastTime in ⊎-elim (λ (e : x ≡ y). rw e (omega arith)) (λ n. leb-true _ _ (a .0 x n)) (uncons m)
+pub interest-said : (a : AreaOfInterest) (tsp : List Stored) → Starts a (keep (inArea (a .area)) tsp) (interestTime a tsp)
+interest-said a tsp = said a (keep (inArea (a .area)) tsp)

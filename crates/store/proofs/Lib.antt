@@ -10,3 +10,4 @@ pub mod ChangeLaws
 pub mod FileLaws
 pub mod HoldingLaws
 pub mod ForgetLaws
+pub mod PrunedLaws

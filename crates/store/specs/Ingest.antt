@@ -1,5 +1,5 @@
 -- Ingestion: 1, 2, 3, 4, 6; obsolete; 7, 8; or the entry is filed in both trees and what it removes goes from both.
-use Prim.Native.Nat.{ℕ, _-_, _<_}
+use Prim.Native.Nat.{ℕ, _-_, _*_, _<_}
 use mathlib.Core.Path.{_≡_}
 use mathlib.Core.List.{List, [], _∷_}
 use mathlib.Core.Option.{Option, some, none}
@@ -10,6 +10,7 @@ use Rattle.laws.specs.Lists.{put}
 use Rattle.laws.specs.Order.{below, on}
 use Rattle.laws.specs.Prefix.{sameNumber, sameList}
 use Rattle.laws.specs.Sorted.{any, keep, insert}
+use Rattle.layout.specs.Layout.{records}
 use Rattle.layout.specs.Marks.{marksOf, firstMark, markedPairs}
 use Rattle.data_model.specs.Path.{Figures, legal, pathOf}
 use Rattle.data_model.specs.Subspace.{firstSubspace}
@@ -17,11 +18,11 @@ use Rattle.data_model.specs.Entry.{Entry, entryOf}
 use Rattle.data_model.specs.Refusal.{illegalPath}
 use Rattle.data_model.specs.declared.entry.Entry.{Entry as EntryValue}
 use Rattle.key_laws.specs.KeyOrder.{sptOrder, tspOrder}
-use Rattle.tree.specs.Stored.{Stored, tripleOf, lengthy}
+use Rattle.tree.specs.Stored.{Stored, stored, contents, tripleOf, lengthy}
 use Rattle.tree.specs.Matching.{outdates, removes}
 use Rattle.tree.specs.declared.stored.KeyOrder.{KeyOrder}
 use Rattle.tree.specs.declared.stored.KeyOrder.the-variants.{Spt, Tsp}
-use Rattle.store.specs.Store.{Store, storeOf, dirRoom, dirOf, held, Held, heldBy, holding}
+use Rattle.store.specs.Store.{Store, storeOf, dirRoom, treeOf, dirOf, held, Held, heldBy, holding}
 use Rattle.store.specs.Refusal.{unless, _orElse_, storeRefusal, otherNamespace, pruningPrevented, full}
 use Rattle.store.specs.declared.state.State.{State}
 use Rattle.store.specs.declared.ingest.IngestVerdict.{IngestVerdict}
@@ -149,6 +150,14 @@ ingestOutcome r a b c d prune = record { answer = r; store = storeOf (r .state) 
 -- The pairs of what an entry removes, as they stand in the subspace-first tree, in key order.
 unfoldable pub prunedPairs : Figures → Store → Entry → List ℕ
 prunedPairs f s e = markedPairs (marksOf (removes e) (held f Spt s)) (dirOf Spt s)
+
+-- What they are (theorem `pruned`): as many as the entry removes; what they cut out of that tree, in order, are its records that say what is
+-- removed.
+pub record Pruned (f : Figures) (s : Store) (e : Entry) : Type 0 where
+  pub number : length (prunedPairs f s e) ≡ 2 * length (keep (removes e) (held f Spt s))
+  pub cut-out : records (length (keep (removes e) (held f Spt s))) (prunedPairs f s e) (treeOf f Spt s)
+      ≡ keep (λ (r : List ℕ). removes e (stored Spt f (s .state .«namespace_id») r)) (records (s .state .count) (dirOf Spt s) (treeOf f Spt s))
+  pub entries : contents Spt f (s .state .«namespace_id») (records (length (keep (removes e) (held f Spt s))) (prunedPairs f s e) (treeOf f Spt s)) ≡ keep (removes e) (held f Spt s)
 
 unfoldable pub carried : Figures → Store → (prune : List ℕ) → Entry → (token : List ℕ) → Decision → IngestOutcome
 carried f s prune e token (refuse n) = record { answer = plainAnswer (verdict.Refused n) (s .state); store = s; prune = prune }
