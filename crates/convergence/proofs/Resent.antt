@@ -11,7 +11,7 @@ use borrow.Author.Tests.{leb-true}
 use Rattle.laws.specs.Order.{isLess, below}
 use Rattle.laws.specs.Sorted.{_∈_, any, keep, Ascends}
 use Rattle.laws.proofs.Truth.{split, clash, refute, not-true}
-use Rattle.laws.proofs.Sorted.{any-view, any-none, keep-view, keep-make, keep-ascends, ascends-unique, insert-view, insert-new}
+use Rattle.laws.proofs.Sorted.{any-view, any-none, keep-view, keep-make, keep-ascends, ascends-unique, insert-view, insert-new, keep-fewer}
 use Rattle.data_model.specs.Path.{Figures, samePath}
 use Rattle.data_model.specs.Entry.{Entry, newer, covers}
 use Rattle.data_model.proofs.Orders.{path-equality}
@@ -27,20 +27,11 @@ use Rattle.store.specs.Ingest.{sptLess, filing, stays, lessIn, filedIn, filed, 
 use Rattle.store.proofs.WellStore.{held-fit}
 use Rattle.store.proofs.Recorded.{Proper}
 use Rattle.store.proofs.Lifted.{listOf, Fit, bears-held, holding-bears}
-use Rattle.store.proofs.Counted.{keep-length}
 use Rattle.store.proofs.IngestLaws.{first-absent}
 use Rattle.store.proofs.Meaning.{SoundHeld, removes-view, removes-make, before-irrefl, before-trans, spt-linear}
 use Rattle.convergence.specs.Demand.{Tied}
 use Rattle.convergence.specs.Resend.{Resent}
 use Rattle.convergence.proofs.Stands.{fit-filed}
-
--- What is not kept makes a list shorter.
-keep-fewer : {A : Type 0} (p : A → Bool) {x : A} (l : List A) → x ∈ l → p x ≡ false → length (keep p l) < length l
-unfolding keep
-keep-fewer p [] m e = absurd (none-in m)
-keep-fewer p {x} (a ∷ l) m e = split (p a)
-    (λ t. rw t (⊎-elim (λ (q : x ≡ a). clash t (sym (ap p q) ∙ e)) (λ n. let h = keep-fewer p l n e in omega arith) (uncons m)))
-    (λ t. rw t (let h = keep-length p l in omega arith))
 
 -- Of an ascending list two that are not ordered are one.
 ascends-one : {A : Type 0} (test : A → A → Bool) {x y : A} (l : List A) → Ascends test l → x ∈ l → y ∈ l → test x y ≡ false → test y x ≡ false → x ≡ y

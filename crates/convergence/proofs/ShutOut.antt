@@ -1,10 +1,10 @@
 -- Each wrong store is refuted on a small history, by a clause of demand 3 or by the definition of the answer. Assumes nothing.
+use Rattle.laws.proofs.Sorted.{keep-both, keep-length}
 use Rattle.laws.proofs.Truth.{split, clash, and-true}
 use Rattle.layout.specs.Layout.{records}
 use Rattle.tree.proofs.WellFormedLaws.{well-formed}
 use Rattle.tree.proofs.RecordLaws.{contents-length}
 use Rattle.store.proofs.CheckLaws.{or-none, unless-none}
-use Rattle.store.proofs.Counted.{keep-length}
 use mathlib.Core.Logic.{⊎-elim}
 use Prim.Native.Nat.{ℕ, _+_, _<_}
 use mathlib.Core.Path.{_≡_, refl, sym, ap, subst, _∙_}
@@ -194,12 +194,6 @@ forgotten-0 =
 forgotten-1 : forgottenIn (answer field s1 forget-all) ≡ 1
 unfolding leftBy computing isForgotten inArea areaIncludes areaSubspace timesInclude includes beforeEnd timesEnd
 forgotten-1 = forgotten-so s1 (lines-stand 2 refl (one ∷ []) refl) ∙ ap (λ (l : List Stored). length (keep (isForgotten everything false everything) l)) (shows-one .listed)
-
--- What is forgotten and what is left make up what there was.
-keep-both : {A : Type 0} (p : A → Bool) (l : List A) → length (keep p l) + length (keep (λ (x : A). not (p x)) l) ≡ length l
-unfolding keep
-keep-both p [] = refl
-keep-both p (a ∷ l) = let h = keep-both p l in split (p a) (λ q. rw q (omega arith)) (λ q. rw q (omega arith))
 
 area-well : (f : Figures) (s : Store) (area : Area) (protects : Bool) (protected : Area) → forgetAreaRefusal f s area protects protected ≡ 0 → wellFormedStore f s ≡ true
 unfolding forgetAreaRefusal storeRefusal

@@ -11,7 +11,7 @@ use lib.Dec.{eqb}
 use borrow.Author.Tests.{eqb-true, eq-eqb}
 use Rattle.laws.specs.Sorted.{_∈_, keep}
 use Rattle.laws.proofs.Truth.{split}
-use Rattle.laws.proofs.Sorted.{keep-view, insert-view}
+use Rattle.laws.proofs.Sorted.{keep-view, insert-view, keep-length}
 use Rattle.data_model.specs.Path.{Figures, components, legal}
 use Rattle.data_model.specs.Entry.{rankOf, entryOf}
 use Rattle.data_model.specs.declared.entry.Entry.{Entry as EntryValue}
@@ -30,7 +30,7 @@ use Rattle.store.specs.Ingest.{sptLess, filing, stays, filedIn, filed, Decision
 use Rattle.store.specs.Forget.{without, forgetEntryRefusal, entryForgotten, forgetAreaRefusal, areaForgotten}
 use Rattle.convergence.specs.History.{Opening, opens, Call, ingest, forget-entry, forget-area, after, EntryIsValue, IsValue}
 use Rattle.convergence.specs.Demand.{NotRefused, Keeps}
-use Rattle.store.proofs.Counted.{keep-length, insert-length}
+use Rattle.store.proofs.Counted.{insert-length}
 use Rattle.store.proofs.Meaning.{sound-nothing, sound-without, sound-filed}
 use Rattle.convergence.proofs.Judged.{Taken, judged-taken}
 use Rattle.store.proofs.Recorded.{Proper}

@@ -1,5 +1,5 @@
 -- The test of a well-formed store says what 01 says in words. Assumes nothing.
-use mathlib.Core.Path.{_≡_, refl, sym, ap, _∙_}
+use mathlib.Core.Path.{_≡_, refl, ap}
 use mathlib.Core.Logic.{_↔_}
 use mathlib.Core.List.{List, [], _∷_}
 use mathlib.Core.Bool.{true, not, _&&_}
@@ -8,15 +8,13 @@ use borrow.Author.Tests.{leb-true, le-leb}
 use Rattle.laws.specs.Sorted.{all}
 use Rattle.laws.proofs.Truth.{clash, refute, and-true, not-true}
 use Rattle.laws.proofs.Sorted.{all-view, all-make}
-use Rattle.data_model.specs.Path.{Figures, samePath}
-use Rattle.data_model.specs.Subspace.{sameSubspace}
-use Rattle.data_model.specs.Entry.{Entry}
-use Rattle.data_model.proofs.Orders.{path-equality, subspace-equality}
+use Rattle.data_model.specs.Path.{Figures}
 use Rattle.tree.specs.Stored.{Stored}
 use Rattle.tree.specs.Tree.{WellFormed, within}
 use Rattle.tree.specs.Apart.{samePlace, noPlaceTwice, nonePrunes}
 use Rattle.tree.specs.declared.stored.KeyOrder.{KeyOrder}
 use Rattle.tree.specs.declared.stored.KeyOrder.the-variants.{Spt, Tsp}
+use Rattle.tree.proofs.WalkLaws.{place-view, place-make}
 use Rattle.tree.proofs.WellFormedLaws.{well-formed}
 use Rattle.tree.proofs.AgreeLaws.{within-view, within-make}
 use Rattle.store.specs.Store.{Store, treeOf, dirOf, held, wellFormedTree, sameEntries, wellFormedStore}
@@ -24,23 +22,12 @@ use Rattle.store.proofs.Meaning.{none-prunes}
 use Rattle.store.proofs.WellStore.{prunes-view}
 use Rattle.convergence.specs.WellFormed.{NoTwice, WellFormedStore}
 
--- Places.
-place-same : (a b : Entry) → a .subspace ≡ b .subspace → a .path ≡ b .path → samePlace a b ≡ true
-unfolding samePlace
-place-same a b s p = cc (ap (sameSubspace (a .subspace)) (sym s) ∙ subspace-equality .self (a .subspace), ap (samePath (a .path)) (sym p) ∙ path-equality .self (a .path))
-
-same-place : (a b : Entry) → samePlace a b ≡ true → (a .subspace ≡ b .subspace) × (a .path ≡ b .path)
-unfolding samePlace
-same-place a b e =
-    let k = and-true (sameSubspace (a .subspace) (b .subspace)) (samePath (a .path) (b .path)) e in
-    (subspace-equality .equal (a .subspace) (b .subspace) (k .0), path-equality .equal (a .path) (b .path) (k .1))
-
 twice-view : (l : List Stored) → noPlaceTwice l ≡ true → NoTwice l
 unfolding noPlaceTwice
 twice-view [] e = tt
 twice-view (a ∷ l) e =
     let k = and-true (all (λ (b : Stored). not (samePlace (a .entry) (b .entry))) l) (noPlaceTwice l) e in (
-      λ b m s p. clash (place-same (a .entry) (b .entry) s p) (not-true _ (all-view (λ (b : Stored). not (samePlace (a .entry) (b .entry))) l (k .0) m)),
+      λ b m s p. clash (place-make (a .entry) (b .entry) s p) (not-true _ (all-view (λ (b : Stored). not (samePlace (a .entry) (b .entry))) l (k .0) m)),
       twice-view l (k .1),
     )
 
@@ -48,7 +35,7 @@ twice-make : (l : List Stored) → NoTwice l → noPlaceTwice l ≡ true
 unfolding noPlaceTwice
 twice-make [] h = refl
 twice-make (a ∷ l) h = cc (
-  all-make (λ (b : Stored). not (samePlace (a .entry) (b .entry))) l (λ b m. ap not (refute _ λ e. let k = same-place (a .entry) (b .entry) e in h .0 b m (k .0) (k .1))),
+  all-make (λ (b : Stored). not (samePlace (a .entry) (b .entry))) l (λ b m. ap not (refute _ λ e. let k = place-view (a .entry) (b .entry) e in h .0 b m (k .0) (k .1))),
   twice-make l (h .1),
 )
 

@@ -1,8 +1,11 @@
 -- Laws of membership, filtering, insertion and strict ascent, over any test. Assumes nothing.
+use Prim.Native.Nat.{_+_, _≤_, _<_}
 use mathlib.Core.Path.{_≡_, refl, sym, ap₂}
 use mathlib.Core.Logic.{_⊎_, inl, inr, ⊎-elim, _↔_}
-use mathlib.Core.Bool.{Bool, true, false, _&&_}
+use mathlib.Core.Bool.{Bool, true, false, not, _&&_}
 use mathlib.Core.List.{List, [], _∷_, List·Memᴰ·head as here, List·Memᴰ·tail as there, List·Memᴰ·not-nil as none-in, List·Memᴰ·cases-cons as uncons}
+use native.Mathlib.Omega.{arith}
+use lib.ListN.{length}
 use Rattle.laws.specs.Sorted.{_∈_, any, all, keep, insert, ascending, Ascends}
 use Rattle.laws.proofs.Truth.{split, clash, refute, and-true}
 
@@ -32,6 +35,26 @@ module _ {A : Type 0} where
   all-view p (a ∷ l) e m = let k = and-true (p a) (all p l) e in ⊎-elim (λ q. cc) (λ n. all-view p l (k .1) n) (uncons m)
 
   -- `keep`
+  pub keep-length : (p : A → Bool) (l : List A) → length (keep p l) ≤ length l
+  unfolding keep
+  keep-length p [] = omega arith
+  keep-length p (a ∷ l) = let h = keep-length p l in split (p a) (λ q. rw q (omega arith)) (λ q. rw q (omega arith))
+
+  -- Without an element that fails the test fewer are left.
+  pub keep-fewer : (p : A → Bool) {a : A} (l : List A) → a ∈ l → p a ≡ false → length (keep p l) < length l
+  unfolding keep
+  keep-fewer p [] m e = absurd (none-in m)
+  keep-fewer p {a} (b ∷ l) m e =
+      let h = keep-length p l in
+      split (p b)
+      (λ q. ⊎-elim (λ r. clash {b = p b} q (cc)) (λ n. let k = keep-fewer p l n e in rw q (omega arith)) (uncons m))
+      (λ q. rw q (omega arith))
+
+  pub keep-both : (p : A → Bool) (l : List A) → length (keep p l) + length (keep (λ (x : A). not (p x)) l) ≡ length l
+  unfolding keep
+  keep-both p [] = refl
+  keep-both p (a ∷ l) = let h = keep-both p l in split (p a) (λ q. rw q (omega arith)) (λ q. rw q (omega arith))
+
   pub keep-view : (p : A → Bool) {x : A} (l : List A) → x ∈ keep p l → x ∈ l × (p x ≡ true)
   unfolding keep
   keep-view p [] m = absurd (none-in m)

@@ -1,17 +1,18 @@
 -- The core's outcome on numbers that are 0, with what it wrote copied to the pairs, is the outcome with pairs. Assumes nothing.
-use Prim.Native.Nat.{ℕ, zero, suc, _+_, _*_, _≤_, _<_, min}
-use mathlib.Core.Path.{_≡_, refl, sym, ap, subst, _∙_}
-use mathlib.Core.List.{List, [], _∷_, _++_}
-use mathlib.Core.Bool.{Bool, true, false, cond}
+use Prim.Native.Nat.{ℕ, zero, suc, _+_, _*_, _≤_, min}
+use mathlib.Core.Path.{_≡_, refl, sym, ap, _∙_}
+use mathlib.Core.List.{List, _∷_, _++_}
+use mathlib.Core.Bool.{Bool, true}
 use native.Mathlib.Omega.{arith}
 use lib.ListN.{length, take, drop, replicate, length-replicate}
 use lib.Seq.{take-at, take-take, length-take-le}
 use lib.Dec.{leb}
 use borrow.Author.Tests.{le-leb, lt-leb, leb-true, leb-false}
+use Rattle.laws.proofs.Sorted.{keep-length}
 use Rattle.laws.specs.Lists.{put}
 use Rattle.laws.specs.Sorted.{keep}
 use Rattle.laws.proofs.Truth.{split}
-use Rattle.layout.specs.Marks.{marksOf, markedPairs}
+use Rattle.layout.specs.Marks.{marksOf}
 use Rattle.layout.proofs.MarkLaws.{length-marks, count-marks, length-marked}
 use Rattle.data_model.specs.Path.{field}
 use Rattle.data_model.specs.Entry.{entryOf}
@@ -19,17 +20,15 @@ use Rattle.data_model.specs.declared.entry.Entry.{Entry as EntryValue}
 use Rattle.tree.specs.Matching.{removes}
 use Rattle.tree.specs.declared.stored.KeyOrder.the-variants.{Spt}
 use Rattle.tree.proofs.FormedContents.{formed-many}
-use Rattle.store.specs.Store.{Store, storeOf, limitMost, dirRoom, dirOf, held}
+use Rattle.store.specs.Store.{Store, limitMost, dirRoom, dirOf, held}
 use Rattle.store.specs.Refusal.{unless, _orElse_, limitOk, storeRefusal}
 use Rattle.store.specs.Ingest.{Decision, refuse, obsolete, take-it, ingestRefusal, judged, MayFile, IngestOutcome, ingestOutcome, prunedPairs, carried, ingested}
-use Rattle.store.specs.declared.ingest.IngestVerdict.{IngestVerdict}
 use Rattle.store.specs.declared.ingest.IngestVerdict.the-variants as verdict
 use Rattle.store.specs.declared.ingest.Ingested.{Ingested}
-use Rattle.store.proofs.Counted.{keep-length}
 use Rattle.store.proofs.CheckLaws.{limit-most}
-use Rattle.store.proofs.IngestLaws.{Ready, ready}
+use Rattle.store.proofs.IngestLaws.{Ready}
 use Rattle.store.proofs.FileLaws.{may-ready, success-may}
-use Rattle.pairs.specs.Pairs.{pair, pairsOf, numbersOf, prunedCount, numbersUsed, PairsOutcome, pairsOutcome, inPairs, pairsIngested}
+use Rattle.pairs.specs.Pairs.{pairsOf, numbersOf, prunedCount, numbersUsed, pairsOutcome, inPairs, pairsIngested}
 use Rattle.pairs.specs.declared.Pair.{Pair}
 use Rattle.pairs.proofs.PairLaws.{pairs-again, length-numbers, pairs-put}
 

@@ -12,7 +12,7 @@ use Rattle.laws.specs.Order.{below, isLess, isSame}
 use Rattle.laws.specs.Sorted.{_∈_, any, keep, insert}
 use Rattle.laws.proofs.Truth.{split, refute, not-true}
 use Rattle.laws.proofs.Order.{is-same}
-use Rattle.laws.proofs.Sorted.{any-view, any-none, keep-view}
+use Rattle.laws.proofs.Sorted.{any-view, any-none, keep-view, keep-length}
 use Rattle.layout.specs.Layout.{records, joined, treeBytes, dirNumbers, inserted}
 use Rattle.layout.specs.Marks.{marksOf, kept}
 use Rattle.layout.proofs.MarkLaws.{kept-in, kept-ascends}
@@ -38,7 +38,7 @@ use Rattle.tree.proofs.WellFormedLaws.{retain-formed, retain-records, retain-di
 use Rattle.store.specs.Store.{recordMost}
 use Rattle.store.specs.Ingest.{lessIn, stays, filedIn}
 use Rattle.store.specs.Change.{inTree, Changed, FilesIn}
-use Rattle.store.proofs.Counted.{keep-length, insert-length}
+use Rattle.store.proofs.Counted.{insert-length}
 use Rattle.store.proofs.Meaning.{elsewhere, triple-beside}
 
 -- Both orders of a tree, on what is stored.

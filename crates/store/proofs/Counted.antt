@@ -7,16 +7,11 @@ use mathlib.Core.Bool.{Bool, true, false}
 use mathlib.Core.List.{List, [], _∷_, List·Memᴰ·head as here, List·Memᴰ·tail as there, List·Memᴰ·not-nil as none-in, List·Memᴰ·cases-cons as uncons}
 use native.Mathlib.Omega.{arith}
 use lib.ListN.{length}
-use Rattle.laws.specs.Sorted.{_∈_, keep, insert, Ascends}
+use Rattle.laws.specs.Sorted.{_∈_, insert, Ascends}
 use Rattle.laws.proofs.Truth.{split}
 use Rattle.laws.proofs.Sorted.{insert-view, insert-new, insert-old, insert-ascends, ascends-unique}
 
 module _ {A : Type 0} where
-  pub keep-length : (p : A → Bool) (l : List A) → length (keep p l) ≤ length l
-  unfolding keep
-  keep-length p [] = omega arith
-  keep-length p (a ∷ l) = let h = keep-length p l in split (p a) (λ q. rw q (omega arith)) (λ q. rw q (omega arith))
-
   -- A list sorted anew.
   unfoldable resort : (A → A → Bool) → List A → List A
   resort test [] = []

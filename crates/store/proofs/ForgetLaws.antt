@@ -12,8 +12,8 @@ use borrow.Author.Tests.{ne-eqb}
 use Rattle.laws.specs.Lists.{put}
 use Rattle.laws.specs.Prefix.{sameNumber, sameList}
 use Rattle.laws.specs.Sorted.{_∈_, any, all, keep}
-use Rattle.laws.proofs.Truth.{split, clash, refute, and-true, alike}
-use Rattle.laws.proofs.Sorted.{any-view, any-make, any-none, all-view}
+use Rattle.laws.proofs.Truth.{clash, refute, and-true, alike}
+use Rattle.laws.proofs.Sorted.{any-view, any-make, any-none, all-view, keep-both}
 use Rattle.layout.specs.Layout.{records, recordAt}
 use Rattle.layout.specs.Marks.{marksOf, firstMark}
 use Rattle.layout.proofs.LaidLaws.{record-in}
@@ -185,12 +185,6 @@ module _ (s : Store) (area : Area) (protects : Bool) (protected : Area) (n : ℕ
   pub area-passes : n ≡ 0 → legalAreas ≡ true → 0 ≡ forgetAreaRefusal field s area protects protected
   unfolding forgetAreaRefusal _orElse_ unless
   area-passes z l = rw (← e, z, l)
-
--- What a test holds of and the others are all.
-keep-both : {A : Type 0} (p : A → Bool) (l : List A) → length (keep p l) + length (keep (λ (x : A). not (p x)) l) ≡ length l
-unfolding keep
-keep-both p [] = refl
-keep-both p (a ∷ l) = let h = keep-both p l in split (p a) (λ q. rw q (omega arith)) (λ q. rw q (omega arith))
 
 module _ (s : Store) (area : Area) (protects : Bool) (protected : Area) (n : ℕ) (e : n ≡ forgetAreaRefusal field s area protects protected) where
   pub area-refused : (n ≡ 0 → ⊥) → forgetAreaOutcome (record { refusal = n; state = s .state; forgotten = 0 }) (s .spt) (s .sptDir) (s .tsp) (s .tspDir) ≡ areaForgotten field s area protects protected

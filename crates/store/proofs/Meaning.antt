@@ -13,17 +13,18 @@ use Rattle.laws.proofs.Order.{number-linear, pair-linear, on-linear, below-stri
 use Rattle.laws.proofs.Prefix.{prefix-refl}
 use Rattle.laws.proofs.Sorted.{keep-view, insert-view, insert-new, insert-old, keep-ascends, insert-ascends, members}
 use Rattle.laws.proofs.Sorted.{all-make}
-use Rattle.data_model.specs.Path.{Components, byComponents, sameComponent, samePath}
-use Rattle.data_model.specs.Subspace.{bySubspace, sameSubspace}
+use Rattle.data_model.specs.Path.{Components, byComponents, sameComponent}
+use Rattle.data_model.specs.Subspace.{bySubspace}
 use Rattle.data_model.specs.Entry.{Entry, byRank, newer, covers, prunes}
 use Rattle.keys.specs.Encode.{Triple}
 use Rattle.data_model.specs.declared.parameters.Subspace.{Subspace}
-use Rattle.data_model.proofs.Orders.{path-linear, subspace-linear, component-equality, path-equality, subspace-equality}
+use Rattle.data_model.proofs.Orders.{path-linear, subspace-linear, component-equality}
 use Rattle.key_laws.specs.KeyOrder.{sptOrder, tspOrder}
 use Rattle.key_laws.proofs.EntryLaws.{covers-make, prunes-make, prunes-irrefl, entries}
 use Rattle.tree.specs.Stored.{Stored, tripleOf}
 use Rattle.tree.specs.Apart.{samePlace, noPlaceTwice, nonePrunes}
 use Rattle.tree.specs.Matching.{removes}
+use Rattle.tree.proofs.WalkLaws.{place-view}
 use Rattle.store.specs.Store.{Held}
 use Rattle.store.specs.Ingest.{sptLess, tspLess, stays, filedIn, filed}
 use Rattle.store.specs.Forget.{without}
@@ -192,18 +193,12 @@ later-newer a b e k =
     let t : byNumber (a .entry .rank .timestamp) (b .entry .rank .timestamp) ≡ less = sym (then-same _ _ sub ∙ then-same _ _ pat) ∙ is-less _ e in
     rw (less-is-greater byNumber number-linear (a .entry .rank .timestamp) (b .entry .rank .timestamp) t)
 
-place-view : (a b : Stored) → samePlace (a .entry) (b .entry) ≡ true → (a .entry .subspace ≡ b .entry .subspace) × (a .entry .path ≡ b .entry .path)
-unfolding samePlace
-place-view a b e =
-    let k = and-true (sameSubspace (a .entry .subspace) (b .entry .subspace)) (samePath (a .entry .path) (b .entry .path)) e in
-    (subspace-equality .equal _ _ (k .0), path-equality .equal _ _ (k .1))
-
 pub never-beside : (a b : Stored) → sptLess a b ≡ true → prunes (b .entry) (a .entry) ≡ false → Beside a b → ⊥
 never-beside a b l h w = clash (prunes-make (b .entry) (a .entry) (beside-covers b a (beside-flip w)) (later-newer a b l w)) h
 
 places-apart : (a b : Stored) → sptLess a b ≡ true → a .entry .namespace ≡ b .entry .namespace → prunes (b .entry) (a .entry) ≡ false → samePlace (a .entry) (b .entry) ≡ false
 places-apart a b l n h = refute (samePlace (a .entry) (b .entry)) λ e.
-    let k = place-view a b e in
+    let k = place-view (a .entry) (b .entry) e in
     never-beside a b l h (record { namespace = n; subspace = k .0; path = k .1 })
 
 pub places-once : {namespace : List ℕ} (l : List Stored) → Ascends sptLess l → ((x y : Stored) → x ∈ l → y ∈ l → prunes (x .entry) (y .entry) ≡ false)

@@ -2,8 +2,8 @@
 -- that is no shorter is the whole. Assumes nothing.
 use Prim.Native.Nat.{ℕ, _≤_, _<_}
 use mathlib.Core.Path.{_≡_, refl, sym, ap, ap₂, _∙_}
-use mathlib.Core.Logic.{⊎-elim, _↔_}
-use mathlib.Core.List.{List, [], _∷_, List·Memᴰ·head as here, List·Memᴰ·tail as there, List·Memᴰ·not-nil as none-in, List·Memᴰ·cases-cons as uncons}
+use mathlib.Core.Logic.{_↔_}
+use mathlib.Core.List.{List, [], _∷_, List·Memᴰ·head as here, List·Memᴰ·tail as there}
 use mathlib.Core.Bool.{Bool, true, false, not}
 use native.Mathlib.Omega.{arith}
 use lib.ListN.{length}
@@ -12,7 +12,7 @@ use Rattle.laws.specs.Prefix.{Equality}
 use Rattle.laws.specs.Sorted.{_∈_, any, keep, Ascends}
 use Rattle.laws.proofs.Truth.{split, clash, refute}
 use Rattle.laws.proofs.Order.{below-strict}
-use Rattle.laws.proofs.Sorted.{any-view, any-make, all-view, keep-make}
+use Rattle.laws.proofs.Sorted.{any-view, any-make, all-view, keep-make, keep-fewer}
 use Rattle.layout.specs.Layout.{records}
 use Rattle.laws.proofs.Sorted.{all-make}
 use Rattle.data_model.specs.Path.{Figures, field, byBytes}
@@ -31,21 +31,6 @@ Distinct [] = Unit {0}
 Distinct (a ∷ l) = ((x : _) → x ∈ l → a ≡ x → ⊥) × Distinct l
 
 module _ {A : Type 0} where
-  keep-length : (p : A → Bool) (l : List A) → length (keep p l) ≤ length l
-  unfolding keep
-  keep-length p [] = omega arith
-  keep-length p (a ∷ l) = let h = keep-length p l in split (p a) (λ q. rw q (omega arith)) (λ q. rw q (omega arith))
-
-  -- Without an element that fails the test fewer are left.
-  keep-fewer : (p : A → Bool) {a : A} (l : List A) → a ∈ l → p a ≡ false → length (keep p l) < length l
-  unfolding keep
-  keep-fewer p [] m e = absurd (none-in m)
-  keep-fewer p {a} (b ∷ l) m e =
-      let h = keep-length p l in
-      split (p b)
-      (λ q. ⊎-elim (λ r. clash {b = p b} q (cc)) (λ n. let k = keep-fewer p l n e in rw q (omega arith)) (uncons m))
-      (λ q. rw q (omega arith))
-
   -- A list that is part of another and no shorter has all of it.
   module _ (eq : A → A → Bool) (E : Equality A eq) where
     pub part-whole : (s t : List A) → Distinct s → ((x : A) → x ∈ s → x ∈ t) → length t ≤ length s → (x : A) → x ∈ t → x ∈ s

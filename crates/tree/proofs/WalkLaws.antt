@@ -63,13 +63,13 @@ covers-between a b c n e f g =
     covers-make a b (record { namespace = n; subspace = x .subspace; path = x .path })
 
 -- Entries of one place.
-place-view : (a b : Entry) → samePlace a b ≡ true → (a .subspace ≡ b .subspace) × (a .path ≡ b .path)
+pub place-view : (a b : Entry) → samePlace a b ≡ true → (a .subspace ≡ b .subspace) × (a .path ≡ b .path)
 unfolding samePlace
 place-view a b e =
     let k = and-true (sameSubspace (a .subspace) (b .subspace)) (samePath (a .path) (b .path)) e in
     (subspace-equality .equal (a .subspace) (b .subspace) (k .0), path-equality .equal (a .path) (b .path) (k .1))
 
-place-make : (a b : Entry) → a .subspace ≡ b .subspace → a .path ≡ b .path → samePlace a b ≡ true
+pub place-make : (a b : Entry) → a .subspace ≡ b .subspace → a .path ≡ b .path → samePlace a b ≡ true
 unfolding samePlace
 place-make a b s p = cc (subspace-equality .self (a .subspace), path-equality .self (a .path))
 
