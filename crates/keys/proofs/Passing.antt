@@ -13,13 +13,14 @@ use lib.Seq.{drop-drop}
 use Rattle.laws.proofs.Truth.{split, clash, and-true, not-true}
 use Rattle.data_model.specs.Path.{Components}
 use Rattle.keys.specs.Encode.{escaped, Triple}
-use Rattle.keys.specs.Decode.{Taken, refused, took, more, bind, tokenOf, endsPath, readComponent, readComponents, partOf, whole, wasRead, NoZero}
+use Rattle.keys.specs.Decode.{Taken, refused, took, more, bind, tokenOf, endsPath, readComponent, readComponents, partOf, whole, wasRead, NoZero, Takes}
 use Rattle.keys.specs.declared.decode.Token.{Token}
 use Rattle.keys.specs.declared.decode.Token.the-variants as token
 use Rattle.keys.specs.declared.decode.Part.{Part}
 use Rattle.keys.specs.declared.decode.Part.the-variants as part
 use Rattle.keys.proofs.Encoding.{escaped-other}
 use Rattle.keys.proofs.Reading.{stepComponent, component-step, token-byte, token-within, component-fits, more-id, more-more, more-same}
+use Rattle.keys.proofs.Decoding.{whole-took}
 use Rattle.keys.proofs.Walking.{path-ends, path-stops, path-goes, path-fails}
 
 -- What a walk answers, by what reading gives.
@@ -216,3 +217,7 @@ module _ (before after len : ℕ) (f : Components → ℕ → Triple) where
   unfolding wasRead whole bind
   judged-short refused h = refl
   judged-short (took cs u) h = rw (ne-eqb (before + u + after) len (λ e. omega arith))
+
+  pub judged-whole : (t : Taken Components) (u : ℕ) → Takes t u → before + u + after ≡ len → true ≡ wasRead (whole before after len f t)
+  unfolding wasRead
+  judged-whole t u h e = sym (ap wasRead (whole-took before after len f t (h .0) u (h .1) e))

@@ -10,10 +10,107 @@ use data_model::path::MCL;
 use data_model::path::MPL;
 ghost use mathlib.Core.Path.{_≡_};
 ghost use mathlib.Core.Bool.{true};
-ghost use Prim.Native.Nat.{_+_, _≤_};
+ghost use Prim.Native.Nat.{_+_, _-_, _<_, _≤_};
 ghost use lib.ListN.{length};
 ghost use Rattle.data_model.specs.Path.{field};
-ghost use Rattle.keys.specs.Decode.{readComponent, readComponents, partOf, readSpt, readTsp, wasRead, NoZero};
+ghost use Rattle.keys.specs.Decode.{bit, sound, others, endings, kept, closed, Takes, readComponent, readComponents, readPath, partOf, readSpt, readTsp, wasRead, NoZero};
+
+// Of a stretch of bytes: whether each 00 stands before a 01 or a 02, how many bytes are not 00, and how many 00 stand before a 01.
+struct Tally {
+    sound: bool,
+    others: usize,
+    ends: usize,
+}
+
+fn one(b: bool) -> u8
+    ensures { λ r. ⌜ (r ≡ bit b) × (r ≤ 1) ⌝ }
+{
+    if b { 1 } else { 0 }
+}
+
+// Each byte is looked at with the next one only, whatever tokens they are parts of, so that many can be looked at together.
+fn tally_of(k: &[u8], at: usize, w: usize) -> Tally
+    requires { ⌜ (at + w < length (now k)) × (w ≤ 32) ⌝ }
+    ensures { λ r. ⌜ r ≡ record { sound = sound w at (now (k .entry)); others = others w at (now (k .entry)); ends = endings w at (now (k .entry)) } ⌝ }
+{
+    let mut j = 0;
+    let mut ok = true;
+    let mut n: u8 = 0;
+    let mut e: u8 = 0;
+    while j < w {
+        let a = k[at + j];
+        let b = k[at + j + 1];
+        ok = ok & ((a != 0) | ((b == 1) | (b == 2)));
+        n += one(a != 0);
+        e += one((a == 0) & (b == 1));
+        j += 1;
+    }
+    Tally {
+        sound: ok,
+        others: n as usize,
+        ends: e as usize,
+    }
+}
+
+// What counts on of a component after a stretch: nothing if some component ended in it.
+fn count_on(len: usize, ends: usize) -> usize
+    ensures { λ r. ⌜ r ≡ kept len ends ⌝ }
+{
+    if ends == 0 { len } else { 0 }
+}
+
+// Whether a component and the path end here.
+fn closes(k: &[u8], at: usize) -> bool
+    requires { ⌜ at + 4 ≤ length (now k) ⌝ }
+    ensures { λ r. ⌜ r ≡ closed at (now (k .entry)) ⌝ }
+{
+    (k[at] == 0) & (k[at + 1] == 1) & (k[at + 2] == 0) & (k[at + 3] == 0)
+}
+
+// Whether all bytes but the last `after` are a path, in stretches of 32 and with no look at single tokens. Where each 00 stands before a 01 or a 02
+// it begins a token, so the bytes that are not 00, less a 01 for each end, are those of the components. A component counts with the
+// whole of the stretches in which it begins and ends: paths with components of more than 32 bytes may be missed.
+fn shows_path(k: &[u8], after: usize) -> bool
+    requires { ⌜ after ≤ 8 ⌝ }
+    ensures { λ r. ⌜ (r ≡ true → Takes (readPath field (now (k .entry))) (length (now (k .entry)) - after)) ⌝ }
+{
+    if k.len() < after + 4 {
+        return false;
+    }
+    let stop = k.len() - after - 4;
+    let mut at: usize = 0;
+    let mut len: usize = 0;
+    let mut n: usize = 0;
+    let mut e: usize = 0;
+    while 32 <= stop - at {
+        let t = tally_of(k, at, 32);
+        if !t.sound {
+            return false;
+        }
+        if MCL < len + t.others {
+            return false;
+        }
+        len = count_on(len, t.ends) + t.others;
+        n += t.others;
+        e += t.ends;
+        at += 32;
+    }
+    let t = tally_of(k, at, stop - at);
+    if !t.sound {
+        return false;
+    }
+    if MCL < len + t.others {
+        return false;
+    }
+    e += t.ends;
+    if MCC <= e {
+        return false;
+    }
+    if MPL + e < n + t.others {
+        return false;
+    }
+    closes(k, stop)
+}
 
 // Whether none of the 8 bytes from i on is 00.
 fn no_zero_8(k: &[u8], i: usize) -> bool
@@ -112,6 +209,9 @@ pub fn is_spt_key(key: &[u8]) -> bool
     if key.len() < 24 {
         return false;
     }
+    if shows_path(&key[16..], 8) {
+        return true;
+    }
     let c = pass_components(&key[16..], MCL, MPL, MCC);
     match c {
         Part::Took(_, used) => 16 + used + 8 == key.len(),
@@ -124,6 +224,9 @@ pub fn is_tsp_key(key: &[u8]) -> bool
 {
     if key.len() < 24 {
         return false;
+    }
+    if shows_path(&key[24..], 0) {
+        return true;
     }
     let c = pass_components(&key[24..], MCL, MPL, MCC);
     match c {
