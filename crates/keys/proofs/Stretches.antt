@@ -6,12 +6,11 @@ use mathlib.Core.Bool.{Bool, true, false, not, cond, _&&_, _||_}
 use native.Mathlib.Omega.{arith}
 use lib.Dec.{eqb}
 use borrow.Author.Tests.{eq-eqb, ne-eqb, eqb-true, eqb-false}
-use lib.ListN.{length, getD, drop, length-drop}
+use lib.ListN.{length, getD, drop}
 use lib.Seq.{drop-drop}
-use Rattle.laws.proofs.Truth.{split, clash, and-true}
-use Rattle.data_model.specs.Path.{Components}
+use Rattle.laws.proofs.Truth.{split, and-true}
 use Rattle.keys.specs.Encode.{escaped}
-use Rattle.keys.specs.Decode.{took, mark, tokenOf, endsPath, readComponents, bit, sound, others, endings, kept, closed, Takes}
+use Rattle.keys.specs.Decode.{took, mark, tokenOf, endsPath, readComponents, bit, sound, others, endings, kept, ended, closed, Takes}
 use Rattle.keys.specs.declared.judge.Tally.{Tally}
 use Rattle.keys.specs.declared.decode.Token.{Token}
 use Rattle.keys.specs.declared.decode.Token.the-variants as token
@@ -149,8 +148,8 @@ module _ (mcl room most : ℕ) (k : List ℕ) where
       }
 
   -- A component that ends.
-  ended : (at m n e : ℕ) (p : Between at m n e) → tokenOf (drop at k) ≡ token.ComponentEnd → e < most → PassingAll mcl room most k (p .start + (p .used + 2)) (p .total + m) (e + 1)
-  ended at m n e p t g =
+  behind-end : (at m n e : ℕ) (p : Between at m n e) → tokenOf (drop at k) ≡ token.ComponentEnd → e < most → PassingAll mcl room most k (p .start + (p .used + 2)) (p .total + m) (e + 1)
+  behind-end at m n e p t g =
       let r = passing-ends (min mcl (room - p .total)) (drop (p .start) k) (p .used) m (p .one) (at-token at m n e p token.ComponentEnd t) in
       let q = sym (component-step (min mcl (room - p .total)) (drop (p .start) k)) ∙ r in
       all-more mcl room most k (p .start) (p .total) e (p .all) (p .one .c) m (p .used + 2) g (goes-on _ _ (tokenOf (drop (p .start) k)) _ _ q) r (p .one .long)
@@ -162,7 +161,7 @@ module _ (mcl room most : ℕ) (k : List ℕ) where
         start = p .start + (p .used + 2);
         total = p .total + m;
         used = 0;
-        all = ended at m n e p t (omega arith);
+        all = behind-end at m n e p t (omega arith);
         one = passing-start (min mcl (room - (p .total + m))) (drop (p .start + (p .used + 2)) k);
         place = omega (arith, p .place);
         sum = omega (arith, p .sum);
@@ -173,7 +172,7 @@ module _ (mcl room most : ℕ) (k : List ℕ) where
       → Walk at m n e → Takes (readComponents mcl room most k) (at + 4)
   walk-closes at m n e t z f g h =
       let p = h f (omega arith) in
-      let a = ended at m n e p t g in
+      let a = behind-end at m n e p t g in
       let i : p .start + (p .used + 2) ≡ at + 2 = omega (arith, p .place) in
       let u : p .start + (p .used + 2) + 2 ≡ at + 4 = omega (arith, p .place) in
       (a .cs, all-ends mcl room most k (p .start + (p .used + 2)) (p .total + m) (e + 1) a (ap (λ (j : ℕ). endsPath (tokenOf (drop j k))) i ∙ z) ∙ ap (took (a .cs)) u)
@@ -297,6 +296,17 @@ module _ (mcl room most : ℕ) (k : List ℕ) where
             (λ z. omega (arith, r .lower (eqb-false (endings w (at + 1) k) 0 z)));
       }
 
+  -- A component that ends at any byte ends between two tokens.
+  pub walked-ends : (at m n e : ℕ) → at + 1 < length k → ended at k ≡ true → Walked at m n e → Walked (at + 2) 0 (n + 1) (e + 1)
+  walked-ends at m n e l x h =
+      let y = and-true (eqb (getD k at 0) 0) (eqb (getD k (at + 1) 0) 1) x in
+      ends at m n e l (eqb-true _ _ (y .0)) (eqb-true _ _ (y .1)) h
+    where
+      ends : (at m n e : ℕ) → at + 1 < length k → getD k at 0 ≡ 0 → getD k (at + 1) 0 ≡ 1 → Walked at m n e → Walked (at + 2) 0 (n + 1) (e + 1)
+      ends at m n e l a b (whole w) = whole (walk-end at m n e (token-end at l a b) w)
+      ends at m n e l a b (zero-cut i o w zi v) = absurd (omega arith)
+      ends at m n e l a b (end-cut i j x o r s w zi v) = absurd (omega arith)
+
   pub walked-closes : (at m n e : ℕ) → at + 4 ≤ length k → closed at k ≡ true → n ≤ room + e → e < most → Walked at m n e → Takes (readComponents mcl room most k) (at + 4)
   walked-closes at m n e l x f g h =
       let c0 = eqb (getD k at 0) 0 in
@@ -372,6 +382,27 @@ module _ (mcl room most : ℕ) (k : List ℕ) (stop : ℕ) where
             (λ z. omega (arith, r .low, h .long, y ∙ ap (λ (b : Bool). cond b len 0) z))
             (λ z. omega (arith, r .lower (eqb-false (t .ends) 0 z)));
       }
+
+  pub showing-ends : (at len n e w : ℕ) (t : Tally) → Showing mcl room most k stop at len n e → Tallied w at k t → t .sound ≡ true → len + t .others ≤ mcl
+      → at + w + 2 ≤ stop → stop < length k → ended (at + w) k ≡ true → Showing mcl room most k stop (at + (w + 2)) 0 (n + (t .others + 1)) (e + (t .ends + 1))
+  showing-ends at len n e w t h q s f g l z =
+      let r = more-stood at len n e w t h q s f (omega arith) in
+      let d = tally-few w at k t q in
+      record {
+        upto = omega arith;
+        few-len = omega arith;
+        few-others = omega (arith, h .few-others, d .0);
+        few-ends = omega (arith, h .few-ends, d .1);
+        m = 0;
+        walked = moved mcl room most k (at + w + 2) 0 (n + t .others + 1) (e + t .ends + 1) _ _ _ (omega arith) (omega arith) (omega arith) (walked-ends mcl room most k (at + w) (r .now) (n + t .others) (e + t .ends) (omega arith) z (r .walked));
+        long = omega arith;
+      }
+
+  pub showing-done : (at len n e : ℕ) → Showing mcl room most k stop at len n e → stop ≤ at → stop + 4 ≤ length k → e < most → n ≤ room + e → closed stop k ≡ true
+      → Takes (readComponents mcl room most k) (stop + 4)
+  showing-done at len n e h g l c b z =
+      let i : at ≡ stop = omega (arith, h .upto) in
+      walked-closes mcl room most k stop (h .m) n e l z b c (subst (λ (i : ℕ). Walked mcl room most k i (h .m) n e) i (h .walked))
 
   pub showing-closes : (at len n e : ℕ) (t : Tally) → Showing mcl room most k stop at len n e → Tallied (stop - at) at k t → t .sound ≡ true → len + t .others ≤ mcl
       → stop + 4 ≤ length k → e + t .ends < most → n + t .others ≤ room + (e + t .ends) → closed stop k ≡ true → Takes (readComponents mcl room most k) (stop + 4)

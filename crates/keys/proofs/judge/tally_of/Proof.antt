@@ -1,5 +1,5 @@
 -- `tally_of` meets its contract. Assumes nothing.
-use Prim.Native.Nat.{_-_, _+_}
+use Prim.Native.Nat.{_-_}
 use native.Mathlib.Omega.{arith}
 use Rattle.keys.proofs.Stretches.{Counting, counting-start, counting-turn, counted}
 use borrow.Author.Needs.{needs}
