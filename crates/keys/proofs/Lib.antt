@@ -3,3 +3,4 @@ pub mod Reading
 pub mod Walking
 pub mod Decoding
 pub mod Passing
+pub mod Stretches

@@ -1,25 +1,22 @@
 -- Laws of the loops that judge a path's bytes: what was passed so far, in front of what reading on gives. Assumes nothing.
-use Prim.Native.Nat.{ℕ, zero, suc, _+_, _-_, _≤_, _<_, min}
-use mathlib.Core.Path.{_≡_, refl, sym, ap, subst, _∙_}
+use Prim.Native.Nat.{ℕ, suc, _+_, _-_, _≤_, _<_, min}
+use mathlib.Core.Path.{_≡_, refl, sym, ap, _∙_}
 use mathlib.Core.List.{List, [], _∷_, _++_, append-assoc, append-nil}
-use mathlib.Core.Bool.{Bool, true, false, not, cond, _&&_}
+use mathlib.Core.Bool.{Bool, true, false, cond}
 use native.Mathlib.Omega.{arith}
 use native.Mathlib.Nat.{sub-zero}
-use native.Mathlib.Numerals.{add-one}
-use lib.Dec.{eqb, leb}
-use borrow.Author.Tests.{eq-eqb, ne-eqb, leb-true, leb-false}
-use lib.ListN.{length, getD, drop, length-append, length-drop, drop-of-length-le}
+use lib.Dec.{eqb}
+use borrow.Author.Tests.{ne-eqb}
+use lib.ListN.{length, drop, length-append, length-drop, drop-of-length-le}
 use lib.Seq.{drop-drop}
-use Rattle.laws.proofs.Truth.{split, clash, and-true, not-true}
 use Rattle.data_model.specs.Path.{Components}
 use Rattle.keys.specs.Encode.{escaped, Triple}
-use Rattle.keys.specs.Decode.{Taken, refused, took, more, bind, tokenOf, endsPath, readComponent, readComponents, partOf, whole, wasRead, NoZero}
+use Rattle.keys.specs.Decode.{Taken, refused, took, more, bind, tokenOf, endsPath, readComponent, readComponents, partOf, whole, wasRead, Takes}
 use Rattle.keys.specs.declared.decode.Token.{Token}
 use Rattle.keys.specs.declared.decode.Token.the-variants as token
-use Rattle.keys.specs.declared.decode.Part.{Part}
 use Rattle.keys.specs.declared.decode.Part.the-variants as part
-use Rattle.keys.proofs.Encoding.{escaped-other}
-use Rattle.keys.proofs.Reading.{stepComponent, component-step, token-byte, token-within, component-fits, more-id, more-more, more-same}
+use Rattle.keys.proofs.Reading.{stepComponent, component-step, token-within, component-fits, more-id, more-more, more-same}
+use Rattle.keys.proofs.Decoding.{whole-took}
 use Rattle.keys.proofs.Walking.{path-ends, path-stops, path-goes, path-fails}
 
 -- What a walk answers, by what reading gives.
@@ -102,27 +99,6 @@ module _ (lim : ℕ) (k : List ℕ) (at n : ℕ) (h : Passing lim k at n) where
     where
       left : lim - n ≡ suc (lim - (n + 1))
       left = omega arith
-
--- Bytes that are not 00 are passed at once.
-pub passing-run : (lim : ℕ) (k : List ℕ) (m : ℕ) → m ≤ lim → m ≤ length k → NoZero 0 m k → Passing lim k m m
-passing-run lim k zero h g z = passing-start lim k
-passing-run lim k (suc m) h g z =
-    let p = passing-run lim k m (omega arith) (omega arith) (λ i l j. z i l (omega arith)) in
-    let x : getD k m 0 ≡ 0 → ⊥ = z m (omega arith) (omega arith) in
-    let w : 1 ≡ length (escaped (getD k m 0)) = sym (ap length (escaped-other (getD k m 0) x)) in
-    subst (λ (n : ℕ). Passing lim k n n) (add-one m) (passing-more lim k m m p (getD k m 0) 1 (token-byte k m (omega arith) x) w (omega arith))
-
-pub run-turn : (k : List ℕ) (i j : ℕ) (ok : Bool) → (ok ≡ true → NoZero i (i + j) k) → (ok && not (eqb (getD k (i + j) 0) 0)) ≡ true → NoZero i (i + (j + 1)) k
-run-turn k i j ok v t x l m e =
-    let p = and-true ok (not (eqb (getD k (i + j) 0) 0)) t in
-    split (leb (i + j) x)
-    (λ q.
-    let s : x ≡ i + j = omega (arith, leb-true (i + j) x q) in
-    clash (eq-eqb (getD k (i + j) 0) 0 (ap (λ (n : ℕ). getD k n 0) (sym s) ∙ e)) (not-true (eqb (getD k (i + j) 0) 0) (p .1)))
-    (λ q. v (p .0) x l (leb-false (i + j) x q) e)
-
-pub run-join : (k : List ℕ) (i n : ℕ) → NoZero 0 i k → NoZero i (i + n) k → NoZero 0 (i + n) k
-run-join k i n a b x l m e = split (leb i x) (λ q. b x (leb-true i x q) m e) (λ q. a x l (leb-false i x q) e)
 
 -- All components.
 pub record PassingAll (mcl room most : ℕ) (k : List ℕ) (at total n : ℕ) : Type 0 where
@@ -216,3 +192,7 @@ module _ (before after len : ℕ) (f : Components → ℕ → Triple) where
   unfolding wasRead whole bind
   judged-short refused h = refl
   judged-short (took cs u) h = rw (ne-eqb (before + u + after) len (λ e. omega arith))
+
+  pub judged-whole : (t : Taken Components) (u : ℕ) → Takes t u → before + u + after ≡ len → true ≡ wasRead (whole before after len f t)
+  unfolding wasRead
+  judged-whole t u h e = sym (ap wasRead (whole-took before after len f t (h .0) u (h .1) e))

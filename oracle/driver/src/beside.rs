@@ -168,14 +168,17 @@ impl Rust {
     }
 }
 
-/// How an entry's path looks: two components of 6 and 2 bytes; eight of 16; the same of bytes 00, each of which takes two in a key; the first
-/// kind with another time for each entry.
+/// How an entry's path looks: two components of 6 and 2 bytes; the same with another time for each entry; eight of 16; the same of bytes 00, each
+/// of which takes two in a key; the same with every other byte 00; eight of 7, of bytes 00; two of 64, of bytes 00.
 #[derive(Clone, Copy, PartialEq)]
 enum Shape {
     Short,
+    Times,
     Long,
     Zeros,
-    Times,
+    Mixed,
+    Small,
+    Large,
 }
 fn sub(i: u32, subs: u32) -> Sub {
     let mut s = Sub([0; 16]);
@@ -186,10 +189,16 @@ fn path(i: u32, shape: Shape) -> P {
     let last = i.to_be_bytes();
     match shape {
         Shape::Short | Shape::Times => Path::from_slices(&[&b"season"[..], &last[2..]]).unwrap(),
-        Shape::Long | Shape::Zeros => {
-            let mut c = [[if shape == Shape::Long { b'a' } else { 0 }; 16]; 8];
-            c[7][12..].copy_from_slice(&last);
-            Path::from_slices(&[&c[0][..], &c[1][..], &c[2][..], &c[3][..], &c[4][..], &c[5][..], &c[6][..], &c[7][..]]).unwrap()
+        _ => {
+            let (count, len) = match shape {
+                Shape::Small => (8, 7),
+                Shape::Large => (2, 64),
+                _ => (8, 16),
+            };
+            let zero = |j| shape != Shape::Long && (shape != Shape::Mixed || j % 2 == 1);
+            let mut c = vec![(0..len).map(|j| if zero(j) { 0 } else { b'a' }).collect::<Vec<u8>>(); count];
+            c[count - 1][len - 4..].copy_from_slice(&last);
+            Path::from_slices(&c.iter().map(|c| &c[..]).collect::<Vec<_>>()).unwrap()
         }
     }
 }
@@ -443,7 +452,7 @@ fn main() {
     }
     println!("## Validation of a full store beside one memcmp pass over its buffers\n");
     println!("| entries | bytes a record | bytes of records | bytes in all | validation | memcmp | factor |\n|---|---|---|---|---|---|---|");
-    for shape in [Shape::Short, Shape::Times, Shape::Long, Shape::Zeros] {
+    for shape in [Shape::Short, Shape::Times, Shape::Long, Shape::Zeros, Shape::Mixed, Shape::Small, Shape::Large] {
         for n in [64, 256, 1024] {
             validation(n, shape, secs);
         }
