@@ -169,7 +169,7 @@ impl Rust {
 }
 
 /// How an entry's path looks: two components of 6 and 2 bytes; the same with another time for each entry; eight of 16; the same of bytes 00, each
-/// of which takes two in a key; the same with every other byte 00; eight of 7, of bytes 00; two of 64, of bytes 00.
+/// of which takes two in a key; the same with every other byte 00; eight of 7, of bytes 00; two of 64 and two of 60, of bytes 00.
 #[derive(Clone, Copy, PartialEq)]
 enum Shape {
     Short,
@@ -179,6 +179,7 @@ enum Shape {
     Mixed,
     Small,
     Large,
+    Odd,
 }
 fn sub(i: u32, subs: u32) -> Sub {
     let mut s = Sub([0; 16]);
@@ -193,6 +194,7 @@ fn path(i: u32, shape: Shape) -> P {
             let (count, len) = match shape {
                 Shape::Small => (8, 7),
                 Shape::Large => (2, 64),
+                Shape::Odd => (2, 60),
                 _ => (8, 16),
             };
             let zero = |j| shape != Shape::Long && (shape != Shape::Mixed || j % 2 == 1);
@@ -452,7 +454,7 @@ fn main() {
     }
     println!("## Validation of a full store beside one memcmp pass over its buffers\n");
     println!("| entries | bytes a record | bytes of records | bytes in all | validation | memcmp | factor |\n|---|---|---|---|---|---|---|");
-    for shape in [Shape::Short, Shape::Times, Shape::Long, Shape::Zeros, Shape::Mixed, Shape::Small, Shape::Large] {
+    for shape in [Shape::Short, Shape::Times, Shape::Long, Shape::Zeros, Shape::Mixed, Shape::Small, Shape::Large, Shape::Odd] {
         for n in [64, 256, 1024] {
             validation(n, shape, secs);
         }
