@@ -31,13 +31,13 @@ use Rattle.convergence.specs.Examination.{Willing, AllWilling, handed}
 use Rattle.convergence.proofs.Meant.{holds, verdicts, receipts, Meant, meant-opened}
 
 -- Lines within bounds.
-all-bytes : (k : List ℕ) → all isByte k ≡ true → Bytes k
+pub all-bytes : (k : List ℕ) → all isByte k ≡ true → Bytes k
 unfolding all
 all-bytes [] h i = omega arith
 all-bytes (b ∷ k) h zero = ltb-true b 256 (and-true (isByte b) (all isByte k) h .0)
 all-bytes (b ∷ k) h (suc i) = all-bytes k (and-true (isByte b) (all isByte k) h .1) i
 
-same-bytes : (n b : ℕ) → b < 256 → Bytes (replicate n b)
+pub same-bytes : (n b : ℕ) → b < 256 → Bytes (replicate n b)
 same-bytes zero b h i = omega arith
 same-bytes (suc n) b h zero = h
 same-bytes (suc n) b h (suc i) = same-bytes n b h i

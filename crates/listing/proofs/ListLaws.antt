@@ -7,7 +7,7 @@ use native.Mathlib.Omega.{arith}
 use lib.ListN.{length, drop, length-append}
 use lib.Seq.{drop-at, drop-drop}
 use lib.Dec.{eqb, ltb}
-use borrow.Author.Tests.{eq-eqb, ne-eqb, eqb-true, le-ltb}
+use borrow.Author.Tests.{eqb-true, le-ltb}
 use borrow.Rule.Slice.PartMut.{putMid, midOf}
 use Rattle.laws.specs.Lists.{put}
 use Rattle.laws.specs.Order.{byNumber, isLess}
@@ -40,7 +40,7 @@ use Rattle.query.proofs.NextLaws.{unflagged-area}
 use Rattle.query.proofs.Walked.{area-lists, area-counts}
 use Rattle.listing.specs.Input.{newline}
 use Rattle.listing.specs.Say.{numbered, entryText, recordText}
-use Rattle.listing.specs.List.{listWord, entryLines, listText, storeListed, entryLineMost, everyEntry}
+use Rattle.listing.specs.List.{listWord, entryLines, listText, entryLineMost, everyEntry}
 
 -- A record's line, and those of several.
 abbrev pub lineOf : List ℕ → List ℕ
@@ -90,45 +90,32 @@ module _ (s : Store) where
   unfolding readRefusal
   refusal-is = rw every-legal (or-nothing (storeRefusal field s true))
 
-  counted-refusal : areaCounted field s everyEntry .refusal ≡ storeRefusal field s true
-  unfolding counted
-  counted-refusal = split (eqb (areaRefusal field s everyEntry) 0)
-      (λ q. rw q (sym (eqb-true (areaRefusal field s everyEntry) 0 q) ∙ refusal-is))
-      (λ q. rw q refusal-is)
+  -- A store that is not refused.
+  module _ (z : storeRefusal field s true ≡ 0) where
+    passes : areaRefusal field s everyEntry ≡ 0
+    passes = refusal-is ∙ z
 
-  module _ (w : Counted) (e : w ≡ areaCounted field s everyEntry) where
-    refused-by : w .refusal ≡ storeRefusal field s true
-    refused-by = ap (λ (x : Counted). x .refusal) e ∙ counted-refusal
+    abbrev recs : List (List ℕ)
+    recs = matching field s (listedInArea everyEntry noFlags)
 
-    -- A store that is refused has no list.
-    pub list-none : (w .refusal ≡ 0 → ⊥) → [] ≡ storeListed field s
-    unfolding storeListed
-    list-none h = rw (ne-eqb (storeRefusal field s true) 0 (λ z. h (refused-by ∙ z)))
+    all-held : contents Spt field (s .state .«namespace_id») recs ≡ held field Spt s
+    all-held = area-lists s everyEntry noFlags passes .entries ∙ keep-every (listedInArea everyEntry noFlags) every-one (held field Spt s)
 
-    module _ (z : w .refusal ≡ 0) where
-      passes : areaRefusal field s everyEntry ≡ 0
-      passes = refusal-is ∙ sym refused-by ∙ z
+    walk-all : Walks (areaListed field s everyEntry noFlags) (areaPart field s everyEntry noFlags) 0 recs
+    walk-all = area-lists s everyEntry noFlags passes .walks
 
-      abbrev recs : List (List ℕ)
-      recs = matching field s (listedInArea everyEntry noFlags)
-
-      all-held : contents Spt field (s .state .«namespace_id») recs ≡ held field Spt s
-      all-held = area-lists s everyEntry noFlags passes .entries ∙ keep-every (listedInArea everyEntry noFlags) every-one (held field Spt s)
-
-      pub count-is : length recs ≡ w .count
+    module _ (w : Counted) (e : w ≡ areaCounted field s everyEntry) where
+      count-is : length recs ≡ w .count
       count-is = sym (ap (λ (x : Counted). x .count) e ∙ area-counts s everyEntry passes)
 
-      pub list-is : numbered listWord (w .count) ++ recordLines recs ≡ storeListed field s
-      unfolding storeListed listText
-      list-is =
-          let g : storeRefusal field s true ≡ 0 = sym refused-by ∙ z in
-          let h : w .count ≡ length (held field Spt s) = sym count-is ∙ sym (contents-length Spt field (s .state .«namespace_id») recs) ∙ ap length all-held in
-          rw (eq-eqb (storeRefusal field s true) 0 g)
-          (ap (λ (n : ℕ). numbered listWord n ++ recordLines recs) h
-          ∙ ap (λ (x : List ℕ). numbered listWord (length (held field Spt s)) ++ x) (record-lines (s .state .«namespace_id») recs ∙ ap entryLines all-held))
+      count-held : w .count ≡ length (held field Spt s)
+      count-held = sym count-is ∙ sym (contents-length Spt field (s .state .«namespace_id») recs) ∙ ap length all-held
 
-      pub walk-all : Walks (areaListed field s everyEntry noFlags) (areaPart field s everyEntry noFlags) 0 recs
-      walk-all = area-lists s everyEntry noFlags passes .walks
+      list-is : numbered listWord (w .count) ++ recordLines recs ≡ listText (held field Spt s)
+      unfolding listText
+      list-is =
+          ap (λ (n : ℕ). numbered listWord n ++ recordLines recs) count-held
+          ∙ ap (λ (x : List ℕ). numbered listWord (length (held field Spt s)) ++ x) (record-lines (s .state .«namespace_id») recs ∙ ap entryLines all-held)
 
 -- How far the list is written: the records left are as many as are still to come, and walked from the place.
 pub record Listing (places : ℕ → Listed) (parts : ℕ → List ℕ) (whole old out : List ℕ) (place at left : ℕ) : Type 0 where
@@ -178,28 +165,28 @@ module _ (places : ℕ → Listed) (parts : ℕ → List ℕ) where
         (wrote-length whole old out at w, omega (arith, w .room, w .size), wrote-all whole old out at w)
 
 -- The first line is written, and all records are left.
-module _ (s : Store) (area : Area) (ignore : QueryIgnoreParams) (ea : area ≡ everyEntry) (eg : ignore ≡ noFlags) (w : Counted) (e : w ≡ areaCounted field s area) (z : w .refusal ≡ 0) where
+module _ (s : Store) (area : Area) (ignore : QueryIgnoreParams) (ea : area ≡ everyEntry) (eg : ignore ≡ noFlags) (w : Counted) (e : w ≡ areaCounted field s area) (z : storeRefusal field s true ≡ 0) where
   every-counted : w ≡ areaCounted field s everyEntry
   every-counted = e ∙ ap (areaCounted field s) ea
 
   pub few-counted : (w .count ≤ s .state .limit) × (w .count ≤ limitMost)
   unfolding held treeOf dirOf
   few-counted =
-      let p = read-tested s (legal field (everyEntry .path)) (passes s w every-counted z) .0 in
+      let p = read-tested s (legal field (everyEntry .path)) (passes s z) .0 in
       let n : length (held field Spt s) ≡ s .state .count = formed-many (formed-spt s p) (s .state .«namespace_id») in
-      let h : w .count ≡ length (held field Spt s) = sym (count-is s w every-counted z) ∙ sym (contents-length Spt field (s .state .«namespace_id») (recs s w every-counted z)) ∙ ap length (all-held s w every-counted z) in
+      let h = count-held s z w every-counted in
       (omega (arith, h, n, p .few), omega (arith, h, n, p .few, p .most))
 
   module _ (old out : List ℕ) (at : ℕ) (h : at ≤ length old) (ex : at ≡ length (numbered listWord (w .count))) (o : out ≡ put (numbered listWord (w .count)) old) where
-    pub listing-start : Listing (areaListed field s area ignore) (areaPart field s area ignore) (storeListed field s) out out 0 at (w .count)
+    pub listing-start : Listing (areaListed field s area ignore) (areaPart field s area ignore) (listText (held field Spt s)) out out 0 at (w .count)
     listing-start =
-        let f = wrote-first (numbered listWord (w .count)) (recordLines (recs s w every-counted z)) old out at h ex o in
+        let f = wrote-first (numbered listWord (w .count)) (recordLines (recs s z)) old out at h ex o in
         rw (ea, eg)
         record {
-          rs = recs s w every-counted z;
-          walks = walk-all s w every-counted z;
-          many = count-is s w every-counted z;
-          wrote = record { done = f .done ∙ list-is s w every-counted z; kept = refl; room = f .room; size = refl };
+          rs = recs s z;
+          walks = walk-all s z;
+          many = count-is s z w every-counted;
+          wrote = record { done = f .done ∙ list-is s z w every-counted; kept = refl; room = f .room; size = refl };
         }
 
     put-behind : (head rest : List ℕ) → put (head ++ rest) (put head old) ≡ put (head ++ rest) old
@@ -213,9 +200,9 @@ module _ (s : Store) (area : Area) (ignore : QueryIgnoreParams) (ea : area ≡ e
         ∙ ap (λ (n : ℕ). drop n old) (sym (length-append head rest)))
 
     -- What is written behind it stands as if all was written at once.
-    pub listing-whole : (last : List ℕ) → last ≡ put (storeListed field s) out → last ≡ put (storeListed field s) old
+    pub listing-whole : (last : List ℕ) → last ≡ put (listText (held field Spt s)) out → last ≡ put (listText (held field Spt s)) old
     listing-whole last l =
-        let q = list-is s w every-counted z in
-        let b = put-behind (numbered listWord (w .count)) (recordLines (recs s w every-counted z)) in
-        l ∙ ap (put (storeListed field s)) o
+        let q = list-is s z w every-counted in
+        let b = put-behind (numbered listWord (w .count)) (recordLines (recs s z)) in
+        l ∙ ap (put (listText (held field Spt s))) o
         ∙ subst (λ (x : List ℕ). put x (put (numbered listWord (w .count)) old) ≡ put x old) q b

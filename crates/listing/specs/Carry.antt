@@ -1,6 +1,7 @@
 -- A line carried out on a store: the answer that is printed, and what the store and the prune list are afterwards.
 use Prim.Native.Nat.{ℕ}
-use mathlib.Core.List.{List}
+use mathlib.Core.Path.{_≡_}
+use mathlib.Core.List.{List, [], _∷_}
 use mathlib.Core.Bool.{false}
 use lib.ListN.{replicate}
 use Rattle.data_model.specs.Path.{Figures}
@@ -8,6 +9,7 @@ use Rattle.data_model.specs.Refusal.{illegalPath}
 use Rattle.data_model.specs.declared.entry.Entry.{Entry as EntryValue}
 use Rattle.store.specs.Store.{Store, storeOf}
 use Rattle.store.specs.Ingest.{IngestOutcome, ingested}
+use Rattle.store.specs.declared.state.State.{State}
 use Rattle.store.specs.declared.ingest.IngestVerdict.{IngestVerdict}
 use Rattle.store.specs.declared.ingest.IngestVerdict.the-variants as verdict
 use Rattle.text.specs.EntryLine.{lineRead}
@@ -60,3 +62,23 @@ carriedBy f s prune e outcome.Bad = record { answer = answerWithout outcome.Bad;
 
 unfoldable pub lineCarried : Figures → Store → (prune line : List ℕ) → LineOutcome
 lineCarried f s prune line = carriedBy f s prune (lineRead line) (lineRead line .outcome)
+
+-- Lines carried out one after another, each on what the one before it left: a store and a prune list.
+pub record Left : Type 0 where
+  pub store : Store
+  pub prune : List ℕ
+
+abbrev pub leaving : State → (spt sptDir tsp tspDir prune : List ℕ) → Left
+leaving s a b c d prune = record { store = storeOf s a b c d; prune = prune }
+
+abbrev pub leftIn : LineOutcome → Left
+leftIn o = record { store = o .store; prune = o .prune }
+
+unfoldable pub linesCarried : Figures → Left → List (List ℕ) → Left
+linesCarried f w [] = w
+linesCarried f w (l ∷ ls) = linesCarried f (leftIn (lineCarried f (w .store) (w .prune) l)) ls
+
+-- Some lines led from one to the other.
+pub record Led (f : Figures) (before after : Left) : Type 0 where
+  pub lines : List (List ℕ)
+  pub carried : after ≡ linesCarried f before lines

@@ -1,4 +1,5 @@
 pub mod Carry
 pub mod Input
 pub mod List
+pub mod Program
 pub mod Say

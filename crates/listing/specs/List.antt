@@ -1,17 +1,12 @@
 -- What is printed at the end: `list` and the count, then the entries that the store holds, in key order, one a line.
 use Prim.Native.Nat.{ℕ, _+_, _*_}
 use mathlib.Core.List.{List, [], _∷_, _++_}
-use mathlib.Core.Bool.{true, cond}
 use lib.ListN.{length}
-use lib.Dec.{eqb}
-use Rattle.data_model.specs.Path.{Figures, pathOf}
+use Rattle.data_model.specs.Path.{pathOf}
 use Rattle.data_model.specs.declared.area.Area.{Area}
 use Rattle.data_model.specs.declared.area.AreaSubspace.the-variants.{Any}
 use Rattle.data_model.specs.declared.range.RangeEnd.the-variants.{Open}
 use Rattle.tree.specs.Stored.{Stored}
-use Rattle.tree.specs.declared.stored.KeyOrder.the-variants.{Spt}
-use Rattle.store.specs.Store.{Store, held}
-use Rattle.store.specs.Refusal.{storeRefusal}
 use Rattle.text.specs.EntryLine.{space, listedTextMost}
 use Rattle.listing.specs.Input.{newline}
 use Rattle.listing.specs.Say.{numberMost, numbered, entryText}
@@ -27,20 +22,12 @@ entryLines (x ∷ l) = entryText (x .entry) ++ newline ∷ entryLines l
 unfoldable pub listText : List Stored → List ℕ
 listText l = numbered listWord (length l) ++ entryLines l
 
--- Of a store; nothing of one that is refused.
-unfoldable pub storeListed : Figures → Store → List ℕ
-storeListed f s = cond (eqb (storeRefusal f s true) 0) (listText (held f Spt s)) []
-
 -- The most bytes of an entry's line, and of a list of so many entries.
 abbrev pub entryLineMost : ℕ
 entryLineMost = listedTextMost + 1
 
 abbrev pub listTextMost : ℕ → ℕ
 listTextMost n = 5 + numberMost + entryLineMost * n
-
--- The limit that the program opens.
-abbrev pub programLimit : ℕ
-programLimit = 64
 
 -- The area that includes every entry.
 abbrev pub everyEntry : Area

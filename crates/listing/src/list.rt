@@ -14,12 +14,15 @@ use query::listing::query_area_place;
 use store::state::State;
 use tree::matching::QueryIgnoreParams;
 ghost use mathlib.Core.Path.{_≡_};
+ghost use mathlib.Core.Bool.{true};
 ghost use Prim.Native.Nat.{_≤_};
 ghost use lib.ListN.{length};
 ghost use Rattle.laws.specs.Lists.{put};
 ghost use Rattle.data_model.specs.Path.{field};
-ghost use Rattle.store.specs.Store.{storeOf};
-ghost use Rattle.listing.specs.List.{listTextMost, everyEntry, storeListed};
+ghost use Rattle.tree.specs.declared.stored.KeyOrder.the-variants.{Spt};
+ghost use Rattle.store.specs.Store.{storeOf, held};
+ghost use Rattle.store.specs.Refusal.{storeRefusal};
+ghost use Rattle.listing.specs.List.{listText, listTextMost, everyEntry};
 
 // The area that includes every entry.
 fn everything() -> Area
@@ -36,7 +39,7 @@ fn everything() -> Area
     }
 }
 
-// The list of a store, into a buffer with room for one of its limit. There are as many matches as were counted.
+// The list of a store that is not refused, into a buffer with room for one of its limit. There are as many matches as were counted.
 pub fn write_list(
     state: State,
     spt: &[u8],
@@ -45,15 +48,12 @@ pub fn write_list(
     tsp_dir: &[u32],
     out: &mut [u8],
 ) -> usize
-    requires { ⌜ listTextMost (state .limit) ≤ length (now out) ⌝ }
-    ensures { λ r. ⌜ (r ≡ length (storeListed field (storeOf state (now (spt .entry)) (now («spt_dir» .entry)) (now (tsp .entry)) (now («tsp_dir» .entry))))) × (r ≤ length (now (out .entry))) × (now (out .exit) ≡ put (storeListed field (storeOf state (now (spt .entry)) (now («spt_dir» .entry)) (now (tsp .entry)) (now («tsp_dir» .entry)))) (now (out .entry))) ⌝ }
+    requires { ⌜ (storeRefusal field (storeOf state (now spt) (now «spt_dir») (now tsp) (now «tsp_dir»)) true ≡ 0) × (listTextMost (state .limit) ≤ length (now out)) ⌝ }
+    ensures { λ r. ⌜ (r ≡ length (listText (held field Spt (storeOf state (now (spt .entry)) (now («spt_dir» .entry)) (now (tsp .entry)) (now («tsp_dir» .entry)))))) × (r ≤ length (now (out .entry))) × (now (out .exit) ≡ put (listText (held field Spt (storeOf state (now (spt .entry)) (now («spt_dir» .entry)) (now (tsp .entry)) (now («tsp_dir» .entry))))) (now (out .entry))) ⌝ }
 {
     let area = everything();
     let ignore = no_flags();
     let counted = count_area(state, spt, spt_dir, tsp, tsp_dir, area);
-    if counted.refusal != 0 {
-        return 0;
-    }
     let mut left = counted.count;
     let mut at = write_numbered(b"list ", left as u64, out);
     let mut place: usize = 0;

@@ -11,7 +11,11 @@ use text::entry_line::LINE_MOST;
 ghost use mathlib.Core.Path.{_≡_};
 ghost use Prim.Native.Nat.{_≤_};
 ghost use lib.ListN.{length};
-ghost use Rattle.listing.specs.List.{listTextMost, programLimit};
+ghost use Rattle.data_model.specs.Path.{field};
+ghost use Rattle.store.specs.Store.{storeOf, treeRoom, dirRoom};
+ghost use Rattle.listing.specs.Carry.{leaving, Led};
+ghost use Rattle.listing.specs.List.{listTextMost};
+ghost use Rattle.listing.specs.Program.{programLimit, AfterLines};
 
 mod carry;
 mod input;
@@ -32,13 +36,13 @@ const ENTRY_LINE: usize = 321;
 const LIST: usize = HEAD_LINE + ENTRY_LINE * LIMIT;
 
 fn tree_bytes() -> [u8; TREE]
-    ensures { λ r. ⌜ length r ≡ 26240 ⌝ }
+    ensures { λ r. ⌜ length r ≡ treeRoom field programLimit ⌝ }
 {
     [0; TREE]
 }
 
 fn numbers() -> [u32; NUMBERS]
-    ensures { λ r. ⌜ length r ≡ 128 ⌝ }
+    ensures { λ r. ⌜ length r ≡ dirRoom programLimit ⌝ }
 {
     [0; NUMBERS]
 }
@@ -50,7 +54,7 @@ fn list_bytes() -> [u8; LIST]
     [0; LIST]
 }
 
-// Answers every line of the input, and returns the state after the last. The limit stays.
+// Answers every line of the input, and returns the state after the last. Each is carried out on what the one before it left.
 fn answer_lines(
     opened: State,
     spt: &mut [u8],
@@ -61,7 +65,7 @@ fn answer_lines(
     input: &mut [u8],
     line: &mut [u8],
 ) -> State
-    ensures { λ r. ⌜ r .limit ≡ opened .limit ⌝ }
+    ensures { λ r. ⌜ Led field (leaving opened (now (spt .entry)) (now («spt_dir» .entry)) (now (tsp .entry)) (now («tsp_dir» .entry)) (now (prune .entry))) (leaving r (now (spt .exit)) (now («spt_dir» .exit)) (now (tsp .exit)) (now («tsp_dir» .exit)) (now (prune .exit))) ⌝ }
 {
     let mut state = opened;
     let mut at: usize = 0;
@@ -87,16 +91,16 @@ fn answer_lines(
     state
 }
 
-// Prints the list of a store of at most the program's limit.
+// Prints the list of the store that lines led to from the opening.
 fn say_list(state: State, spt: &[u8], spt_dir: &[u32], tsp: &[u8], tsp_dir: &[u32])
-    requires { ⌜ state .limit ≤ programLimit ⌝ }
+    requires { ⌜ AfterLines (storeOf state (now spt) (now «spt_dir») (now tsp) (now «tsp_dir»)) ⌝ }
 {
     let mut out = list_bytes();
     let n = write_list(state, spt, spt_dir, tsp, tsp_dir, &mut out);
     io::write_all(STDOUT_FILENO, &out[..n]);
 }
 
-// The program over its buffers: the store's, the prune list, the input's and the line's.
+// The program over its buffers: the store's, with the limit's room, the prune list, the input's and the line's.
 fn run(
     spt: &mut [u8],
     spt_dir: &mut [u32],
@@ -105,7 +109,9 @@ fn run(
     prune: &mut [u32],
     input: &mut [u8],
     line: &mut [u8],
-) {
+)
+    requires { ⌜ (treeRoom field programLimit ≤ length (now spt)) × (dirRoom programLimit ≤ length (now «spt_dir»)) × (treeRoom field programLimit ≤ length (now tsp)) × (dirRoom programLimit ≤ length (now «tsp_dir»)) ⌝ }
+{
     let o = open([0; 16], LIMIT, spt, spt_dir, tsp, tsp_dir);
     let opened = o.state;
     let state = answer_lines(opened, spt, spt_dir, tsp, tsp_dir, prune, input, line);

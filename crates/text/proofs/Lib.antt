@@ -10,3 +10,4 @@ pub mod RoundTrip
 pub mod PathTrip
 pub mod LineLaws
 pub mod LineTrip
+pub mod LineSays

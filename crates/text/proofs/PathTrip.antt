@@ -81,7 +81,7 @@ fields-good (c ∷ cs) h =
     let r = fields-good cs (k .1) in
     (rw (f .0) (r .0), rw (f .1, r .1))
 
-path-bytes : (cs : Components) → all (isComponent field) cs ≡ true → all (all isByte) cs ≡ true
+pub path-bytes : (cs : Components) → all (isComponent field) cs ≡ true → all (all isByte) cs ≡ true
 unfolding all isComponent
 path-bytes [] h = refl
 path-bytes (c ∷ cs) h =

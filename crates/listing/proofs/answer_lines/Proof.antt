@@ -1,24 +1,25 @@
--- `answer_lines` is safe and ends: each turn has one fewer left. The invariant: every buffer keeps its length, and what is not looked at yet lies within the input. Assumes nothing.
+-- `answer_lines` meets its contract, and ends: each turn has one fewer left. The invariant: lines led to what there is, every buffer keeps its length, and what is not looked at yet lies within the input. Assumes nothing.
 use native.Mathlib.Omega.{arith}
 use Prim.Native.Nat.{_≤_}
-use mathlib.Core.Path.{_≡_, sym, _∙_}
+use mathlib.Core.Path.{_≡_, refl, sym, _∙_}
 use lib.ListN.{length}
 use lib.Seq.{length-take-le}
-use Rattle.store.specs.Store.{storeOf}
-use Rattle.listing.proofs.CarryLaws.{limit-kept}
+use Rattle.data_model.specs.Path.{field}
+use Rattle.listing.specs.Carry.{leaving, Led}
+use Rattle.listing.proofs.LedLaws.{led-none, led-more}
 use borrow.Author.Needs.{needs}
 use Rattle.listing.proofs.answer_lines.Statement.{statement}
 use Rattle.listing.proofs.answer_lines.Tie as tie
 
 abbrev Inv-loop : tie.InvT-loop
 Inv-loop spt₀ spt-dir₀ tsp₀ tsp-dir₀ prune₀ input₀ line₀ state₀ at₀ end₀ ended₀ turns₀ spt spt-dir tsp tsp-dir prune input line state at end ended turns =
-    (at ≤ end) × (end ≤ length input) × (length spt ≡ length spt₀) × (length spt-dir ≡ length spt-dir₀) × (length tsp ≡ length tsp₀) × (length tsp-dir ≡ length tsp-dir₀) × (length prune ≡ length prune₀) × (length input ≡ length input₀) × (length line ≡ length line₀) × (state .limit ≡ state₀ .limit)
+    (at ≤ end) × (end ≤ length input) × (length spt ≡ length spt₀) × (length spt-dir ≡ length spt-dir₀) × (length tsp ≡ length tsp₀) × (length tsp-dir ≡ length tsp-dir₀) × (length prune ≡ length prune₀) × (length input ≡ length input₀) × (length line ≡ length line₀) × Led field (leaving state₀ spt₀ spt-dir₀ tsp₀ tsp-dir₀ prune₀) (leaving state spt spt-dir tsp tsp-dir prune)
 
 abbrev μ-loop : tie.MeasureT-loop
 μ-loop spt₀ spt-dir₀ tsp₀ tsp-dir₀ prune₀ input₀ line₀ state₀ at₀ end₀ ended₀ turns₀ spt spt-dir tsp tsp-dir prune input line state at end ended turns = turns
 
 loop-holds : tie.Need-loop-holds Inv-loop μ-loop
-loop-holds c = search needs
+loop-holds c = (search needs, search needs, refl, refl, refl, refl, refl, refl, refl, led-none field)
 
 next-line-requires : tie.Need-next-line-requires Inv-loop μ-loop
 next-line-requires c κs = search needs
@@ -79,7 +80,7 @@ loop-again c =
       g .kept .1 .1 .1 .1 .1 .1 .0 ∙ l .inv .6,
       w .kept .0 ∙ l .inv .7,
       w .kept .1 .1 .1 .1 .0 ∙ l .inv .8,
-      limit-kept (storeOf (l .state) (l .spt) (l .«spt-dir») (l .tsp) (l .«tsp-dir»)) (l .prune) _ _ (g .ensures) ∙ l .inv .9,
+      led-more field (l .inv .9) _ _ (g .ensures),
     )
 
 same-length-8 : tie.Need-same-length-8 Inv-loop μ-loop

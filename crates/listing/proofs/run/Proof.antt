@@ -1,8 +1,5 @@
--- `run` is safe: the limit that was opened stays. Assumes nothing.
-use native.Mathlib.Omega.{arith}
-use Prim.Native.Nat.{_≤_}
-use lib.ListN.{replicate}
-use Rattle.listing.proofs.CarryLaws.{opened-limit}
+-- `run` is safe: the opening is not refused, and lines led from it to what is listed. Assumes nothing.
+use Rattle.listing.proofs.LedLaws.{after-lines}
 use borrow.Author.Needs.{needs}
 use Rattle.listing.proofs.run.Statement.{statement}
 use Rattle.listing.proofs.run.Tie as tie
@@ -18,8 +15,8 @@ say-list-requires c κs =
     let p = (c .before .before .before .before .before .before .before .before .before .before .before .before .before .before .before .before .before .before .before .before .before .before .before .before .before .before .before .before .before .before .before .before .before .before .before .before .before .before .before .before .before .before .before .before .before .before .before) in
     let o = (c .before .before .before .before .before .before .before .before .before .before .before .before .before .before .before .before .before .before .before .before .before .before .before .before .before .before .before .before .before .before .before .before .before .before .before) .«open» in
     let a = c .before .before .before .before .before .before .before .before .before .before .before .before .before .before .before .before .before .before .answer-lines in
-    let h : o .result .state .limit ≤ 64 = opened-limit (replicate 16 0) (p .args .spt .now) (p .args .«spt-dir» .now) (p .args .tsp .now) (p .args .«tsp-dir» .now) 64 _ (o .ensures) in
-    omega (arith, h, a .ensures)
+    after-lines (p .args .spt .now) (p .args .«spt-dir» .now) (p .args .tsp .now) (p .args .«tsp-dir» .now) (p .pre .0) (p .pre .1) (p .pre .2) (p .pre .3)
+    (o .result) _ _ _ _ _ (o .ensures) _ (a .ensures)
 
 same-length : tie.Need-same-length
 same-length c = search needs

@@ -1,8 +1,9 @@
--- `say_list` is safe. Assumes nothing.
+-- `say_list` is safe: the store that lines led to has a list, of at most the limit's length. Assumes nothing.
 use native.Mathlib.Omega.{arith}
 use mathlib.Core.Path.{_≡_, sym}
 use lib.ListN.{length}
 use lib.Seq.{length-take-le}
+use Rattle.listing.proofs.LedLaws.{not-refused, limit-is}
 use borrow.Author.Needs.{needs}
 use Rattle.listing.proofs.say_list.Statement.{statement}
 use Rattle.listing.proofs.say_list.Tie as tie
@@ -14,7 +15,10 @@ slice-aggregate-write-list : tie.Need-slice-aggregate-write-list
 slice-aggregate-write-list c = search needs
 
 write-list-requires : tie.Need-write-list-requires
-write-list-requires c κs = search needs
+write-list-requires c κs =
+    let h = c .before .before .before .before .before .before .pre in
+    let l = limit-is h in
+    (not-refused h, search needs)
 
 array-share-prefix-out : tie.Need-array-share-prefix-out
 array-share-prefix-out c = search needs

@@ -8,27 +8,26 @@ use mathlib.Core.Logic.{⊎-elim}
 use types.Run.{OneOf}
 use denote.Enum.Declared.{tagOf}
 use lib.ListN.{length}
-use Rattle.laws.specs.Lists.{put}
 use Rattle.data_model.specs.Path.{field, legal}
 use Rattle.data_model.proofs.Values.{length-piece}
 use Rattle.tree.specs.Matching.{listedInArea}
-use Rattle.store.specs.Store.{Store, storeOf, limitMost}
+use Rattle.tree.specs.declared.stored.KeyOrder.the-variants.{Spt}
+use Rattle.store.specs.Store.{Store, storeOf, limitMost, held}
 use Rattle.query.specs.Listing.{areaListed, areaPart}
-use Rattle.query.specs.Count.{areaCounted}
 use Rattle.query.specs.declared.answer.Listed.{Listed}
 use Rattle.query.specs.declared.answer.Listed.the-variants.{Match, Finished, Refused}
 use Rattle.query.proofs.answer.Listed.{the-type}
 use Rattle.query.proofs.FoundLaws.{match-below}
 use Rattle.query.proofs.Walked.{match-long}
-use Rattle.listing.specs.List.{entryLineMost, listTextMost, storeListed}
-use Rattle.listing.proofs.ListLaws.{Listing, list-none, few-counted, listing-start, listing-next, listing-turn, listing-end, listing-whole}
+use Rattle.listing.specs.List.{entryLineMost, listText, listTextMost}
+use Rattle.listing.proofs.ListLaws.{Listing, few-counted, listing-start, listing-next, listing-turn, listing-end, listing-whole}
 use borrow.Author.Needs.{needs}
 use Rattle.listing.proofs.list.write_list.Statement.{statement}
 use Rattle.listing.proofs.list.write_list.Tie as tie
 
 abbrev Inv-loop : tie.InvT-loop
 Inv-loop state spt spt-dir tsp tsp-dir out₀ area ignore left₀ at₀ place₀ out left at place =
-    (at + entryLineMost * left ≤ length out) × (at + entryLineMost * left ≤ listTextMost limitMost) × (length out ≡ length out₀) × Listing (areaListed field (storeOf state spt spt-dir tsp tsp-dir) area ignore) (areaPart field (storeOf state spt spt-dir tsp tsp-dir) area ignore) (storeListed field (storeOf state spt spt-dir tsp tsp-dir)) out₀ out place at left
+    (at + entryLineMost * left ≤ length out) × (at + entryLineMost * left ≤ listTextMost limitMost) × (length out ≡ length out₀) × Listing (areaListed field (storeOf state spt spt-dir tsp tsp-dir) area ignore) (areaPart field (storeOf state spt spt-dir tsp tsp-dir) area ignore) (listText (held field Spt (storeOf state spt spt-dir tsp tsp-dir))) out₀ out place at left
 
 abbrev μ-loop : tie.MeasureT-loop
 μ-loop state spt spt-dir tsp tsp-dir out₀ area ignore left₀ at₀ place₀ out left at place = left
@@ -51,15 +50,6 @@ no-flags-requires c κs = search needs
 count-area-requires : tie.Need-count-area-requires Inv-loop μ-loop
 count-area-requires c κs = search needs
 
-returns : tie.Need-returns Inv-loop μ-loop
-unfolding put
-returns c =
-    let p = (c .before .before .before .before .before .before .before .before .before .before) in
-    let area = c .before .before .before .before .everything in
-    let w = c .before .before .count-area in
-    let q = list-none (lent p) (w .result) (w .ensures ∙ ap (areaCounted field (lent p)) (area .ensures)) (c .if1 .taken) in
-    (ap (λ (x : List ℕ). length x) q, omega arith, ap (λ (x : List ℕ). put x (p .args .out .now)) q)
-
 slice-aggregate-write-numbered : tie.Need-slice-aggregate-write-numbered Inv-loop μ-loop
 slice-aggregate-write-numbered c = search needs
 
@@ -68,16 +58,16 @@ write-numbered-requires c κs = search needs
 
 loop-holds : tie.Need-loop-holds Inv-loop μ-loop
 loop-holds c =
-    let p = (c .before .before .before .before .before .before .before .before .before .before .before .before .before .before .before) in
-    let area = c .before .before .before .before .before .before .before .before .before .everything in
-    let ignore = c .before .before .before .before .before .before .before .before .no-flags in
-    let w = c .before .before .before .before .before .before .before .count-area in
-    let z = c .before .before .before .before .before .if1 .left in
+    let p = (c .before .before .before .before .before .before .before .before .before .before .before .before .before) in
+    let area = c .before .before .before .before .before .before .before .everything in
+    let ignore = c .before .before .before .before .before .before .no-flags in
+    let w = c .before .before .before .before .before .count-area in
+    let z = p .pre .0 in
     let f = c .before .before .write-numbered in
     let old = p .args .out .now in
     let one : length (f .last .1 .1 .0) ≡ length old = search needs in
     let few = few-counted (lent p) (area .result) (ignore .result) (area .ensures) (ignore .ensures) (w .result) (w .ensures) z in
-    (omega (arith, one, few .0, f .ensures .1, p .pre), omega (arith, few .1, f .ensures .1), refl, listing-start (lent p) (area .result) (ignore .result) (area .ensures) (ignore .ensures) (w .result) (w .ensures) z old (f .last .1 .1 .0) (f .result) (omega (arith, f .ensures .1, p .pre)) (f .ensures .0) (f .ensures .2))
+    (omega (arith, one, few .0, f .ensures .1, p .pre .1), omega (arith, few .1, f .ensures .1), refl, listing-start (lent p) (area .result) (ignore .result) (area .ensures) (ignore .ensures) (w .result) (w .ensures) z old (f .last .1 .1 .0) (f .result) (omega (arith, f .ensures .1, p .pre .1)) (f .ensures .0) (f .ensures .2))
 
 query-area-place-requires : tie.Need-query-area-place-requires Inv-loop μ-loop
 query-area-place-requires c κs = search needs
@@ -87,28 +77,28 @@ enum-known-l c = search needs
 
 same-length : tie.Need-same-length Inv-loop μ-loop
 same-length c =
-    let p = (c .before .before .before .before .before .before .before .before .before .before .before .before .before .before .before .before .before .before .before) in
-    let area = c .before .before .before .before .before .before .before .before .before .before .before .before .before .everything in
-    let ignore = c .before .before .before .before .before .before .before .before .before .before .before .before .no-flags in
-    let w = c .before .before .before .before .before .before .before .before .before .before .before .count-area in
+    let p = (c .before .before .before .before .before .before .before .before .before .before .before .before .before .before .before .before .before) in
+    let area = c .before .before .before .before .before .before .before .before .before .before .before .everything in
+    let ignore = c .before .before .before .before .before .before .before .before .before .before .no-flags in
+    let w = c .before .before .before .before .before .before .before .before .before .count-area in
     let f = c .before .before .before .before .before .before .write-numbered in
     let old = p .args .out .now in
     let one : length (f .last .1 .1 .0) ≡ length old = search needs in
     let l = c .before .before .before .loop in l .inv .2 ∙ one
 
-returns-2 : tie.Need-returns-2 Inv-loop μ-loop
-returns-2 c =
-    let p = (c .before .before .before .before .before .before .before .before .before .before .before .before .before .before .before .before .before .before .before) in
-    let area = c .before .before .before .before .before .before .before .before .before .before .before .before .before .everything in
-    let ignore = c .before .before .before .before .before .before .before .before .before .before .before .before .no-flags in
-    let w = c .before .before .before .before .before .before .before .before .before .before .before .count-area in
+returns : tie.Need-returns Inv-loop μ-loop
+returns c =
+    let p = (c .before .before .before .before .before .before .before .before .before .before .before .before .before .before .before .before .before) in
+    let area = c .before .before .before .before .before .before .before .before .before .before .before .everything in
+    let ignore = c .before .before .before .before .before .before .before .before .before .before .no-flags in
+    let w = c .before .before .before .before .before .before .before .before .before .count-area in
     let f = c .before .before .before .before .before .before .write-numbered in
     let old = p .args .out .now in
     let one : length (f .last .1 .1 .0) ≡ length old = search needs in
     let l = c .before .before .before .loop in
     let t = c .before .before .loop-test .taken in
     let m = c .before .query-area-place in
-    let n = listing-next (areaListed field (lent p) (area .result) (ignore .result)) (areaPart field (lent p) (area .result) (ignore .result)) (storeListed field (lent p)) (f .last .1 .1 .0) (l .out) (l .place) (l .at) (l .left) (l .inv .3) t in
+    let n = listing-next (areaListed field (lent p) (area .result) (ignore .result)) (areaPart field (lent p) (area .result) (ignore .result)) (listText (held field Spt (lent p))) (f .last .1 .1 .0) (l .out) (l .place) (l .at) (l .left) (l .inv .3) t in
     absurd (unmatched (m .result) (n .0) (c .match .keys2) (m .ensures ∙ n .1))
 
 query-area-requires : tie.Need-query-area-requires Inv-loop μ-loop
@@ -125,10 +115,10 @@ part-write-line-end c = search needs
 
 write-line-requires : tie.Need-write-line-requires Inv-loop μ-loop
 write-line-requires c κs =
-    let p = (c .before .before .before .before .before .before .before .before .before .before .before .before .before .before .before .before .before .before .before .before .before .before .before) in
-    let area = c .before .before .before .before .before .before .before .before .before .before .before .before .before .before .before .before .before .everything in
-    let ignore = c .before .before .before .before .before .before .before .before .before .before .before .before .before .before .before .before .no-flags in
-    let w = c .before .before .before .before .before .before .before .before .before .before .before .before .before .before .before .count-area in
+    let p = (c .before .before .before .before .before .before .before .before .before .before .before .before .before .before .before .before .before .before .before .before .before) in
+    let area = c .before .before .before .before .before .before .before .before .before .before .before .before .before .before .before .everything in
+    let ignore = c .before .before .before .before .before .before .before .before .before .before .before .before .before .before .no-flags in
+    let w = c .before .before .before .before .before .before .before .before .before .before .before .before .before .count-area in
     let l = c .before .before .before .before .before .before .before .loop in
     let t = c .before .before .before .before .before .before .loop-test .taken in
     let m = c .before .before .before .before .before .query-area-place in
@@ -146,10 +136,10 @@ add-at c =
 
 add-place : tie.Need-add-place Inv-loop μ-loop
 add-place c =
-    let p = (c .before .before .before .before .before .before .before .before .before .before .before .before .before .before .before .before .before .before .before .before .before .before .before .before .before .before) in
-    let area = c .before .before .before .before .before .before .before .before .before .before .before .before .before .before .before .before .before .before .before .before .everything in
-    let ignore = c .before .before .before .before .before .before .before .before .before .before .before .before .before .before .before .before .before .before .before .no-flags in
-    let w = c .before .before .before .before .before .before .before .before .before .before .before .before .before .before .before .before .before .before .count-area in
+    let p = (c .before .before .before .before .before .before .before .before .before .before .before .before .before .before .before .before .before .before .before .before .before .before .before .before) in
+    let area = c .before .before .before .before .before .before .before .before .before .before .before .before .before .before .before .before .before .before .everything in
+    let ignore = c .before .before .before .before .before .before .before .before .before .before .before .before .before .before .before .before .before .no-flags in
+    let w = c .before .before .before .before .before .before .before .before .before .before .before .before .before .before .before .before .count-area in
     let l = c .before .before .before .before .before .before .before .before .before .before .loop in
     let t = c .before .before .before .before .before .before .before .before .before .loop-test .taken in
     let m = c .before .before .before .before .before .before .before .before .query-area-place in
@@ -165,10 +155,10 @@ loop-less c = search needs
 
 loop-again : tie.Need-loop-again Inv-loop μ-loop
 loop-again c =
-    let p = (c .before .before .before .before .before .before .before .before .before .before .before .before .before .before .before .before .before .before .before .before .before .before .before .before .before .before) in
-    let area = c .before .before .before .before .before .before .before .before .before .before .before .before .before .before .before .before .before .before .before .before .everything in
-    let ignore = c .before .before .before .before .before .before .before .before .before .before .before .before .before .before .before .before .before .before .before .no-flags in
-    let w = c .before .before .before .before .before .before .before .before .before .before .before .before .before .before .before .before .before .before .count-area in
+    let p = (c .before .before .before .before .before .before .before .before .before .before .before .before .before .before .before .before .before .before .before .before .before .before .before .before) in
+    let area = c .before .before .before .before .before .before .before .before .before .before .before .before .before .before .before .before .before .before .everything in
+    let ignore = c .before .before .before .before .before .before .before .before .before .before .before .before .before .before .before .before .before .no-flags in
+    let w = c .before .before .before .before .before .before .before .before .before .before .before .before .before .before .before .before .count-area in
     let f = c .before .before .before .before .before .before .before .before .before .before .before .before .before .write-numbered in
     let old = p .args .out .now in
     let one : length (f .last .1 .1 .0) ≡ length old = search needs in
@@ -179,33 +169,33 @@ loop-again c =
     let e : areaListed field (lent p) (area .result) (ignore .result) (l .place) ≡ Match (k .given .0 .0) = sym (m .ensures) ∙ k .given .1 in
     let r = c .before .before .before .before .query-area in
     let g = c .before .before .write-line in
-    let n = listing-turn (areaListed field (lent p) (area .result) (ignore .result)) (areaPart field (lent p) (area .result) (ignore .result)) (storeListed field (lent p)) (f .last .1 .1 .0) (l .out) (l .place) (l .at) (l .left) (l .inv .3) (l .inv .0) t (k .given .0 .0) e _ (r .ensures) (g .result) (g .last .1 .0) (g .ensures .0) (g .ensures .1) (g .ensures .2) in
+    let n = listing-turn (areaListed field (lent p) (area .result) (ignore .result)) (areaPart field (lent p) (area .result) (ignore .result)) (listText (held field Spt (lent p))) (f .last .1 .1 .0) (l .out) (l .place) (l .at) (l .left) (l .inv .3) (l .inv .0) t (k .given .0 .0) e _ (r .ensures) (g .result) (g .last .1 .0) (g .ensures .0) (g .ensures .1) (g .ensures .2) in
     (omega (arith, n .wrote .size, l .inv .2, l .inv .0, g .ensures .1, t), omega (arith, l .inv .1, g .ensures .1, t), n .wrote .size, n)
 
 same-length-2 : tie.Need-same-length-2 Inv-loop μ-loop
 same-length-2 c =
-    let p = (c .before .before .before .before .before .before .before .before .before .before .before .before .before .before .before .before .before) in
-    let area = c .before .before .before .before .before .before .before .before .before .before .before .everything in
-    let ignore = c .before .before .before .before .before .before .before .before .before .before .no-flags in
-    let w = c .before .before .before .before .before .before .before .before .before .count-area in
+    let p = (c .before .before .before .before .before .before .before .before .before .before .before .before .before .before .before) in
+    let area = c .before .before .before .before .before .before .before .before .before .everything in
+    let ignore = c .before .before .before .before .before .before .before .before .no-flags in
+    let w = c .before .before .before .before .before .before .before .count-area in
     let f = c .before .before .before .before .write-numbered in
     let old = p .args .out .now in
     let one : length (f .last .1 .1 .0) ≡ length old = search needs in
     let l = c .before .loop in l .inv .2 ∙ one
 
-returns-3 : tie.Need-returns-3 Inv-loop μ-loop
-returns-3 c =
-    let p = (c .before .before .before .before .before .before .before .before .before .before .before .before .before .before .before .before .before) in
-    let area = c .before .before .before .before .before .before .before .before .before .before .before .everything in
-    let ignore = c .before .before .before .before .before .before .before .before .before .before .no-flags in
-    let w = c .before .before .before .before .before .before .before .before .before .count-area in
-    let z = c .before .before .before .before .before .before .before .if1 .left in
+returns-2 : tie.Need-returns-2 Inv-loop μ-loop
+returns-2 c =
+    let p = (c .before .before .before .before .before .before .before .before .before .before .before .before .before .before .before) in
+    let area = c .before .before .before .before .before .before .before .before .before .everything in
+    let ignore = c .before .before .before .before .before .before .before .before .no-flags in
+    let w = c .before .before .before .before .before .before .before .count-area in
+    let z = p .pre .0 in
     let f = c .before .before .before .before .write-numbered in
     let old = p .args .out .now in
     let one : length (f .last .1 .1 .0) ≡ length old = search needs in
     let l = c .before .loop in
-    let e = listing-end (areaListed field (lent p) (area .result) (ignore .result)) (areaPart field (lent p) (area .result) (ignore .result)) (storeListed field (lent p)) (f .last .1 .1 .0) (l .out) (l .place) (l .at) (l .left) (l .inv .3) (omega (arith, c .loop-test .left)) in
-    (e .0, omega (arith, e .1, one), listing-whole (lent p) (area .result) (ignore .result) (area .ensures) (ignore .ensures) (w .result) (w .ensures) z old (f .last .1 .1 .0) (f .result) (omega (arith, f .ensures .1, p .pre)) (f .ensures .0) (f .ensures .2) (l .out) (e .2))
+    let e = listing-end (areaListed field (lent p) (area .result) (ignore .result)) (areaPart field (lent p) (area .result) (ignore .result)) (listText (held field Spt (lent p))) (f .last .1 .1 .0) (l .out) (l .place) (l .at) (l .left) (l .inv .3) (omega (arith, c .loop-test .left)) in
+    (e .0, omega (arith, e .1, one), listing-whole (lent p) (area .result) (ignore .result) (area .ensures) (ignore .ensures) (w .result) (w .ensures) z old (f .last .1 .1 .0) (f .result) (omega (arith, f .ensures .1, p .pre .1)) (f .ensures .0) (f .ensures .2) (l .out) (e .2))
 
 pub write-list-spec : {M : Type 1} → statement M
 write-list-spec =
@@ -216,14 +206,13 @@ write-list-spec =
     everything-requires
     no-flags-requires
     count-area-requires
-    returns
     slice-aggregate-write-numbered
     write-numbered-requires
     loop-holds
     query-area-place-requires
     enum-known-l
     same-length
-    returns-2
+    returns
     query-area-requires
     sub-write-line
     part-write-line-start
@@ -235,4 +224,4 @@ write-list-spec =
     loop-less
     loop-again
     same-length-2
-    returns-3)
+    returns-2)
