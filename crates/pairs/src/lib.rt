@@ -89,7 +89,7 @@ fn ingest_with_room(
 
 // An answer, its count, and the numbers of its pairs.
 fn in_numbers(ingested: Ingested, pairs: [Pair; LIMIT_MOST]) -> NumbersIngested
-    ensures { λ r. ⌜ (r .ingested ≡ ingested) × (r .numbers ≡ numbersOf pairs) ⌝ }
+    ensures { λ r. ⌜ (r .ingested ≡ ingested) × (r .numbers ≡ numbersOf pairs) × (r .count ≡ prunedCount (r .ingested .verdict)) ⌝ }
 {
     let mut numbers = [0u32; NUMBERS_MOST];
     let mut k = 0;
@@ -163,7 +163,7 @@ pub fn ingest_entry_by_value(
     token: [u8; 64],
     prevent_pruning: bool,
 ) -> NumbersIngested
-    ensures { λ r. ⌜ pairsOutcome (r .ingested) (now (spt .exit)) (now («spt_dir» .exit)) (now (tsp .exit)) (now («tsp_dir» .exit)) (pairsOf (r .numbers)) ≡ pairsIngested field (storeOf state (now (spt .entry)) (now («spt_dir» .entry)) (now (tsp .entry)) (now («tsp_dir» .entry))) pairs entry token «prevent_pruning» ⌝ }
+    ensures { λ r. ⌜ (pairsOutcome (r .ingested) (now (spt .exit)) (now («spt_dir» .exit)) (now (tsp .exit)) (now («tsp_dir» .exit)) (pairsOf (r .numbers)) ≡ pairsIngested field (storeOf state (now (spt .entry)) (now («spt_dir» .entry)) (now (tsp .entry)) (now («tsp_dir» .entry))) pairs entry token «prevent_pruning») × (r .count ≡ prunedCount (r .ingested .verdict)) ⌝ }
 {
     let mut lent = pairs;
     let ingested = ingest_entry(

@@ -68,7 +68,7 @@ returns c =
     let l = c .before .before .loop in
     let s = c .before .before .before in
     let n : length (s .args .t2) ≡ 1024 = s .good .1 .0 .1 .0 .1 in
-    (refl, numbers-all (s .args .t2) (replicate 2048 0) (l .numbers) (l .k) (l .inv .2) (omega (arith, length-replicate {A = ℕ} 2048 0)) (omega arith))
+    (refl, numbers-all (s .args .t2) (replicate 2048 0) (l .numbers) (l .k) (l .inv .2) (omega (arith, length-replicate {A = ℕ} 2048 0)) (omega arith), c .pruned-count .ensures)
 
 pub in-numbers-spec : {M : Type 1} → statement M
 in-numbers-spec =

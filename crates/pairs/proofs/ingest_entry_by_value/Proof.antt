@@ -56,7 +56,7 @@ use Rattle.store.proofs.state.State as S
 use Rattle.store.proofs.state.State.Laws as S′
 use Rattle.store.proofs.ingest.Ingested as I
 use Rattle.store.proofs.ingest.Ingested.Laws as I′
-use Rattle.pairs.specs.Pairs.{pairsOf, numbersOf, PairsOutcome, pairsOutcome, pairsIngested}
+use Rattle.pairs.specs.Pairs.{pairsOf, prunedCount, numbersOf, PairsOutcome, pairsOutcome, pairsIngested}
 use Rattle.pairs.specs.declared.Pair.{Pair}
 use Rattle.pairs.specs.declared.NumbersIngested.{NumbersIngested}
 use Rattle.pairs.proofs.PairLaws.{pairs-again}
@@ -83,7 +83,7 @@ Pairs = Array P.the-row 1024
 
 -- what `in_numbers` says
 abbrev Told : NumbersIngested → Ingested → List Pair → Type 0
-Told x r w = (x .ingested ≡ r) × (x .numbers ≡ numbersOf w)
+Told x r w = (x .ingested ≡ r) × (x .numbers ≡ numbersOf w) × (x .count ≡ prunedCount (x .ingested .verdict))
 
 -- and the outcome with it
 told-outcome : (x : NumbersIngested) (r : Ingested) (a b c d : List ℕ) (w : List Pair) (o : PairsOutcome) → Told x r w → pairsOutcome r a b c d w ≡ o → pairsOutcome (x .ingested) a b c d (pairsOf (x .numbers)) ≡ o
@@ -217,7 +217,7 @@ module _ {M : Type 1} (𝓤 : URA M) (H : Heap 𝓤) (A : Atoms 𝓤) (W : Given
         → ent 𝓤 (⋆ 𝓤 H A (‵ (flft κ₀ q₀) ∷ ‵ (flft κ₁ q₁) ∷ ‵ (flft κ₂ q₂) ∷ ‵ (flft κ₃ q₃) ∷ ‵ (finally u8 γ₀ z₀) ∷ ‵ (finally u32 γ₁ z₁) ∷ ‵ (finally u8 γ₂ z₂) ∷ ‵ (finally u32 γ₃ z₃) ∷ ‵ (X.the-row .own x (z ∷ [])) ∷ [])) (Post z)
     exits r x z z₀ z₁ z₂ z₃ w eq told e₀ e₁ e₂ e₃ =
         qed W (‵ (flft κ₀ q₀) ∷ ‵ (flft κ₁ q₁) ∷ ‵ (flft κ₂ q₂) ∷ ‵ (flft κ₃ q₃) ∷ ‵ (finally u8 γ₀ z₀) ∷ ‵ (finally u32 γ₁ z₁) ∷ ‵ (finally u8 γ₂ z₂) ∷ ‵ (finally u32 γ₃ z₃) ∷ ‵ (X.the-row .own x (z ∷ [])) ∷ []) ∵
-        suffices ! _ (ends-at 𝓤 H A outer.ended stayed (outer.clauses 𝓤 H A mem run) W ((lfts, (q₀, (q₁, (q₂, (q₃, tt)))), tt, a, vals), tt) z x (tt, (z₀, (z₁, (z₂, (z₃, (tt, (tt, (tt, (tt, tt))))))))) (tt, (e₀, (e₁, (e₂, (e₃, (tt, (tt, (tt, (tt, tt)))))))))) $ says ! (told-outcome x r z₀ z₁ z₂ z₃ w _ told eq) $
+        suffices ! _ (ends-at 𝓤 H A outer.ended stayed (outer.clauses 𝓤 H A mem run) W ((lfts, (q₀, (q₁, (q₂, (q₃, tt)))), tt, a, vals), tt) z x (tt, (z₀, (z₁, (z₂, (z₃, (tt, (tt, (tt, (tt, tt))))))))) (tt, (e₀, (e₁, (e₂, (e₃, (tt, (tt, (tt, (tt, tt)))))))))) $ says ! (told-outcome x r z₀ z₁ z₂ z₃ w _ told eq, told .2) $
         nothing ! $ move ! (4 ∷ 0 ∷ []) $ join ! $ move ! (3 ∷ 0 ∷ []) $ join ! $ move ! (2 ∷ 0 ∷ []) $ join ! $ move ! (1 ∷ 0 ∷ []) $ join ! $ frame ! $ nothing ! $ owned ! Boolean (Is Boolean) (bool-makes 𝓤 H A W) p _ refl $ fjoin ! $ owned ! (Array u8 64) (Is (Array u8 64)) (array-makes 𝓤 H A W u8 (uint-makes 𝓤 H A W w8) 64) tk _ is-k $ fjoin ! $ owned ! E.the-row (Is E.the-row) (LL.makes E.the-type E′.the-plain 𝓤 H A) e _ is-e $ fjoin ! $ owned ! Pairs (Is Pairs) (pairs-made W) ps _ is-p $ fjoin ! $ move ! (4 ∷ 0 ∷ []) $ fjoin ! $ move ! (3 ∷ 0 ∷ []) $ fjoin ! $ move ! (2 ∷ 0 ∷ []) $ fjoin ! $ move ! (1 ∷ 0 ∷ []) $ fjoin ! $ owned ! S.the-row (Is S.the-row) (LL.makes S.the-type S′.the-plain 𝓤 H A) s _ is-s $ fjoin ! $ frame ! $ keep ! (0 ∷ []) $ done !
 
     module _ (C : Calls 𝓤 H) (Λ : Loops 𝓤 H) (fm : FmC 𝓤 H (W .laws) C) (known-layer : Triple 𝓤 (C #layer) (Layer 𝓤 H A mem run)) (known-numbers : Triple 𝓤 (C #numbers) (Numbers 𝓤 H A mem run)) where
