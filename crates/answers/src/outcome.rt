@@ -45,3 +45,8 @@ pub fn is_yes(a: Answer) -> bool {
         Answer::Refused(_) => false,
     }
 }
+
+// Whether two ways of asking are answered differently.
+pub fn differ(a: bool, b: bool) -> bool {
+    if a { !b } else { b }
+}

@@ -1,6 +1,7 @@
 // The calls that need no store. Each function writes its answer at the front of a buffer and answers how many bytes.
 use crate::decoding::decode;
 use crate::outcome::bad;
+use crate::outcome::differ;
 use crate::outcome::is_good;
 use crate::outcome::is_yes;
 use crate::outcome::not_good;
@@ -82,8 +83,12 @@ fn order(line: &[u8], out: &mut [u8]) -> usize
     }
     let p = f.path;
     let q = g.path;
+    let prefix = is_yes(p.is_prefix_of(q));
+    if differ(prefix, is_yes(q.is_prefixed_by(p))) {
+        return bad(out);
+    }
     let at = say_order(order_word(p.cmp(q)), out);
-    if is_yes(p.is_prefix_of(q)) {
+    if prefix {
         return say(b" prefix", out, at);
     }
     at
@@ -94,6 +99,9 @@ fn say_newer(e: Entry, f: Entry, out: &mut [u8]) -> usize
 {
     let newer = is_yes(e.is_newer_than(f));
     let prunes = is_yes(e.prunes(f));
+    if differ(prunes, is_yes(f.is_pruned_by(e))) {
+        return bad(out);
+    }
     let a = say(b"newer ", out, 0);
     let b = say_bit(newer, out, a);
     let c = say(b" prunes ", out, b);

@@ -1,11 +1,20 @@
 // Listings: the places of all matches, then the record at each of them.
 use crate::lines::write_line;
+use answers::outcome::bad;
+use answers::outcome::is_yes;
 use answers::outcome::refused;
 use answers::say_entry::say_count;
 use answers::say_entry::say_lengthy;
 use calls::ask::Ask;
 use calls::ask::Question;
+use data_model::area::Area;
+use data_model::area::AreaSubspace;
+use data_model::entry::Entry;
+use data_model::path::Path;
+use data_model::range::RangeEnd;
+use data_model::range::TimesRange;
 use query::answer::Listed;
+use query::check::no_flags;
 use query::listing::query_area;
 use query::listing::query_area_place;
 use query::listing::query_range;
@@ -122,6 +131,103 @@ fn places(
     Walked { refusal: 0, n }
 }
 
+// The area that includes every entry.
+fn everything() -> Area {
+    let path = Path::new_empty();
+    Area {
+        subspace: AreaSubspace::Any,
+        path,
+        times: TimesRange {
+            start: 0,
+            end: RangeEnd::Open,
+        },
+    }
+}
+
+// Whether the question's own area or range includes an entry.
+fn includes(q: Question, e: Entry) -> bool {
+    let ask = q.ask;
+    let subspace = e.subspace_id;
+    let path = e.path;
+    if is_range(ask) {
+        let range = q.range;
+        return is_yes(range.includes_triplet(subspace, path, e.timestamp));
+    }
+    let area = q.area;
+    is_yes(area.includes_triplet(subspace, path, e.timestamp))
+}
+
+fn includes_record(state: State, q: Question, rec: &[u8]) -> bool {
+    if rec.len() < VALUE {
+        return false;
+    }
+    let n = rec.len() - VALUE;
+    let namespace = state.namespace_id;
+    let a = stored_in(KeyOrder::Spt, namespace, &rec[0..n], &rec[n..]);
+    let e = a.entry;
+    includes(q, e)
+}
+
+fn is_listed(at: &[usize], n: usize, j: usize, k: usize) -> bool {
+    if n <= j {
+        return false;
+    }
+    if at.len() <= j {
+        return false;
+    }
+    at[j] == k
+}
+
+// What is listed is included; without flags, what is included is listed.
+fn is_wrong(q: Question, listed: bool, included: bool) -> bool {
+    let ignore = q.ignore;
+    if listed {
+        return !included;
+    }
+    if ignore.ignore_incomplete_payloads {
+        return false;
+    }
+    if ignore.ignore_empty_payloads {
+        return false;
+    }
+    included
+}
+
+// Whether the places listed are those of the records that the area or range includes, asked of each record.
+fn is_right(
+    state: State,
+    spt: &[u8],
+    spt_dir: &[u32],
+    tsp: &[u8],
+    tsp_dir: &[u32],
+    q: Question,
+    at: &[usize],
+    n: usize,
+) -> bool {
+    let all = everything();
+    let ignore = no_flags();
+    let count = state.count;
+    let mut j: usize = 0;
+    let mut k: usize = 0;
+    while k < LIMIT_MOST {
+        if count <= k {
+            return true;
+        }
+        let listed = is_listed(at, n, j, k);
+        let rec = query_area(state, spt, spt_dir, tsp, tsp_dir, all, ignore, k);
+        if is_wrong(q, listed, includes_record(state, q, rec)) {
+            return false;
+        }
+        if listed {
+            j += 1;
+            k += 1;
+        } else {
+            k += 1;
+        }
+    }
+    true
+}
+
 // A record of the subspace-first tree, as a line of a list.
 fn list_record(state: State, rec: &[u8]) {
     if rec.len() < VALUE {
@@ -167,6 +273,29 @@ fn list_head(p: Walked) {
     write_line(&mut out, b);
 }
 
+fn list_bad() {
+    let mut out = [0u8; 64];
+    let a = bad(&mut out);
+    write_line(&mut out, a);
+}
+
+// A listing that was not refused, and does not go by its area or range.
+fn is_unlike(
+    state: State,
+    spt: &[u8],
+    spt_dir: &[u32],
+    tsp: &[u8],
+    tsp_dir: &[u32],
+    q: Question,
+    p: Walked,
+    at: &[usize],
+) -> bool {
+    if p.refusal != 0 {
+        return false;
+    }
+    !is_right(state, spt, spt_dir, tsp, tsp_dir, q, at, p.n)
+}
+
 fn place_buffer() -> [usize; LIMIT_MOST]
     ensures { λ r. ⌜ 1024 ≡ length r ⌝ }
 {
@@ -176,6 +305,10 @@ fn place_buffer() -> [usize; LIMIT_MOST]
 pub fn list(state: State, spt: &[u8], spt_dir: &[u32], tsp: &[u8], tsp_dir: &[u32], q: Question) {
     let mut at = place_buffer();
     let p = places(state, spt, spt_dir, tsp, tsp_dir, q, &mut at);
+    if is_unlike(state, spt, spt_dir, tsp, tsp_dir, q, p, &at) {
+        list_bad();
+        return;
+    }
     list_head(p);
     let mut k: usize = 0;
     while k < p.n {

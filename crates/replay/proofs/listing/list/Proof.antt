@@ -21,6 +21,18 @@ slice-aggregate-places c = search needs
 places-requires : tie.Need-places-requires Inv-loop μ-loop
 places-requires c κs = search needs
 
+slice-aggregate-is-unlike : tie.Need-slice-aggregate-is-unlike Inv-loop μ-loop
+slice-aggregate-is-unlike c = search needs
+
+is-unlike-requires : tie.Need-is-unlike-requires Inv-loop μ-loop
+is-unlike-requires c κs = search needs
+
+list-bad-requires : tie.Need-list-bad-requires Inv-loop μ-loop
+list-bad-requires c κs = search needs
+
+returns : tie.Need-returns Inv-loop μ-loop
+returns c = search needs
+
 list-head-requires : tie.Need-list-head-requires Inv-loop μ-loop
 list-head-requires c κs = search needs
 
@@ -42,8 +54,8 @@ loop-less c = search needs
 loop-again : tie.Need-loop-again Inv-loop μ-loop
 loop-again c = search needs
 
-returns : tie.Need-returns Inv-loop μ-loop
-returns c = search needs
+returns-2 : tie.Need-returns-2 Inv-loop μ-loop
+returns-2 c = search needs
 
 pub list-spec : {M : Type 1} → statement M
 list-spec =
@@ -54,6 +66,10 @@ list-spec =
     place-buffer-requires
     slice-aggregate-places
     places-requires
+    slice-aggregate-is-unlike
+    is-unlike-requires
+    list-bad-requires
+    returns
     list-head-requires
     loop-holds
     slice-aggregate-list-at
@@ -61,4 +77,4 @@ list-spec =
     add-k
     loop-less
     loop-again
-    returns)
+    returns-2)
