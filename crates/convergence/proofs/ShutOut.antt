@@ -1,6 +1,6 @@
 -- Each wrong store is refuted on a small history, by a clause of demand 3 or by the definition of the answer. Assumes nothing.
 use Rattle.laws.proofs.Sorted.{keep-both, keep-length}
-use Rattle.laws.proofs.Truth.{split, clash, and-true}
+use Rattle.laws.proofs.Truth.{split, clash, refute, and-true}
 use Rattle.layout.specs.Layout.{records}
 use Rattle.tree.proofs.WellFormedLaws.{well-formed}
 use Rattle.tree.proofs.RecordLaws.{contents-length}
@@ -9,7 +9,7 @@ use mathlib.Core.Logic.{⊎-elim}
 use Prim.Native.Nat.{ℕ, _+_, _<_}
 use mathlib.Core.Path.{_≡_, refl, sym, ap, subst, _∙_}
 use mathlib.Core.Bool.{false, Bool, true, not}
-use mathlib.Core.List.{List, [], _∷_, _++_, List·Memᴰ·head as here, List·Memᴰ·not-nil as none-in}
+use mathlib.Core.List.{List, [], _∷_, _++_, List·Memᴰ·head as here, List·Memᴰ·tail as there, List·Memᴰ·not-nil as none-in}
 use native.Mathlib.Omega.{arith}
 use lib.ListN.{length}
 use lib.Dec.{leb, eqb}
@@ -28,7 +28,7 @@ use Rattle.tree.specs.Matching.{inArea, isForgotten}
 use Rattle.tree.specs.declared.stored.KeyOrder.the-variants.{Spt}
 use Rattle.store.specs.Store.{Store, dirRoom, held, Held, heldBy, wellFormedStore, wellFormedTree, treeOf, dirOf, holding}
 use Rattle.store.specs.Refusal.{unless, _orElse_, storeRefusal}
-use Rattle.store.specs.Ingest.{verdictNumber, stays, refuse, ingestRefusal, judged, carried, ingested}
+use Rattle.store.specs.Ingest.{verdictNumber, stays, refuse, ingestRefusal, plainAnswer, judged, carried, ingested}
 use Rattle.store.specs.Forget.{forgetAreaRefusal, areaForgotten, without}
 use Rattle.store.specs.Open.{OpenOutcome}
 use Rattle.store.specs.declared.ingest.IngestVerdict.{IngestVerdict}
@@ -38,7 +38,7 @@ use Rattle.convergence.specs.WellFormed.{WellFormedStore}
 use Rattle.convergence.specs.Conditions.{not-well-formed, store-full, number, Condition}
 use Rattle.convergence.specs.Demand.{OpenedBy, receivesBy, Plain, Current, RefusedRight, Demand3}
 use Rattle.convergence.specs.Examples.{valueIn, tokenIn, callOf, calls, filedAs, atLimit, one, two}
-use Rattle.convergence.specs.WrongStores.{forgottenIn, CountsRight, FilesNothing, FirstOnly, FullBelow, turned, other-kind, saying, one-verdict, refuses-all, countMade, made-up-count, ShutOut}
+use Rattle.convergence.specs.WrongStores.{forgottenIn, CountsRight, FilesNothing, FirstOnly, FullBelow, turned, other-kind, saying, unfiled, files-nothing, instead, holds-one, one-verdict, refuses-all, countMade, made-up-count, ShutOut}
 use Rattle.convergence.proofs.WellFormedFacts.{well-formed-store}
 use Rattle.convergence.proofs.Stands.{Stands, stands-well, opens-stands}
 use Rattle.convergence.proofs.Computing.{computing}
@@ -46,7 +46,7 @@ use Rattle.convergence.proofs.Shown.{only}
 use Rattle.convergence.proofs.Lines.{line-value, lines-stand}
 use Rattle.convergence.proofs.RightAnswers.{right-number, right-obsolete, success-number, success-current}
 use Rattle.convergence.proofs.Openings.{opens-right}
-use Rattle.convergence.proofs.OneEntry.{s0, s1, shows-one, count-0, count-1, first-answer, second-answer, first-value, first-right, second-right}
+use Rattle.convergence.proofs.OneEntry.{s0, s1, shows-one, shows-two, count-0, count-1, first-answer, second-answer, s1-limit, first-value, first-right, second-right}
 use Rattle.convergence.proofs.Silent.{number-some, refusing-without-a-number}
 use Rattle.convergence.proofs.Ghosts.{pruning-one-tree}
 
@@ -94,15 +94,15 @@ filing-nothing m w v =
     let opened : OpenedBy m (atLimit 2) = ap (λ (r : OpenOutcome). r .answer .refusal) same ∙ shows-one .opened in
     let c = v .contents (atLimit 2) opened (calls 2 (one ∷ [])) (shows-one .values) (shows-one .ingestions) (subst Plain (sym so) one-plain) Spt in
     let k = c .exactly (filedAs one) .1 (subst (λ (R : List Stored). Current R (filedAs one)) (sym so) one-current) in
-    let left : m .leaves (m .opening (atLimit 2) .store) (callOf 2 one) ≡ s0 = w .leaves-so _ (callOf 2 one) ∙ ap (λ (r : OpenOutcome). r .store) same in
+    let left : m .leaves (m .opening (atLimit 2) .store) (callOf 2 one) ≡ s0 = w .leaves-so _ _ _ _ _ ∙ ap (λ (r : OpenOutcome). r .store) same in
     none-of (c .entries) (sym (c .count) ∙ ap (λ (s : Store). s .state .count) left ∙ count-0) k
 
 -- It files its first entry and calls the rest obsolete: the second is not.
 filing-the-first : (m : Steps) → FirstOnly m → Demand3 field m → ⊥
 filing-the-first m w v =
     let e : Event = record { before = s1; call = callOf 2 two; answered = m .answers s1 (callOf 2 two) } in
-    let r : RefusedRight field (atLimit 2) e = second-right m v (w .opens-so (atLimit 2)) (m .answers s1 (callOf 2 two)) (w .first s0 (callOf 2 one) count-0) refl in
-    let o : IsObsolete (e .answered) = w .rest s1 _ _ _ _ (λ z. let k = count-1 in omega arith) in
+    let r : RefusedRight field (atLimit 2) e = second-right m v (w .opens-so (atLimit 2)) (m .answers s1 (callOf 2 two)) (w .first s0 _ _ _ _ (success-number _ 0 first-answer) count-0) refl in
+    let o : IsObsolete (e .answered) = w .rest s1 _ _ _ _ (success-number _ 0 second-answer) (λ z. let k = count-1 in omega arith) in
     success-current (answer field s1 (callOf 2 two)) 0 second-answer (right-obsolete field e r o)
 
 well-count : (f : Figures) (s : Store) → wellFormedStore f s ≡ true → s .state .count ≡ length (held f Spt s)
@@ -130,6 +130,42 @@ full-below-the-limit m w v =
     let r = v .refused-right (w .at) (w .opened) (w .calls) (w .values) (w .event) (w .within) in
     let first = r .exactly store-full .0 (w .says) in
     first .none-before not-well-formed (omega arith) λ well. not-full (w .event .before) (w .event .call) well (w .below) (first .holds)
+
+-- There are stores of these three kinds.
+one-files-nothing : FilesNothing files-nothing
+unfolding unfiled
+one-files-nothing = record { opens-so = λ o. refl; leaves-so = λ s prune e token prevent. refl }
+
+one-files-the-first : FirstOnly (holds-one Obsolete)
+unfolding instead saying
+one-files-the-first = record {
+  opens-so = λ o. refl;
+  first = λ s prune e token prevent r z. rw (eq-eqb (s .state .count) 0 z) refl;
+  rest = λ s prune e token prevent r z. rw (refute (eqb (s .state .count) 0) (λ k. z (eqb-true (s .state .count) 0 k)), eq-eqb (refusalIn (answer field s (ingest prune e token prevent))) 0 r) refl;
+}
+
+full-says : holds-one (Refused 8) .answers s1 (callOf 2 two) ≡ of-ingest (plainAnswer (Refused 8) (s1 .state))
+unfolding instead saying
+full-says = rw (success-number (answer field s1 (callOf 2 two)) 0 second-answer, count-1) refl
+
+full-leaves : holds-one (Refused 8) .leaves s0 (callOf 2 one) ≡ s1
+full-leaves = rw count-0 refl
+
+one-is-full-below : FullBelow (holds-one (Refused 8))
+unfolding historyOf refusalIn verdictNumber number
+one-is-full-below = record {
+  at = atLimit 2;
+  opened = shows-one .opened;
+  calls = calls 2 (one ∷ two ∷ []);
+  values = shows-two .values;
+  event = record { before = s1; call = callOf 2 two; answered = of-ingest (plainAnswer (Refused 8) (s1 .state)) };
+  within = there (here λ i. record { before = sym full-leaves i; call = callOf 2 two; answered = sym so i });
+  below = let k = count-1 in let l = s1-limit in omega arith;
+  says = refl;
+}
+  where
+    so : holds-one (Refused 8) .answers (holds-one (Refused 8) .leaves s0 (callOf 2 one)) (callOf 2 two) ≡ of-ingest (plainAnswer (Refused 8) (s1 .state))
+    so = ap (λ (s : Store). holds-one (Refused 8) .answers s (callOf 2 two)) full-leaves ∙ full-says
 
 -- One verdict: the first call is taken, and one with too short a prune list is refused with 2.
 abbrev careless : Call
@@ -250,6 +286,9 @@ answering-in-another-kind v = v .answers-to s0 (callOf 2 one)
 
 pub shut-out : ShutOut
 shut-out = record {
+  one-files-nothing = one-files-nothing;
+  one-files-the-first = one-files-the-first;
+  one-is-full-below = one-is-full-below;
   counts-right = counts-right;
   filing-nothing = filing-nothing;
   filing-the-first = filing-the-first;

@@ -2,7 +2,8 @@
 use Prim.Native.Nat.{ℕ, _+_, _<_}
 use mathlib.Core.Path.{_≡_}
 use mathlib.Core.List.{List}
-use mathlib.Core.Bool.{Bool}
+use mathlib.Core.Bool.{Bool, cond}
+use lib.Dec.{eqb}
 use Rattle.laws.specs.Sorted.{_∈_, insert}
 use Rattle.data_model.specs.Path.{Figures, field}
 use Rattle.data_model.specs.Entry.{entryOf}
@@ -29,16 +30,18 @@ abbrev pub CountsRight : Steps → Type 0
 CountsRight m = (s : Store) (area : Area) (protects : Bool) (protected : Area) → refusalIn (m .answers s (forget-area area protects protected)) ≡ 0
     → forgottenIn (m .answers s (forget-area area protects protected)) + m .leaves s (forget-area area protects protected) .state .count ≡ s .state .count
 
--- It opens as ours does, and then files nothing, whatever it answers.
+-- It opens as ours does, and its ingestions file nothing, whatever it answers and however it forgets.
 pub record FilesNothing (m : Steps) : Type 0 where
   pub opens-so : (o : Opening) → m .opening o ≡ opens field o
-  pub leaves-so : (s : Store) (c : Call) → m .leaves s c ≡ s
+  pub leaves-so : (s : Store) (prune : List ℕ) (e : EntryValue) (token : List ℕ) (prevent : Bool) → m .leaves s (ingest prune e token prevent) ≡ s
 
--- It opens as ours does, files its first entry and calls the rest obsolete, whatever else it does.
+-- It opens as ours does. Of the ingestions that ours does not refuse it files the first and calls the rest obsolete, whatever else it does.
 pub record FirstOnly (m : Steps) : Type 0 where
   pub opens-so : (o : Opening) → m .opening o ≡ opens field o
-  pub first : (s : Store) (c : Call) → s .state .count ≡ 0 → m .leaves s c ≡ after field s c
-  pub rest : (s : Store) (prune : List ℕ) (e : EntryValue) (token : List ℕ) (prevent : Bool) → (s .state .count ≡ 0 → ⊥) → IsObsolete (m .answers s (ingest prune e token prevent))
+  pub first : (s : Store) (prune : List ℕ) (e : EntryValue) (token : List ℕ) (prevent : Bool) → refusalIn (answer field s (ingest prune e token prevent)) ≡ 0
+      → s .state .count ≡ 0 → m .leaves s (ingest prune e token prevent) ≡ after field s (ingest prune e token prevent)
+  pub rest : (s : Store) (prune : List ℕ) (e : EntryValue) (token : List ℕ) (prevent : Bool) → refusalIn (answer field s (ingest prune e token prevent)) ≡ 0
+      → (s .state .count ≡ 0 → ⊥) → IsObsolete (m .answers s (ingest prune e token prevent))
 
 -- In some list it refuses with 8 on a store of fewer entries than the limit.
 pub record FullBelow (m : Steps) : Type 0 where
@@ -63,6 +66,26 @@ unfoldable pub saying : IngestVerdict → Store → Call → Answer
 saying v s (ingest prune e token prevent) = of-ingest (plainAnswer v (s .state))
 saying v s (forget-entry subspace path expects digest) = answer field s (forget-entry subspace path expects digest)
 saying v s (forget-area area protects protected) = answer field s (forget-area area protects protected)
+
+-- One store of each of the three records. It files nothing, and answers and forgets as ours.
+unfoldable pub unfiled : Store → Call → Store
+unfiled s (ingest prune e token prevent) = s
+unfiled s (forget-entry subspace path expects digest) = after field s (forget-entry subspace path expects digest)
+unfiled s (forget-area area protects protected) = after field s (forget-area area protects protected)
+
+abbrev pub files-nothing : Steps
+files-nothing = record { opening = opens field; answers = answer field; leaves = unfiled }
+
+-- As ours while it is empty; then it gives this verdict to the ingestions that ours does not refuse, and files nothing.
+unfoldable pub instead : IngestVerdict → Store → Call → Answer
+instead v s c = cond (eqb (refusalIn (answer field s c)) 0) (saying v s c) (answer field s c)
+
+abbrev pub holds-one : IngestVerdict → Steps
+holds-one v = record {
+  opening = opens field;
+  answers = λ s c. cond (eqb (s .state .count) 0) (answer field s c) (instead v s c);
+  leaves = λ s c. cond (eqb (s .state .count) 0) (after field s c) (unfiled s c);
+}
 
 -- It gives one verdict to all, whatever it does: refusing everybody is one of these.
 abbrev pub one-verdict : IngestVerdict → (Store → Call → Store) → Steps
@@ -108,8 +131,11 @@ countMade n (of-area r) = of-area (record { refusal = r .refusal; state = r .sta
 abbrev pub made-up-count : ℕ → Steps
 made-up-count n = record { opening = opens field; answers = λ s c. countMade n (answer field s c); leaves = after field }
 
--- None of them is let through.
+-- None of them is let through; and of the first three there are some.
 pub record ShutOut : Type 0 where
+  pub one-files-nothing : FilesNothing files-nothing
+  pub one-files-the-first : FirstOnly (holds-one Obsolete)
+  pub one-is-full-below : FullBelow (holds-one (Refused 8))
   pub filing-nothing : (m : Steps) → FilesNothing m → Demand3 field m → ⊥
   pub filing-the-first : (m : Steps) → FirstOnly m → Demand3 field m → ⊥
   pub full-below-the-limit : (m : Steps) → FullBelow m → Demand3 field m → ⊥

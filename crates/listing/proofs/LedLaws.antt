@@ -122,15 +122,16 @@ module _ (a b c d : List ℕ) (ra : treeRoom field programLimit ≤ length a) (r
     le-leb (dirRoom programLimit) (length d) rd,
   )
 
-  pub after-lines : (r : Opened) (a′ b′ c′ d′ prune : List ℕ) → openOutcome r a′ b′ c′ d′ ≡ opening field (replicate 16 0) programLimit a b c d
+  pub after-lines : (r : Opened) (a′ b′ c′ d′ prune : List ℕ) → dirRoom programLimit ≤ length prune → openOutcome r a′ b′ c′ d′ ≡ opening field (replicate 16 0) programLimit a b c d
       → (t : Left) → Led field (leaving (r .state) a′ b′ c′ d′ prune) t → AfterLines (t .store)
   unfolding opens
-  after-lines r a′ b′ c′ d′ prune e t l = record {
+  after-lines r a′ b′ c′ d′ prune rp e t l = record {
     opening = program;
     namespace = refl;
     limit = refl;
     opened = opens-fine;
     prune = prune;
+    room = rp;
     after = t .prune;
     led = subst (λ (x : OpenOutcome). Led field (record { store = x .store; prune = prune }) t) e l;
   }

@@ -100,7 +100,7 @@ fn say_list(state: State, spt: &[u8], spt_dir: &[u32], tsp: &[u8], tsp_dir: &[u3
     io::write_all(STDOUT_FILENO, &out[..n]);
 }
 
-// The program over its buffers: the store's, with the limit's room, the prune list, the input's and the line's.
+// The program over its buffers: the store's and the prune list, with the limit's room, the input's and the line's.
 fn run(
     spt: &mut [u8],
     spt_dir: &mut [u32],
@@ -110,7 +110,7 @@ fn run(
     input: &mut [u8],
     line: &mut [u8],
 )
-    requires { ⌜ (treeRoom field programLimit ≤ length (now spt)) × (dirRoom programLimit ≤ length (now «spt_dir»)) × (treeRoom field programLimit ≤ length (now tsp)) × (dirRoom programLimit ≤ length (now «tsp_dir»)) ⌝ }
+    requires { ⌜ (treeRoom field programLimit ≤ length (now spt)) × (dirRoom programLimit ≤ length (now «spt_dir»)) × (treeRoom field programLimit ≤ length (now tsp)) × (dirRoom programLimit ≤ length (now «tsp_dir»)) × (dirRoom programLimit ≤ length (now prune)) ⌝ }
 {
     let o = open([0; 16], LIMIT, spt, spt_dir, tsp, tsp_dir);
     let opened = o.state;

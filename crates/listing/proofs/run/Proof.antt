@@ -16,7 +16,7 @@ say-list-requires c κs =
     let o = (c .before .before .before .before .before .before .before .before .before .before .before .before .before .before .before .before .before .before .before .before .before .before .before .before .before .before .before .before .before .before .before .before .before .before .before) .«open» in
     let a = c .before .before .before .before .before .before .before .before .before .before .before .before .before .before .before .before .before .before .answer-lines in
     after-lines (p .args .spt .now) (p .args .«spt-dir» .now) (p .args .tsp .now) (p .args .«tsp-dir» .now) (p .pre .0) (p .pre .1) (p .pre .2) (p .pre .3)
-    (o .result) _ _ _ _ _ (o .ensures) _ (a .ensures)
+    (o .result) _ _ _ _ (p .args .prune .now) (p .pre .4) (o .ensures) _ (a .ensures)
 
 same-length : tie.Need-same-length
 same-length c = search needs
