@@ -1,5 +1,5 @@
 -- What is in the pairs afterwards, in 01's words: a success says how many pairs were pruned and writes them over those lent, no other
--- outcome writes any, and pairs fewer than the limit, and no others, are refused with 2. Assumes nothing.
+-- outcome writes any; with a right limit, pairs fewer than it are refused with 2, and never where pairs and buffers have room. Assumes nothing.
 use Prim.Native.Nat.{ℕ, _≤_, _<_}
 use mathlib.Core.Path.{_≡_, refl, sym, ap, _∙_}
 use mathlib.Core.List.{List}
