@@ -92,7 +92,7 @@ fn to_end(k: &[u8], at: usize, w: usize) -> usize
 
 // Whether all bytes but the last `after` are a path, in stretches of 32 and with no look at single tokens. Where each 00 stands before a 01 or a 02
 // it begins a token, so the bytes that are not 00, less a 01 for each end, are those of the components. A component counts with the
-// whole of the stretch in which it begins, and with the whole of the last one: a path may be missed if that comes to more than a component's bytes.
+// whole of the stretch in which it begins, and with the whole of the last one: a path with a component of 32 bytes or more may be missed.
 fn shows_path(k: &[u8], after: usize) -> bool
     requires { ⌜ after ≤ 8 ⌝ }
     ensures { λ r. ⌜ (r ≡ true → Takes (readPath field (now (k .entry))) (length (now (k .entry)) - after)) ⌝ }
