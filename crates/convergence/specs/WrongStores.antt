@@ -1,0 +1,181 @@
+-- What demand 3 shuts out: kinds of stores, each refuted of every member, with one that there is; and stores that are as ours but for one flaw, each with the
+-- clause of demand 3 that it breaks. `shut-out` proves it.
+use Prim.Native.Nat.{ℕ, suc, _+_, _<_}
+use mathlib.Core.Path.{_≡_}
+use mathlib.Core.List.{List, [], _∷_, map, _++_}
+use mathlib.Core.Bool.{Bool, true, false, cond}
+use mathlib.Core.Option.{some}
+use lib.ListN.{length, replicate, take, drop}
+use lib.Dec.{eqb}
+use Rattle.laws.specs.Sorted.{_∈_, keep, insert, Ascends}
+use Rattle.layout.specs.Layout.{treeBytes, dirNumbers}
+use Rattle.data_model.specs.Path.{field}
+use Rattle.data_model.specs.Entry.{entryOf}
+use Rattle.tree.specs.Stored.{Stored, recordOf, keyBelow}
+use Rattle.tree.specs.declared.stored.KeyOrder.{KeyOrder}
+use Rattle.tree.specs.declared.stored.KeyOrder.the-variants.{Spt, Tsp}
+use Rattle.store.specs.Store.{Store, storeOf, treeRoom, dirRoom, treeOf, dirOf, held, Held, heldBy, holding}
+use Rattle.store.specs.Open.{nothing}
+use Rattle.store.specs.Ingest.{filing, sptLess, tspLess, stays, filedIn, filed, stateWith}
+use Rattle.call_laws.specs.Calls.{Opening, Ingestion, AreaForgetting, Call, ingest, forget-entry, forget-area, filedAs, forgets, Verdict, refused, obsolete, done}
+use Rattle.call_laws.specs.Checks.{OpeningVerdictRight}
+use Rattle.call_laws.specs.Outcomes.{Outcome, outcome, opens}
+use Rattle.convergence.specs.Demand.{Machine, ours, Event, afterAll, receiptOf, notRefused, Run, throughout, events, end, Exactly, Demand3}
+use Rattle.convergence.specs.Examples.{atLimit, one, two, later, other-token}
+
+abbrev pub AStore : Type 0
+AStore = Machine Opening Store
+
+-- It opens one of limit 2; what a run of it leaves; and what happens in some run of it.
+abbrev pub OpensTwo : AStore → Type 0
+OpensTwo m = m .opening (atLimit 2) .verdict ≡ done
+
+abbrev pub Reached : AStore → Store → Type 0
+Reached m s = (r : Run (throughout field) m) × (end r ≡ s)
+
+abbrev pub Happens : AStore → (Event Store → Type 0) → Type 0
+Happens m P = (r : Run (throughout field) m) × (e : Event Store) × e ∈ events r × P e
+
+-- Kinds of stores. Its ingestions write nothing in a tree, whatever it answers, counts or forgets.
+abbrev pub FilesNothing : AStore → Type 0
+FilesNothing m = (s : Store) → Reached m s → (i : Ingestion) (k : KeyOrder) → treeOf field k (m .call s (ingest i) .store) ≡ treeOf field k s
+
+-- It calls obsolete all that comes after its first entry and would not be refused.
+abbrev pub FirstOnly : AStore → Type 0
+FirstOnly m = (s : Store) → Reached m s → (i : Ingestion) → (s .state .count ≡ 0 → ⊥) → notRefused (outcome field s (ingest i) .verdict) ≡ true → m .call s (ingest i) .verdict ≡ obsolete
+
+-- It says 8 although fewer than the limit are left after pruning.
+abbrev pub FullBelow : AStore → Type 0
+FullBelow m = (i : Ingestion)
+    × Happens m λ e. (e .call ≡ ingest i) × (e .outcome .verdict ≡ refused 8) × (length (keep (stays (entryOf (i .entry))) (held field Spt (e .before))) < e .before .state .limit)
+
+-- It refuses every call; it has one verdict for all ingestions.
+abbrev pub RefusesAll : AStore → Type 0
+RefusesAll m = (s : Store) → Reached m s → (c : Call) → notRefused (m .call s c .verdict) ≡ false
+
+abbrev pub OneVerdict : AStore → Type 0
+OneVerdict m = (v : Verdict) × ((s : Store) → Reached m s → (i : Ingestion) → m .call s (ingest i) .verdict ≡ v)
+
+-- It forgets nothing, whatever it says; it forgets what the subspace-first tree holds, and not the other.
+abbrev pub ForgetsNothing : AStore → Type 0
+ForgetsNothing m = (s : Store) → Reached m s → (c : Call) (p : Stored → Bool) → forgets c ≡ some p → m .call s c .store ≡ s
+
+abbrev pub ForgetsOneTree : AStore → Type 0
+ForgetsOneTree m = (s : Store) → Reached m s → (c : Call) (p : Stored → Bool) → forgets c ≡ some p
+    → (m .call s c .store .state ≡ outcome field s c .store .state) × (treeOf field Tsp (m .call s c .store) ≡ treeOf field Tsp s)
+
+-- An area's forgetting is done, and its number with what is then left is not what there was.
+abbrev pub MadeUpCount : AStore → Type 0
+MadeUpCount m = (a : AreaForgetting)
+    × Happens m λ e. (e .call ≡ forget-area a) × (e .outcome .verdict ≡ done) × (e .outcome .number + e .outcome .store .state .count ≡ e .before .state .count → ⊥)
+
+-- It changes the store though the call is refused; it opens a store of limit 0.
+abbrev pub ChangesRefused : AStore → Type 0
+ChangesRefused m = Happens m λ e. (notRefused (e .outcome .verdict) ≡ false) × (e .outcome .store ≡ e .before → ⊥)
+
+abbrev pub OpensNone : AStore → Type 0
+OpensNone m = m .opening (atLimit 0) .verdict ≡ done
+
+-- One of each: it has this verdict and number for all and does nothing; it is as ours until it holds something; as ours, but it forgets nothing, or in one tree,
+-- or forgets all when it is refused.
+abbrev pub always : Verdict → ℕ → AStore
+always v n = record { opening = opens field; call = λ s c. record { verdict = v; number = n; store = s } }
+
+abbrev pub until-one : AStore
+until-one = record { opening = opens field; call = λ s c. cond (eqb (s .state .count) 0) (outcome field s c) (record { verdict = obsolete; number = 0; store = s }) }
+
+-- As ours, but for the store that a call leaves.
+abbrev pub leaving : (Store → Call → Outcome Store → Store) → AStore
+leaving g = record { opening = opens field; call = λ s c. let o = outcome field s c in record { verdict = o .verdict; number = o .number; store = g s c o } }
+
+-- The one kind of call, or the other.
+unfoldable pub onForgetting : {A : Type 0} → Call → A → A → A
+onForgetting (ingest i) a b = b
+onForgetting (forget-entry p) a b = a
+onForgetting (forget-area x) a b = a
+
+abbrev pub idle : AStore
+idle = leaving λ s c o. onForgetting c s (o .store)
+
+abbrev pub haunted : AStore
+haunted = leaving λ s c o. onForgetting c (storeOf (o .store .state) (o .store .spt) (o .store .sptDir) (s .tsp) (s .tspDir)) (o .store)
+
+abbrev pub wiping : AStore
+wiping = leaving λ s c o. cond (notRefused (o .verdict)) (o .store) (holding field nothing s)
+
+abbrev pub opening-all : AStore
+opening-all = record { opening = λ o. record { verdict = done; number = 0; store = opens field o .store }; call = outcome field }
+
+-- As ours, but for what an ingestion that is done leaves.
+unfoldable pub ifDone : {A : Type 0} → Verdict → A → A → A
+ifDone (refused n) a b = b
+ifDone obsolete a b = b
+ifDone done a b = a
+
+unfoldable pub instead : (Ingestion → Store → Store) → Store → Call → Outcome Store → Store
+instead g s (ingest i) o = ifDone (o .verdict) (g i s) s
+instead g s (forget-entry p) o = o .store
+instead g s (forget-area a) o = o .store
+
+-- One thing wrong with what it leaves; all but the first two by what the trees are made to hold.
+pub data Flaw : Type 0 where
+  counts-only leaves-bytes loses-token available-1 prunes-nothing prunes-one-tree in-order-of-arrival : Flaw
+
+abbrev pub makes : (Stored → Held → Held) → Ingestion → Store → Store
+makes g i s = holding field (g (filedAs i) (heldBy field s)) s
+
+unfoldable pub flawed : Flaw → Ingestion → Store → Store
+flawed counts-only i s = storeOf (stateWith (s .state) (suc (s .state .count))) (s .spt) (s .sptDir) (s .tsp) (s .tspDir)
+flawed leaves-bytes i s = let t = makes filed i s in storeOf (t .state) (take 200 (t .spt) ++ 1 ∷ drop 201 (t .spt)) (t .sptDir) (t .tsp) (t .tspDir)
+flawed loses-token i s = makes (λ x h. filed (filing (x .entry) (replicate 64 0)) h) i s
+flawed available-1 i s = makes (λ x h. filed (record { entry = x .entry; token = x .token; available = 1 }) h) i s
+flawed prunes-nothing i s = makes (λ x h. record { spt = insert sptLess x (h .spt); tsp = insert tspLess x (h .tsp) }) i s
+flawed prunes-one-tree i s = makes (λ x h. record { spt = filedIn Spt x (h .spt); tsp = insert tspLess x (h .tsp) }) i s
+flawed in-order-of-arrival i s = makes (λ x h. record { spt = filedIn Spt x (h .spt); tsp = keep (stays (x .entry)) (h .tsp) ++ x ∷ [] }) i s
+
+abbrev pub with-flaw : Flaw → AStore
+with-flaw w = leaving (instead (flawed w))
+
+-- What it leaves of a store of limit 2 after these.
+abbrev pub leaves : Flaw → List Ingestion → Store
+leaves w handed = afterAll (with-flaw w) (opens field (atLimit 2) .store) (map ingest handed)
+
+-- The clause of `Contents` that each of them breaks, all of it having been received.
+pub record Broken : Type 0 where
+  pub counts-only : Exactly (held field Spt (leaves counts-only (one ∷ []))) (map receiptOf (one ∷ [])) → ⊥
+  pub leaves-bytes : let s = leaves leaves-bytes (one ∷ []) in treeOf field Spt s ≡ treeBytes (treeRoom field 2) (map (recordOf Spt) (held field Spt s)) → ⊥
+  pub loses-token : Exactly (held field Spt (leaves loses-token (other-token ∷ []))) (map receiptOf (other-token ∷ [])) → ⊥
+  pub available-1 : ((x : Stored) → x ∈ held field Spt (leaves available-1 (one ∷ [])) → x .available ≡ 0) → ⊥
+  pub prunes-nothing : Exactly (held field Spt (leaves prunes-nothing (one ∷ later ∷ []))) (map receiptOf (one ∷ later ∷ [])) → ⊥
+  pub prunes-one-tree : let s = leaves prunes-one-tree (one ∷ later ∷ []) in dirOf Tsp s ≡ dirNumbers (dirRoom 2) (map (recordOf Tsp) (held field Tsp s)) → ⊥
+  pub in-order-of-arrival : Ascends keyBelow (map (recordOf Tsp) (held field Tsp (leaves in-order-of-arrival (one ∷ two ∷ [])))) → ⊥
+
+abbrev pub Refuted : AStore → Type 0
+Refuted m = Demand3 (throughout field) m → ⊥
+
+pub record ShutOut : Type 0 where
+  pub filing-nothing : (m : AStore) → OpensTwo m → FilesNothing m → Refuted m
+  pub filing-the-first : (m : AStore) → OpensTwo m → FirstOnly m → Refuted m
+  pub full-below : (m : AStore) → FullBelow m → Refuted m
+  pub refusing-everybody : (m : AStore) → OpensTwo m → RefusesAll m → Refuted m
+  pub one-verdict : (m : AStore) → OpensTwo m → OneVerdict m → Refuted m
+  pub forgetting-nothing : (m : AStore) → OpensTwo m → ForgetsNothing m → Refuted m
+  pub forgetting-one-tree : (m : AStore) → OpensTwo m → ForgetsOneTree m → Refuted m
+  pub made-up-count : (m : AStore) → MadeUpCount m → Refuted m
+  pub changing-refused : (m : AStore) → ChangesRefused m → Refuted m
+  pub opening-none : (m : AStore) → OpensNone m → Refuted m
+  -- With demand 1: it opens nothing.
+  pub opening-nothing : (m : AStore) → ((o : Opening) → m .opening o .verdict ≡ done → ⊥) → ((o : Opening) → OpeningVerdictRight field o (m .opening o .verdict)) → ⊥
+  -- There are such, and others that are as ours but for one thing.
+  pub one-files-nothing : OpensTwo (with-flaw counts-only) × FilesNothing (with-flaw counts-only)
+  pub one-files-the-first : OpensTwo until-one × FirstOnly until-one
+  pub one-is-full-below : FullBelow (always (refused 8) 0)
+  pub one-refuses-everybody : (n : ℕ) → OpensTwo (always (refused n) 0) × RefusesAll (always (refused n) 0)
+  pub one-has-one-verdict : (v : Verdict) → OpensTwo (always v 0) × OneVerdict (always v 0)
+  pub one-forgets-nothing : OpensTwo idle × ForgetsNothing idle
+  pub one-forgets-one-tree : OpensTwo haunted × ForgetsOneTree haunted
+  pub one-makes-it-up : MadeUpCount (always done 1)
+  pub one-changes-refused : ChangesRefused wiping
+  pub one-opens-none : OpensNone opening-all
+  pub broken : Broken
+  pub having-a-flaw : (w : Flaw) → Refuted (with-flaw w)
