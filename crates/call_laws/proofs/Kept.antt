@@ -1,13 +1,11 @@
 -- A verdict is given only where its case holds; and every call on a well-formed store of bytes, by values, leaves a well-formed store. Assumes nothing.
-use Prim.Native.Nat.{ℕ, _<_}
+use Prim.Native.Nat.{ℕ}
 use mathlib.Core.Path.{_≡_, refl, sym, ap, subst, _∙_}
 use mathlib.Core.Logic.{_⊎_, inl, inr, ⊎-elim}
-use mathlib.Core.Bool.{true, false}
+use mathlib.Core.Bool.{true}
 use mathlib.Core.List.{List, [], _∷_}
 use lib.ListN.{getD}
-use native.Mathlib.Omega.{arith}
-use Rattle.laws.specs.Sorted.{_∈_}
-use Rattle.laws.proofs.Truth.{split, clash, not-true}
+use Rattle.laws.proofs.Truth.{split}
 use Rattle.data_model.specs.Path.{Figures}
 use Rattle.key_laws.specs.Bytes.{Bytes}
 use Rattle.tree.specs.declared.stored.KeyOrder.{KeyOrder}
@@ -18,7 +16,6 @@ use Rattle.store.proofs.WellStore.{held-fit, held-bears}
 use Rattle.call_laws.specs.Calls.{Call, ingest, forget-entry, forget-area, input, Verdict, refused, obsolete, done, IsValue}
 use Rattle.call_laws.specs.Checks.{Case, limit-outside, short-buffer, not-well-formed, illegal-path, other-namespace, outdated, prevented, full, other-digest, verdictOf, checks, Holds, Decides, VerdictRight}
 use Rattle.call_laws.specs.Outcomes.{outcome}
-use Rattle.call_laws.proofs.WellFormedFacts.{well-formed-store}
 use Rattle.call_laws.proofs.Checked.{limit-test, buffers-test, right}
 use Rattle.call_laws.proofs.Stands.{Stands, stands-well, stands-after}
 use Rattle.call_laws.proofs.Right.{refused-done, call-right}

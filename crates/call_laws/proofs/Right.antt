@@ -1,9 +1,9 @@
 -- What our calls answer and leave is right, on any store; what an opening makes; and what forgetting leaves of a store that stands. Assumes nothing.
 use Prim.Native.Nat.{ℕ}
 use mathlib.Core.Path.{_≡_, refl, sym, ap, subst, _∙_}
-use mathlib.Core.Bool.{Bool, true, false}
-use mathlib.Core.List.{List, []}
-use mathlib.Core.Option.{some, none}
+use mathlib.Core.Bool.{Bool}
+use mathlib.Core.List.{[]}
+use mathlib.Core.Option.{some}
 use native.Mathlib.Omega.{arith}
 use lib.ListN.{length}
 use lib.Dec.{eqb}
@@ -17,7 +17,7 @@ use Rattle.store.specs.Store.{Store, held, heldBy}
 use Rattle.store.specs.Open.{nothing, openRefusal}
 use Rattle.store.specs.Forget.{without}
 use Rattle.store.proofs.Lifted.{listOf, held-in}
-use Rattle.call_laws.specs.Calls.{Opening, Ingestion, Call, ingest, forgets, counted, Verdict, refused, obsolete, done, numberVerdict}
+use Rattle.call_laws.specs.Calls.{Opening, Ingestion, Call, ingest, forgets, counted, Verdict, refused, obsolete, done}
 use Rattle.call_laws.specs.Checks.{asked}
 use Rattle.call_laws.specs.Outcomes.{Outcome, outcome, opens, CallRight, OpeningRight}
 use Rattle.call_laws.proofs.WellFormedFacts.{well-formed-store}

@@ -1,5 +1,5 @@
 -- 01, "When a call says no, in checking order": what each call looks for, in which order, and in words where each case holds.
-use Prim.Native.Nat.{ℕ, _≤_, _<_}
+use Prim.Native.Nat.{_≤_, _<_}
 use mathlib.Core.Path.{_≡_}
 use mathlib.Core.List.{List, [], _∷_}
 use mathlib.Core.Bool.{true, false}

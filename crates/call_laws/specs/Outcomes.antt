@@ -1,7 +1,7 @@
 -- What our calls answer and leave, by the definitions that the contracts cite, and what is right of it: demand 1, of each call on any store, well-formed or not.
 use Prim.Native.Nat.{ℕ}
 use mathlib.Core.Path.{_≡_}
-use mathlib.Core.List.{List, []}
+use mathlib.Core.List.{[]}
 use mathlib.Core.Bool.{true}
 use lib.ListN.{length, replicate}
 use Rattle.laws.specs.Lists.{put}

@@ -1,10 +1,10 @@
 -- Stores that are as ours but for one flaw, each refuted by the clause of `Contents` that it breaks, on a small run that is computed. Assumes nothing.
-use Prim.Native.Nat.{ℕ, _^_}
+use Prim.Native.Nat.{ℕ}
 use mathlib.Core.Path.{_≡_, refl, sym, ap, subst, _∙_}
 use mathlib.Core.List.{List, [], _∷_, map, List·Memᴰ·head as here, List·Memᴰ·tail as there}
 use mathlib.Core.Bool.{true}
 use native.Mathlib.Omega.{arith}
-use lib.ListN.{length, replicate, getD}
+use lib.ListN.{replicate, getD}
 use Rattle.laws.specs.Sorted.{_∈_, all, Ascends}
 use Rattle.laws.proofs.Truth.{clash}
 use Rattle.layout.specs.Layout.{treeBytes, dirNumbers}
@@ -24,13 +24,13 @@ use Rattle.call_laws.specs.Outcomes.{Outcome, outcome, opens}
 use Rattle.call_laws.proofs.Did.{so, Did, was-refused, was-obsolete, has-filed, has-forgotten, did}
 use Rattle.call_laws.proofs.Stands.{opened-store}
 use Rattle.call_laws.proofs.Right.{refused-done, obsolete-done, not-forgets}
-use Rattle.convergence.specs.Demand.{ours, Event, history, afterAll, Receipt, receiptOf, notRefused, receipts, received, Run, throughout, events, end, Plain, Current, receiptIn, Exactly, Contents, Demand3}
+use Rattle.convergence.specs.Demand.{ours, history, afterAll, Receipt, receiptOf, notRefused, receipts, received, Run, throughout, events, Plain, Current, receiptIn, Exactly, Contents, Demand3}
 use Rattle.convergence.specs.Examples.{atLimit, one, two, later, other-token}
 use Rattle.convergence.specs.WrongStores.{ifDone, instead, Flaw, counts-only, leaves-bytes, loses-token, available-1, prunes-nothing, prunes-one-tree, in-order-of-arrival, makes, flawed, with-flaw, leaves, Broken, Refuted}
 use Rattle.convergence.proofs.Examined.{verdictIn}
 use Rattle.convergence.proofs.Computing.{computing, reading}
 use Rattle.convergence.proofs.Lines.{fine, lines-values, lines-gather, opens-fine, computed}
-use Rattle.convergence.proofs.Shown.{only, tokens-one, mayTie, noneMayTie, ties-none, current-by}
+use Rattle.convergence.proofs.Shown.{only, tokens-one, mayTie, noneMayTie, ties-none}
 
 pub ok-2 : limitOk 2 ≡ true
 unfolding limitOk

@@ -20,7 +20,7 @@ use Rattle.store.specs.Ingest.{filing, sptLess, tspLess, stays, filedIn, filed,
 use Rattle.call_laws.specs.Calls.{Opening, Ingestion, AreaForgetting, Call, ingest, forget-entry, forget-area, filedAs, forgets, Verdict, refused, obsolete, done}
 use Rattle.call_laws.specs.Checks.{OpeningVerdictRight}
 use Rattle.call_laws.specs.Outcomes.{Outcome, outcome, opens}
-use Rattle.convergence.specs.Demand.{Machine, ours, Event, afterAll, receiptOf, notRefused, Run, throughout, events, end, Exactly, Demand3}
+use Rattle.convergence.specs.Demand.{Machine, Event, afterAll, receiptOf, notRefused, Run, throughout, events, end, Exactly, Demand3}
 use Rattle.convergence.specs.Examples.{atLimit, one, two, later, other-token}
 
 abbrev pub AStore : Type 0
