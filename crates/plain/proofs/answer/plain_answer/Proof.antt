@@ -1,3 +1,4 @@
+-- `plain_answer` meets its contract: a case each. Assumes nothing.
 use borrow.Author.Needs.{needs}
 use Rattle.plain.proofs.answer.plain_answer.Statement.{statement}
 use Rattle.plain.proofs.answer.plain_answer.Tie as tie

@@ -1,3 +1,4 @@
+-- `plain_compared` meets its contract: a case each. Assumes nothing.
 use borrow.Author.Needs.{needs}
 use Rattle.plain.proofs.answer.plain_compared.Statement.{statement}
 use Rattle.plain.proofs.answer.plain_compared.Tie as tie

@@ -1,3 +1,4 @@
+-- `plain_encoded` meets its contract: a case each. Assumes nothing.
 use borrow.Author.Needs.{needs}
 use Rattle.plain.proofs.answer.plain_encoded.Statement.{statement}
 use Rattle.plain.proofs.answer.plain_encoded.Tie as tie

@@ -1,3 +1,4 @@
+-- `plain_ingested` meets its contract: a case each. Assumes nothing.
 use borrow.Author.Needs.{needs}
 use Rattle.plain.proofs.answer.plain_ingested.Statement.{statement}
 use Rattle.plain.proofs.answer.plain_ingested.Tie as tie

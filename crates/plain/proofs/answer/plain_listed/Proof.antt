@@ -1,3 +1,4 @@
+-- `plain_listed` meets its contract: a case each. Assumes nothing.
 use borrow.Author.Needs.{needs}
 use Rattle.plain.proofs.answer.plain_listed.Statement.{statement}
 use Rattle.plain.proofs.answer.plain_listed.Tie as tie

@@ -1,3 +1,4 @@
+-- `plain_numbers` meets its contract: the answer inside is told. Assumes nothing.
 use borrow.Author.Needs.{needs}
 use Rattle.plain.proofs.answer.plain_numbers.Statement.{statement}
 use Rattle.plain.proofs.answer.plain_numbers.Tie as tie

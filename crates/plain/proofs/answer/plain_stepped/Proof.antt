@@ -1,3 +1,4 @@
+-- `plain_stepped` meets its contract: a case each. Assumes nothing.
 use borrow.Author.Needs.{needs}
 use Rattle.plain.proofs.answer.plain_stepped.Statement.{statement}
 use Rattle.plain.proofs.answer.plain_stepped.Tie as tie

@@ -1,3 +1,4 @@
+-- `area_of` meets its contract: subspace and times are read. Assumes nothing.
 use borrow.Author.Needs.{needs}
 use Rattle.plain.proofs.input.area_of.Statement.{statement}
 use Rattle.plain.proofs.input.area_of.Tie as tie

@@ -1,3 +1,4 @@
+-- `ignore_of` meets its contract: both flags are read. Assumes nothing.
 use borrow.Author.Needs.{needs}
 use Rattle.plain.proofs.input.ignore_of.Statement.{statement}
 use Rattle.plain.proofs.input.ignore_of.Tie as tie

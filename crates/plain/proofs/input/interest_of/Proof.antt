@@ -1,3 +1,4 @@
+-- `interest_of` meets its contract: the area is read. Assumes nothing.
 use borrow.Author.Needs.{needs}
 use Rattle.plain.proofs.input.interest_of.Statement.{statement}
 use Rattle.plain.proofs.input.interest_of.Tie as tie

@@ -1,3 +1,4 @@
+-- `paths_of` meets its contract: the flag is read. Assumes nothing.
 use borrow.Author.Needs.{needs}
 use Rattle.plain.proofs.input.paths_of.Statement.{statement}
 use Rattle.plain.proofs.input.paths_of.Tie as tie

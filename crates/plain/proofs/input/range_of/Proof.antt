@@ -1,3 +1,4 @@
+-- `range_of` meets its contract: its three ranges are read. Assumes nothing.
 use borrow.Author.Needs.{needs}
 use Rattle.plain.proofs.input.range_of.Statement.{statement}
 use Rattle.plain.proofs.input.range_of.Tie as tie

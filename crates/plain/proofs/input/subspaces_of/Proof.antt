@@ -1,3 +1,4 @@
+-- `subspaces_of` meets its contract: the flag decides. Assumes nothing.
 use mathlib.Core.Path.{sym, ap, _∙_}
 use borrow.Author.Needs.{needs}
 use Rattle.plain.proofs.input.subspaces_of.Statement.{statement}

@@ -1,3 +1,4 @@
+-- `times_of` meets its contract: the flag decides. Assumes nothing.
 use mathlib.Core.Path.{_≡_, sym, ap, _∙_}
 use borrow.Author.Needs.{needs}
 use Rattle.plain.proofs.input.times_of.Statement.{statement}

@@ -1,3 +1,4 @@
+-- `plain_part` meets its contract: the pair of a match names its record, and there is none without a match. Assumes nothing.
 use Rattle.store.specs.Store.{dirRoom}
 use Rattle.plain.proofs.PartLaws.{match-there, finished-there, refused-there}
 use native.Mathlib.Omega.{arith}

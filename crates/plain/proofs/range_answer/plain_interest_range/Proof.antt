@@ -1,3 +1,4 @@
+-- `plain_interest_range` meets its contract: the range is told. Assumes nothing.
 use borrow.Author.Needs.{needs}
 use Rattle.plain.proofs.range_answer.plain_interest_range.Statement.{statement}
 use Rattle.plain.proofs.range_answer.plain_interest_range.Tie as tie

@@ -1,3 +1,4 @@
+-- `plain_paths` meets its contract: the yes or no is told. Assumes nothing.
 use borrow.Author.Needs.{needs}
 use Rattle.plain.proofs.range_answer.plain_paths.Statement.{statement}
 use Rattle.plain.proofs.range_answer.plain_paths.Tie as tie

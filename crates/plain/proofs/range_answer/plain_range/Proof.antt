@@ -1,3 +1,4 @@
+-- `plain_range` meets its contract: its three ranges are told. Assumes nothing.
 use borrow.Author.Needs.{needs}
 use Rattle.plain.proofs.range_answer.plain_range.Statement.{statement}
 use Rattle.plain.proofs.range_answer.plain_range.Tie as tie

@@ -1,3 +1,4 @@
+-- `plain_times` meets its contract: a case each. Assumes nothing.
 use borrow.Author.Needs.{needs}
 use Rattle.plain.proofs.range_answer.plain_times.Statement.{statement}
 use Rattle.plain.proofs.range_answer.plain_times.Tie as tie

@@ -1,3 +1,4 @@
+-- `write_rows` meets its contract: after k turns the rows hold k pairs. Assumes nothing.
 use Prim.Native.Nat.{_-_, _≤_}
 use mathlib.Core.Path.{_≡_, refl, ap, _∙_}
 use mathlib.Core.List.{map}
