@@ -15,6 +15,7 @@ ghost use Rattle.data_model.specs.Path.{field, legal, components, pathOf
 ghost use Rattle.data_model.specs.Above.{above, aboveFound, raisedAt, RaisesByte};
 
 // Refusal 0 and whether there is such a path, and it; or the refusal and all else 0.
+#[repr(C)]
 pub struct Above {
     pub refusal: u8,
     pub found: bool,

@@ -21,6 +21,7 @@ pub struct Rank {
     pub payload_length: u64,
 }
 
+#[repr(C)]
 pub struct Entry {
     pub namespace_id: [u8; 16],
     pub subspace_id: Subspace,

@@ -7,6 +7,7 @@ ghost use mathlib.Core.Path.{_≡_};
 ghost use Rattle.data_model.specs.Refusal.{ordered};
 ghost use Rattle.data_model.specs.Subspace.{sameSubspace, bySubspace, nextSubspace};
 
+#[repr(C)]
 pub struct Subspace {
     pub high: u64,
     pub low: u64,

@@ -22,6 +22,7 @@ pub const MCC: usize = 8;
 pub const MPL: usize = 128;
 
 // The component ends, of which the first `count` count, cut the bytes; what lies behind is never looked at.
+#[repr(C)]
 pub struct Path {
     pub bytes: [u8; MPL],
     pub ends: [usize; MCC],

@@ -44,6 +44,7 @@ pub struct ComponentRead {
 }
 
 // A path and the position behind it.
+#[repr(C)]
 pub struct PathRead {
     pub refusal: u8,
     pub path: Path,
@@ -51,6 +52,7 @@ pub struct PathRead {
 }
 
 // What a key stands for: refusal 0 and it, or the refusal and all else 0.
+#[repr(C)]
 pub struct Decoded {
     pub refusal: u8,
     pub subspace: Subspace,

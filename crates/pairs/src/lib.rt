@@ -16,6 +16,7 @@ ghost use Rattle.store.specs.Ingest.{ingestOutcome, ingested};
 ghost use Rattle.pairs.specs.Pairs.{pairsOf, numbersOf, prunedCount, numbersUsed, pairsOutcome, pairsIngested};
 
 // Offset and length of a record.
+#[repr(C)]
 pub struct Pair {
     pub offset: u32,
     pub length: u32,
@@ -52,7 +53,7 @@ fn numbers_used(pairs: usize) -> usize
 }
 
 // The core, on as many numbers as the pairs have room for: its refusal 2 is theirs.
-fn ingest_with_room(
+pub fn ingest_with_room(
     state: State,
     spt: &mut [u8],
     spt_dir: &mut [u32],

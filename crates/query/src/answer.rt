@@ -3,6 +3,7 @@ use data_model::range_3d::Range3d;
 use tree::stored::LengthyAuthorisedEntry;
 
 // Refusal 0, whether there is an entry, and it with its token and available length; all else 0 where there is none or the call is refused.
+#[repr(C)]
 pub struct EntryFound {
     pub refusal: u8,
     pub found: bool,
@@ -17,6 +18,7 @@ pub enum Listed {
 }
 
 // Refusal 0 and the count; or the refusal and 0.
+#[repr(C)]
 pub struct Counted {
     pub refusal: u8,
     pub count: usize,

@@ -29,12 +29,14 @@ ghost use Rattle.store.specs.Change.{inTree};
 ghost use Rattle.store.specs.Forget.{unexpected, forgetEntryRefusal, forgetEntryOutcome, entryForgotten, forgetAreaRefusal, forgetAreaOutcome, areaForgotten};
 
 // Refusal 0 and the state; or the refusal and the state that was handed in.
+#[repr(C)]
 pub struct EntryForgotten {
     pub refusal: u8,
     pub state: State,
 }
 
 // The same, with how many entries were forgotten.
+#[repr(C)]
 pub struct AreaForgotten {
     pub refusal: u8,
     pub state: State,

@@ -21,6 +21,7 @@ pub const FULL: u8 = 8;
 
 pub const OTHER_DIGEST: u8 = 9;
 
+#[repr(C)]
 pub struct State {
     pub namespace_id: [u8; 16],
     pub count: usize,
@@ -28,6 +29,7 @@ pub struct State {
 }
 
 // Refusal 0 and the state; or the refusal and a state that is all 0.
+#[repr(C)]
 pub struct Opened {
     pub refusal: u8,
     pub state: State,

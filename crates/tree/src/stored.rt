@@ -37,6 +37,7 @@ pub enum KeyOrder {
 }
 
 // An entry with its token and how much of its payload is available.
+#[repr(C)]
 pub struct LengthyAuthorisedEntry {
     pub entry: Entry,
     pub token: [u8; 64],

@@ -1,0 +1,618 @@
+/* Every call of the door with answers written by hand from document 01, on buffers that are as long as asked and no longer. It prints how many answers
+   were compared; the first wrong one is shown and ends it. */
+#include "virebony.h"
+#include <stdio.h>
+#include <stdlib.h>
+#include <string.h>
+
+static unsigned compared;
+#define IS(x, y) is((unsigned long long)(x), (unsigned long long)(y), #x, __LINE__)
+static void is(unsigned long long x, unsigned long long y, const char *what, int line) {
+    compared++;
+    if (x == y) return;
+    printf("line %d: %s is %llu, not %llu\n", line, what, x, y);
+    exit(1);
+}
+
+static void *lent(size_t bytes) {
+    void *p = malloc(bytes ? bytes : 1);
+    if (!p) exit(2);
+    memset(p, 0xee, bytes);
+    return p;
+}
+
+/* A store's state and its buffers, exactly as long as its limit asks. */
+typedef struct { vb_state state; uint8_t *spt, *tsp; uint32_t *spt_dir, *tsp_dir; vb_pair *prune; size_t limit; } kept;
+#define STORE(k) (k)->spt, VB_RECORD_MOST * (k)->limit, (k)->spt_dir, 2 * (k)->limit, (k)->tsp, VB_RECORD_MOST * (k)->limit, (k)->tsp_dir, 2 * (k)->limit
+
+static kept store_of(size_t limit) {
+    static const uint8_t namespace_id[16] = {0};
+    kept k;
+    memset(&k, 0, sizeof k);
+    k.limit = limit;
+    k.spt = (uint8_t *)lent(VB_RECORD_MOST * limit);
+    k.tsp = (uint8_t *)lent(VB_RECORD_MOST * limit);
+    k.spt_dir = (uint32_t *)lent(8 * limit);
+    k.tsp_dir = (uint32_t *)lent(8 * limit);
+    k.prune = (vb_pair *)lent(8 * limit);
+    vb_opened o = vb_open(namespace_id, limit, STORE(&k));
+    IS(o.refusal, VB_DONE);
+    IS(o.state.limit, limit);
+    IS(o.state.count, 0);
+    for (size_t i = 0; i < VB_RECORD_MOST * limit; i++) if (k.spt[i] | k.tsp[i]) IS(i, SIZE_MAX);
+    for (size_t i = 0; i < 2 * limit; i++) if (k.spt_dir[i] | k.tsp_dir[i]) IS(i, SIZE_MAX);
+    k.state = o.state;
+    return k;
+}
+
+static void drop(kept *k) {
+    free(k->spt);
+    free(k->tsp);
+    free(k->spt_dir);
+    free(k->tsp_dir);
+    free(k->prune);
+}
+
+/* A path from text: components of lower-case hex joined by slashes, a point for an empty component, nothing for the empty path. Behind it lies garbage,
+   which no call may look at. */
+static vb_path path(const char *hex) {
+    vb_path p;
+    memset(&p, 0x77, sizeof p);
+    p.count = 0;
+    size_t n = 0;
+    while (*hex) {
+        for (; *hex && *hex != '/'; hex += *hex == '.' ? 1 : 2)
+            if (*hex != '.') {
+                const char pair[3] = {hex[0], hex[1], 0};
+                p.bytes[n++] = (uint8_t)strtoul(pair, NULL, 16);
+            }
+        p.ends[p.count++] = n;
+        if (*hex == '/') hex++;
+    }
+    return p;
+}
+
+/* Paths that are none: too many components, the greatest count, ends that descend, a component of 65 bytes, 129 bytes in all. */
+static vb_path illegal(int which) {
+    vb_path p = path("61/62");
+    if (which == 0) p.count = 9;
+    if (which == 1) p.count = SIZE_MAX;
+    if (which == 2) p.ends[1] = 0;
+    if (which == 3) p.ends[0] = 65, p.ends[1] = 65;
+    if (which == 4) p.count = 3, p.ends[0] = 60, p.ends[1] = 120, p.ends[2] = 129;
+    return p;
+}
+
+static void same_path(vb_path p, const char *hex) {
+    vb_path q = path(hex);
+    size_t total = q.count ? q.ends[q.count - 1] : 0;
+    IS(p.count, q.count);
+    for (size_t i = 0; i < VB_MCC; i++) IS(p.ends[i], i < q.count ? q.ends[i] : 0);
+    for (size_t i = 0; i < VB_MPL; i++) IS(p.bytes[i], i < total ? q.bytes[i] : 0);
+}
+
+static vb_subspace subspace(uint64_t low) { vb_subspace s; s.high = 0; s.low = low; return s; }
+
+static vb_entry entry(uint64_t in, const char *hex, uint64_t timestamp, uint64_t length, uint8_t digest) {
+    vb_entry e;
+    memset(&e, 0, sizeof e);
+    e.subspace_id = subspace(in);
+    e.path = path(hex);
+    e.timestamp = timestamp;
+    e.payload_length = length;
+    memset(e.payload_digest, digest, 32);
+    return e;
+}
+
+static vb_times times(uint64_t start, uint64_t end, uint8_t open) { vb_times t; t.start = start; t.end = end; t.open = open; return t; }
+
+static vb_area area(uint8_t any, uint64_t in, vb_path p, vb_times t) {
+    vb_area a;
+    memset(&a, 0x55, sizeof a);
+    a.any_subspace = any;
+    a.subspace = subspace(in);
+    a.path = p;
+    a.times = t;
+    return a;
+}
+
+/* Subspaces from 0 and times from 0, both open; paths from one up to another. */
+static vb_range range(vb_path from, vb_path to, uint8_t open) {
+    vb_range r;
+    memset(&r, 0, sizeof r);
+    r.subspaces.open = 200;
+    r.paths.start = from;
+    r.paths.end = to;
+    r.paths.open = open;
+    r.times = times(0, 0, 3);
+    return r;
+}
+
+static vb_ignore ignore(uint8_t incomplete, uint8_t empty) { vb_ignore i; i.incomplete_payloads = incomplete; i.empty_payloads = empty; return i; }
+
+static uint8_t token[64];
+
+static vb_ingested ingest(kept *k, vb_entry e, uint8_t prevent) {
+    vb_ingested r = vb_ingest_entry(k->state, STORE(k), k->prune, k->limit, e, token, prevent);
+    k->state = r.state;
+    return r;
+}
+
+static void paths(void) {
+    IS(vb_path_is_legal(path("")), 1);
+    IS(vb_path_is_legal(path("61/62/63/64/65/66/67/68")), 1);
+    for (int i = 0; i < 5; i++) {
+        vb_path bad = illegal(i);
+        IS(vb_path_is_legal(bad), 0);
+        IS(vb_path_cmp(bad, path("")).refusal, 4);
+        IS(vb_path_cmp(path(""), bad).refusal, 4);
+        IS(vb_path_eq(bad, path("")).refusal, 4);
+        IS(vb_path_is_prefix_of(path(""), bad).refusal, 4);
+        vb_above a = vb_path_greater_but_not_prefixed(bad);
+        IS(a.refusal, 4);
+        IS(a.found, 0);
+        same_path(a.path, "");
+    }
+    vb_path most = path("61/62/63"); /* 64 bytes in a component, 128 in all */
+    most.ends[0] = 64, most.ends[1] = 128, most.ends[2] = 128;
+    IS(vb_path_is_legal(most), 1);
+    most.ends[0] = 65;
+    IS(vb_path_is_legal(most), 0);
+    static const char *const ascending[] = {"", ".", "00", "01", "61", "61/62", "6162"};
+    for (int i = 0; i < 7; i++)
+        for (int j = 0; j < 7; j++) {
+            vb_compared c = vb_path_cmp(path(ascending[i]), path(ascending[j]));
+            IS(c.refusal, 0);
+            IS(c.less, i < j);
+            IS(c.greater, i > j);
+            vb_answer e = vb_path_eq(path(ascending[i]), path(ascending[j]));
+            IS(e.refusal, 0);
+            IS(e.yes, i == j);
+            IS(vb_path_is_prefix_of(path(ascending[i]), path(ascending[j])).yes, i == 0 || i == j || (i == 4 && j == 5));
+        }
+    vb_above a = vb_path_greater_but_not_prefixed(path("61"));
+    IS(a.refusal, 0);
+    IS(a.found, 1);
+    same_path(a.path, "6100");
+    a = vb_path_greater_but_not_prefixed(path(""));
+    IS(a.refusal, 0);
+    IS(a.found, 0);
+    same_path(a.path, "");
+}
+
+static void entries(void) {
+    vb_entry a = entry(1, "61", 5, 3, 9), b = entry(1, "61/62", 5, 3, 9), bad = b;
+    bad.path = illegal(1);
+    IS(vb_entry_is_newer_than(a, b).yes, 0); /* a tie */
+    IS(vb_entry_is_newer_than(b, a).yes, 0);
+    a.payload_length = 4;
+    IS(vb_entry_is_newer_than(a, b).yes, 1);
+    IS(vb_entry_prunes(a, b).yes, 1);
+    IS(vb_entry_prunes(b, a).yes, 0);
+    IS(vb_entry_is_pruned_by(b, a).yes, 1);
+    IS(vb_entry_is_pruned_by(a, b).yes, 0);
+    b.payload_digest[31] = 10; /* the digest goes before the length */
+    IS(vb_entry_is_newer_than(b, a).yes, 1);
+    b.payload_digest[0] = 8;
+    IS(vb_entry_is_newer_than(b, a).yes, 0);
+    b.timestamp = UINT64_MAX; /* the timestamp before both */
+    IS(vb_entry_is_newer_than(b, a).yes, 1);
+    b.namespace_id[15] = 1;
+    b.timestamp = 0;
+    IS(vb_entry_prunes(a, b).yes, 0);
+    IS(vb_entry_is_newer_than(a, bad).refusal, 4);
+    IS(vb_entry_is_newer_than(bad, a).refusal, 4);
+    IS(vb_entry_prunes(a, bad).refusal, 4);
+    IS(vb_entry_prunes(bad, a).refusal, 4);
+    IS(vb_entry_is_pruned_by(a, bad).refusal, 4);
+    IS(vb_entry_is_pruned_by(bad, a).refusal, 4);
+}
+
+static void areas_and_ranges(void) {
+    vb_area a = area(0, 7, path("61"), times(5, 10, 0));
+    IS(vb_area_includes_triplet(a, subspace(7), path("61/62"), 9).yes, 1);
+    IS(vb_area_includes_triplet(a, subspace(7), path("61/62"), 10).yes, 0);
+    IS(vb_area_includes_triplet(a, subspace(7), path("61/62"), 4).yes, 0);
+    IS(vb_area_includes_triplet(a, subspace(8), path("61/62"), 9).yes, 0);
+    IS(vb_area_includes_triplet(a, subspace(7), path("6162"), 9).yes, 0);
+    a.any_subspace = 255;
+    IS(vb_area_includes_triplet(a, subspace(8), path("61/62"), 9).yes, 1);
+    a.times = times(0, 0, 2);
+    IS(vb_area_includes_triplet(a, subspace(8), path("61"), UINT64_MAX).yes, 1);
+    IS(vb_area_includes_triplet(a, subspace(8), illegal(2), 9).refusal, 4);
+
+    vb_area_range r = vb_area_to_range(a);
+    IS(r.refusal, 0);
+    IS(r.range.subspaces.open, 1);
+    IS(r.range.subspaces.start.high | r.range.subspaces.start.low | r.range.subspaces.end.high | r.range.subspaces.end.low, 0);
+    IS(r.range.paths.open, 0);
+    same_path(r.range.paths.start, "61");
+    same_path(r.range.paths.end, "6100");
+    IS(r.range.times.start, 0);
+    IS(r.range.times.end, 0);
+    IS(r.range.times.open, 1);
+    r = vb_area_to_range(area(0, UINT64_MAX, path(""), times(5, 10, 0)));
+    IS(r.range.subspaces.open, 0);
+    IS(r.range.subspaces.start.low, UINT64_MAX);
+    IS(r.range.subspaces.end.high, 1);
+    IS(r.range.subspaces.end.low, 0);
+    IS(r.range.paths.open, 1);
+    same_path(r.range.paths.end, "");
+    IS(r.range.times.start, 5);
+    IS(r.range.times.end, 10);
+    IS(r.range.times.open, 0);
+    r = vb_area_to_range(area(1, 0, illegal(4), times(5, 10, 0)));
+    IS(r.refusal, 4);
+    IS(r.range.subspaces.open | r.range.paths.open | r.range.times.open, 0);
+    IS(r.range.times.start | r.range.times.end, 0);
+
+    vb_range whole = range(path(""), illegal(1), 2); /* the end of an open range is not looked at */
+    IS(vb_range_includes_triplet(whole, subspace(0), path("ff"), UINT64_MAX).yes, 1);
+    whole.paths.open = 0;
+    IS(vb_range_includes_triplet(whole, subspace(0), path("ff"), 0).refusal, 4);
+    whole = range(path("61"), path("62"), 0);
+    IS(vb_range_includes_triplet(whole, subspace(0), path("61/ff"), 0).yes, 1);
+    IS(vb_range_includes_triplet(whole, subspace(0), path("62"), 0).yes, 0);
+    IS(vb_range_includes_triplet(whole, subspace(0), path("60"), 0).yes, 0);
+    IS(vb_range_includes_triplet(whole, subspace(0), illegal(0), 0).refusal, 4);
+    whole.paths.start = illegal(3);
+    IS(vb_range_includes_triplet(whole, subspace(0), path("61"), 0).refusal, 4);
+    whole.paths.start = path("61");
+    whole.subspaces.open = 0;
+    whole.subspaces.end = subspace(3);
+    IS(vb_range_includes_triplet(whole, subspace(2), path("61"), 0).yes, 1);
+    IS(vb_range_includes_triplet(whole, subspace(3), path("61"), 0).yes, 0);
+}
+
+static void same_triple(vb_decoded d, uint8_t refusal, const char *hex, uint64_t in, uint64_t timestamp) {
+    IS(d.refusal, refusal);
+    IS(d.subspace.high, 0);
+    IS(d.subspace.low, in);
+    IS(d.timestamp, timestamp);
+    same_path(d.path, hex);
+}
+
+static void keys(void) {
+    static const uint8_t path_key[9] = {0x62, 0, 1, 0, 2, 0, 1, 0, 0}; /* [62][00] */
+    uint8_t spt[33] = {0}, tsp[33] = {0};
+    spt[15] = tsp[23] = 7;
+    spt[32] = tsp[7] = 5;
+    memcpy(spt + 16, path_key, 9);
+    memcpy(tsp + 24, path_key, 9);
+    uint8_t *out = (uint8_t *)lent(VB_KEY_MOST);
+    vb_encoded e = vb_encode_spt_entry_key(subspace(7), path("62/00"), 5, out, VB_KEY_MOST);
+    IS(e.refusal, 0);
+    IS(e.length, 33);
+    IS(memcmp(out, spt, 33), 0);
+    for (size_t i = 33; i < VB_KEY_MOST; i++) IS(out[i], 0xee);
+    e = vb_encode_tsp_entry_key(subspace(7), path("62/00"), 5, out, VB_KEY_MOST);
+    IS(e.refusal, 0);
+    IS(e.length, 33);
+    IS(memcmp(out, tsp, 33), 0);
+    memset(out, 0xee, VB_KEY_MOST);
+    vb_path zeros = path("");
+    memset(zeros.bytes, 0, VB_MPL);
+    for (size_t i = 0; i < VB_MCC; i++) zeros.ends[i] = 16 * (i + 1);
+    zeros.count = VB_MCC;
+    IS(vb_encode_spt_entry_key(subspace(7), zeros, 5, out, VB_KEY_MOST).length, VB_KEY_MOST); /* the longest key */
+    IS(vb_encode_tsp_entry_key(subspace(7), zeros, 5, out, VB_KEY_MOST).length, VB_KEY_MOST);
+    IS(vb_decode_tsp_entry_key(out, VB_KEY_MOST).path.count, VB_MCC);
+    memset(out, 0xee, VB_KEY_MOST);
+    IS(vb_encode_spt_entry_key(subspace(7), illegal(1), 5, out, VB_KEY_MOST - 1).refusal, 2);
+    IS(vb_encode_tsp_entry_key(subspace(7), illegal(1), 5, NULL, 0).refusal, 2);
+    IS(vb_encode_spt_entry_key(subspace(7), illegal(1), 5, out, VB_KEY_MOST).refusal, 4);
+    e = vb_encode_tsp_entry_key(subspace(7), illegal(2), 5, out, VB_KEY_MOST);
+    IS(e.refusal, 4);
+    IS(e.length, 0);
+    for (size_t i = 0; i < VB_KEY_MOST; i++) IS(out[i], 0xee);
+    free(out);
+
+    same_triple(vb_decode_spt_entry_key(spt, 33), 0, "62/00", 7, 5);
+    same_triple(vb_decode_tsp_entry_key(tsp, 33), 0, "62/00", 7, 5);
+    same_triple(vb_read_spt_entry_key(spt, 33), 0, "62/00", 7, 5);
+    same_triple(vb_read_tsp_entry_key(tsp, 33), 0, "62/00", 7, 5);
+    for (size_t cut = 0; cut < 33; cut++) { /* a key cut anywhere */
+        uint8_t *short_key = (uint8_t *)lent(cut);
+        memcpy(short_key, spt, cut);
+        same_triple(vb_decode_spt_entry_key(cut ? short_key : NULL, cut), 5, "", 0, 0);
+        same_triple(vb_read_spt_entry_key(short_key, cut), 5, "", 0, 0);
+        memcpy(short_key, tsp, cut);
+        same_triple(vb_decode_tsp_entry_key(short_key, cut), 5, "", 0, 0);
+        same_triple(vb_read_tsp_entry_key(short_key, cut), 5, "", 0, 0);
+        free(short_key);
+    }
+    spt[20] = 3; /* 00 03 is no escape */
+    same_triple(vb_decode_spt_entry_key(spt, 33), 5, "", 0, 0);
+    spt[20] = 2;
+
+    vb_stepped s = vb_read_component_at(spt, 33, 16);
+    IS(s.refusal, 0);
+    IS(s.component, 1);
+    IS(s.length, 1);
+    IS(s.bytes[0], 0x62);
+    IS(s.bytes[1], 0);
+    IS(s.position, 19);
+    IS(s.left, 14);
+    s = vb_read_component_at(spt, 33, s.position);
+    IS(s.component, 1);
+    IS(s.length, 1);
+    IS(s.bytes[0], 0);
+    IS(s.position, 23);
+    s = vb_read_component_at(spt, 33, s.position);
+    IS(s.refusal, 0);
+    IS(s.component, 0);
+    IS(s.length, 0);
+    IS(s.position, 25);
+    IS(s.left, 8);
+    s = vb_read_component_at(spt, 33, SIZE_MAX);
+    IS(s.refusal, 5);
+    IS(s.component, 0);
+    IS(s.position, SIZE_MAX);
+    IS(s.left, 0);
+    vb_path_read r = vb_read_path_at(spt, 33, 16);
+    IS(r.refusal, 0);
+    same_path(r.path, "62/00");
+    IS(r.next, 25);
+    r = vb_read_path_at(spt, 33, 34);
+    IS(r.refusal, 5);
+    same_path(r.path, "");
+    IS(r.next, 0);
+    IS(vb_read_path_at(NULL, 0, 0).refusal, 5);
+}
+
+/* Opening and the refusals that every call of a store shares: 1, 2, 3. */
+static void openings(void) {
+    static const uint8_t namespace_id[16] = {0xaa};
+    kept k = store_of(3);
+    static const size_t wrong[] = {0, 1025, SIZE_MAX};
+    for (int i = 0; i < 3; i++) {
+        vb_opened o = vb_open(namespace_id, wrong[i], STORE(&k));
+        IS(o.refusal, 1);
+        IS(o.state.namespace_id[0] | o.state.count | o.state.limit, 0);
+    }
+    IS(vb_open(namespace_id, 4, STORE(&k)).refusal, 2);
+    IS(vb_open(namespace_id, 1, NULL, 0, NULL, 0, NULL, 0, NULL, 0).refusal, 2);
+    k.spt[VB_RECORD_MOST * 2] = 9;
+    vb_opened o = vb_open(namespace_id, 2, STORE(&k)); /* what lies beyond the limit's room stays */
+    IS(o.refusal, 0);
+    IS(o.state.namespace_id[0], 0xaa);
+    IS(k.spt[VB_RECORD_MOST * 2], 9);
+
+    const vb_entry e = entry(1, "61", 5, 3, 9);
+    const vb_area all = area(1, 0, path(""), times(0, 0, 1));
+    const vb_range whole = range(path(""), path(""), 1);
+    vb_interest most;
+    most.area = all;
+    most.max_count = most.max_size = UINT64_MAX;
+    static vb_pairs by_value;
+    const uint8_t digest[32] = {0};
+    for (int want = 1; want <= 3; want++) {
+        vb_state s = o.state;
+        if (want == 1) s.limit = 0, s.count = SIZE_MAX;
+        if (want == 2) s.limit = 4, s.count = 5;
+        if (want == 3) s.count = 1;
+        IS(vb_ingest_entry(s, STORE(&k), k.prune, 3, e, token, 0).refusal, want);
+        IS(vb_ingest_entry(s, STORE(&k), k.prune, 3, e, token, 0).state.count, s.count);
+        IS(vb_ingest_entry_numbers(s, STORE(&k), (uint32_t *)k.prune, 6, e, token, 0).refusal, want);
+        IS(vb_ingest_entry_by_value(s, STORE(&k), by_value, e, token, 0).ingested.refusal, want);
+        IS(vb_forget_entry(s, STORE(&k), subspace(1), path("61"), 0, digest).refusal, want);
+        IS(vb_forget_area(s, STORE(&k), all, 0, all).refusal, want);
+        IS(vb_find_entry(s, STORE(&k), subspace(1), path("61"), ignore(0, 0)).refusal, want);
+        IS(vb_query_area_place(s, STORE(&k), all, ignore(0, 0), 0).refusal, want);
+        IS(vb_query_area(s, STORE(&k), all, ignore(0, 0), 0).length, 0);
+        IS(vb_query_range_place(s, STORE(&k), whole, ignore(0, 0), 0).refusal, want);
+        IS(vb_query_range(s, STORE(&k), whole, ignore(0, 0), 0).length, 0);
+        IS(vb_count_area(s, STORE(&k), all).refusal, want);
+        IS(vb_summarise(s, STORE(&k), whole).refusal, want);
+        IS(vb_area_of_interest_to_range(s, STORE(&k), most).refusal, want);
+    }
+    vb_area bad = all;
+    bad.path = illegal(1);
+    most.area = bad;
+    const vb_range descends = range(path(""), illegal(2), 0);
+    vb_entry bad_entry = e;
+    bad_entry.path = illegal(1);
+    bad_entry.namespace_id[0] = 1;
+    IS(vb_ingest_entry(o.state, STORE(&k), k.prune, 3, bad_entry, token, 0).refusal, 4);
+    IS(vb_ingest_entry(o.state, STORE(&k), k.prune, 1, e, token, 0).refusal, 2);
+    IS(vb_ingest_entry(o.state, STORE(&k), NULL, 0, e, token, 0).refusal, 2);
+    IS(vb_ingest_entry(o.state, STORE(&k), k.prune, 3, e, token, 0).refusal, 6);
+    IS(vb_ingest_entry_numbers(o.state, STORE(&k), (uint32_t *)k.prune, 3, e, token, 0).refusal, 2);
+    IS(vb_forget_entry(o.state, STORE(&k), subspace(1), illegal(0), 0, digest).refusal, 4);
+    IS(vb_forget_area(o.state, STORE(&k), all, 1, bad).refusal, 4);
+    IS(vb_forget_area(o.state, STORE(&k), all, 0, bad).refusal, 0);
+    IS(vb_find_entry(o.state, STORE(&k), subspace(1), illegal(3), ignore(0, 0)).refusal, 4);
+    IS(vb_query_area_place(o.state, STORE(&k), bad, ignore(0, 0), SIZE_MAX).refusal, 4);
+    IS(vb_query_range_place(o.state, STORE(&k), descends, ignore(0, 0), 0).refusal, 4);
+    IS(vb_count_area(o.state, STORE(&k), bad).refusal, 4);
+    IS(vb_summarise(o.state, STORE(&k), descends).refusal, 4);
+    IS(vb_area_of_interest_to_range(o.state, STORE(&k), most).refusal, 4);
+    drop(&k);
+}
+
+/* One entry after another, and what is stored then. */
+static void ingestion(void) {
+    kept k = store_of(4);
+    vb_ingested r = ingest(&k, entry(1, "61/62", 5, 3, 9), 0);
+    IS(r.refusal | r.obsolete | r.pruned, 0);
+    IS(r.state.count, 1);
+    IS(k.spt_dir[0], 0);
+    IS(k.spt_dir[1], 144); /* key 16 + 8 + 8, value 112 */
+    IS(k.prune[0].offset, 0xeeeeeeee);
+    r = ingest(&k, entry(1, "61", 5, 3, 9), 1);
+    IS(r.refusal, 7); /* it would prune */
+    IS(r.state.count, 1);
+    vb_ingested refused = ingest(&k, entry(1, "61/62", 4, 3, 9), 2); /* obsolete goes before 7 */
+    IS(refused.refusal, 0);
+    IS(refused.obsolete, 1);
+    IS(refused.newer.timestamp, 5);
+    IS(refused.newer.payload_digest[31], 9);
+    IS(refused.token[0], 0x42);
+    same_path(refused.newer.path, "61/62");
+    r = ingest(&k, entry(1, "61", 5, 3, 9), 0); /* a tie is removed */
+    IS(r.refusal | r.obsolete, 0);
+    IS(r.pruned, 1);
+    IS(r.state.count, 1);
+    IS(k.prune[0].offset, 0);
+    IS(k.prune[0].length, 144);
+    IS(k.prune[1].offset, 0xeeeeeeee);
+    r = ingest(&k, entry(1, "61/62", 5, 3, 9), 255); /* the other way round: two */
+    IS(r.refusal | r.obsolete | r.pruned, 0);
+    IS(r.state.count, 2);
+    IS(r.newer.timestamp | r.token[0], 0);
+    drop(&k);
+
+    k = store_of(1);
+    IS(ingest(&k, entry(1, "61", 5, 3, 9), 0).refusal, 0);
+    IS(ingest(&k, entry(1, "62", 5, 3, 9), 0).refusal, 8);
+    IS(ingest(&k, entry(1, "", 6, 3, 9), 0).refusal, 0);
+    IS(k.state.count, 1);
+    IS(k.prune[0].length, 16 + 5 + 8 + 112);
+    drop(&k);
+
+    k = store_of(3); /* over numbers, and over pairs by value */
+    uint32_t *numbers = (uint32_t *)lent(24);
+    static vb_pairs by_value;
+    memset(&by_value, 0xdd, sizeof by_value);
+    IS(ingest(&k, entry(1, "61/62", 5, 3, 9), 0).refusal, 0);
+    IS(ingest(&k, entry(1, "61/63", 5, 3, 9), 0).refusal, 0);
+    kept second = k;
+    second.spt = (uint8_t *)memcpy(lent(1230), k.spt, 1230);
+    second.tsp = (uint8_t *)memcpy(lent(1230), k.tsp, 1230);
+    second.spt_dir = (uint32_t *)memcpy(lent(24), k.spt_dir, 24);
+    second.tsp_dir = (uint32_t *)memcpy(lent(24), k.tsp_dir, 24);
+    second.prune = (vb_pair *)lent(24);
+    r = vb_ingest_entry_numbers(k.state, STORE(&k), numbers, 6, entry(1, "61", 6, 3, 9), token, 0);
+    IS(r.pruned, 2);
+    IS(numbers[0], 0);
+    IS(numbers[1], 144);
+    IS(numbers[2], 144);
+    IS(numbers[3], 144);
+    IS(numbers[4], 0xeeeeeeee);
+    vb_pairs_ingested v = vb_ingest_entry_by_value(second.state, STORE(&second), by_value, entry(1, "61", 6, 3, 9), token, 0);
+    IS(v.ingested.pruned, 2);
+    IS(v.ingested.state.count, 1);
+    IS(v.pairs[0].offset, 0);
+    IS(v.pairs[1].offset, 144);
+    IS(v.pairs[1].length, 144);
+    IS(v.pairs[2].offset, 0xdddddddd);
+    IS(v.pairs[1023].length, 0xdddddddd);
+    IS(memcmp(second.spt, k.spt, 1230) | memcmp(second.tsp, k.tsp, 1230), 0);
+    IS(memcmp(second.spt_dir, k.spt_dir, 24) | memcmp(second.tsp_dir, k.tsp_dir, 24), 0);
+    free(numbers);
+    drop(&second);
+    drop(&k);
+}
+
+static void reading_and_forgetting(void) {
+    kept k = store_of(5);
+    static const char *const at[] = {"61", "61/62", "63", "64"};
+    for (uint64_t i = 0; i < 4; i++) IS(ingest(&k, entry(i == 3 ? 2 : 1, at[i], 10 * (4 - i), i, 9), 0).refusal, i == 1 ? 0 : 0);
+    IS(k.state.count, 3); /* [61][62] was older than [61] */
+    IS(ingest(&k, entry(1, "61/62", 50, 1, 9), 0).state.count, 4);
+
+    vb_entry_found f = vb_find_entry(k.state, STORE(&k), subspace(1), path("61/62"), ignore(0, 0));
+    IS(f.refusal, 0);
+    IS(f.found, 1);
+    same_path(f.lengthy.entry.path, "61/62");
+    IS(f.lengthy.entry.timestamp, 50);
+    IS(f.lengthy.entry.payload_length, 1);
+    IS(f.lengthy.entry.subspace_id.low, 1);
+    IS(f.lengthy.token[0], 0x42);
+    IS(f.lengthy.available, 0);
+    IS(vb_find_entry(k.state, STORE(&k), subspace(1), path("61/62"), ignore(128, 0)).found, 0); /* its payload is not all there */
+    IS(vb_find_entry(k.state, STORE(&k), subspace(1), path("61"), ignore(1, 0)).found, 1);
+    IS(vb_find_entry(k.state, STORE(&k), subspace(1), path("61"), ignore(0, 1)).found, 0); /* its payload is empty */
+    IS(vb_find_entry(k.state, STORE(&k), subspace(2), path("61"), ignore(0, 0)).found, 0);
+
+    vb_area all = area(1, 0, path(""), times(0, 0, 1)), one = area(0, 1, path("61"), times(0, 50, 0));
+    vb_range whole = range(path(""), path(""), 1), from = range(path("61/62"), path("64"), 0);
+    static const char *const order[] = {"61", "61/62", "63", "64"};
+    for (size_t i = 0; i < 4; i++) {
+        vb_listed l = vb_query_area_place(k.state, STORE(&k), all, ignore(0, 0), i), m = vb_query_range_place(k.state, STORE(&k), whole, ignore(0, 0), i);
+        IS(l.refusal | m.refusal, 0);
+        IS(l.found & m.found, 1);
+        IS(l.place, i);
+        IS(m.place, i);
+        vb_part p = vb_query_area(k.state, STORE(&k), all, ignore(0, 0), i), q = vb_query_range(k.state, STORE(&k), whole, ignore(0, 0), i);
+        IS(p.offset, k.spt_dir[2 * i]);
+        IS(p.length, k.spt_dir[2 * i + 1]);
+        IS(q.offset, p.offset);
+        IS(q.length, p.length);
+        same_triple(vb_decode_spt_entry_key(k.spt + p.offset, p.length - VB_VALUE), 0, order[i], i == 3 ? 2 : 1, i == 0 ? 40 : i == 1 ? 50 : i == 2 ? 20 : 10);
+    }
+    IS(vb_query_area_place(k.state, STORE(&k), all, ignore(0, 0), 4).found, 0);
+    IS(vb_query_area_place(k.state, STORE(&k), all, ignore(0, 0), SIZE_MAX).found, 0);
+    IS(vb_query_range_place(k.state, STORE(&k), whole, ignore(0, 0), SIZE_MAX).found, 0);
+    IS(vb_query_area(k.state, STORE(&k), all, ignore(0, 0), 4).length, 0);
+    IS(vb_query_area(k.state, STORE(&k), all, ignore(0, 0), 4).offset, 0);
+    IS(vb_query_range(k.state, STORE(&k), whole, ignore(0, 0), 4).length, 0);
+    IS(vb_query_area_place(k.state, STORE(&k), one, ignore(0, 0), 1).found, 0); /* at 50 it is outside */
+    IS(vb_query_range_place(k.state, STORE(&k), from, ignore(0, 0), 0).place, 1);
+    IS(vb_query_range_place(k.state, STORE(&k), from, ignore(7, 0), 0).found, 0);
+    IS(vb_count_area(k.state, STORE(&k), all).count, 4);
+    IS(vb_count_area(k.state, STORE(&k), one).count, 1);
+    IS(vb_summarise(k.state, STORE(&k), whole).count, 4);
+    IS(vb_summarise(k.state, STORE(&k), from).count, 2);
+
+    vb_interest i; /* met from the newest: 50, 40, 20, 10; payloads 1, 0, 2, 3 */
+    i.area = all;
+    i.max_count = i.max_size = UINT64_MAX;
+    IS(vb_area_of_interest_to_range(k.state, STORE(&k), i).range.times.start, 10);
+    i.max_count = 1;
+    IS(vb_area_of_interest_to_range(k.state, STORE(&k), i).range.times.start, 40);
+    i.max_count = UINT64_MAX;
+    i.max_size = 2;
+    vb_area_range r = vb_area_of_interest_to_range(k.state, STORE(&k), i);
+    IS(r.refusal, 0);
+    IS(r.range.times.start, 20);
+    IS(r.range.times.open, 1);
+    IS(r.range.paths.open, 1);
+    i.area = area(0, 9, path("61"), times(3, 0, 1));
+    r = vb_area_of_interest_to_range(k.state, STORE(&k), i);
+    IS(r.range.times.start, 3); /* no match: as given */
+    same_path(r.range.paths.end, "6100");
+
+    uint8_t digest[32];
+    memset(digest, 8, 32);
+    vb_entry_forgotten g = vb_forget_entry(k.state, STORE(&k), subspace(1), path("63"), 1, digest);
+    IS(g.refusal, 9);
+    IS(g.state.count, 4);
+    IS(vb_forget_entry(k.state, STORE(&k), subspace(9), path("63"), 1, digest).refusal, 0); /* absent: done */
+    g = vb_forget_entry(k.state, STORE(&k), subspace(1), path("63"), 0, digest); /* the digest is not looked at */
+    IS(g.refusal, 0);
+    IS(g.state.count, 3);
+    k.state = g.state;
+    memset(digest, 9, 32);
+    g = vb_forget_entry(k.state, STORE(&k), subspace(2), path("64"), 2, digest);
+    IS(g.refusal, 0);
+    IS(g.state.count, 2);
+    k.state = g.state;
+    vb_area_forgotten a = vb_forget_area(k.state, STORE(&k), all, 4, area(0, 1, path("61/62"), times(0, 0, 1)));
+    IS(a.refusal, 0);
+    IS(a.forgotten, 1); /* [61]; below it is protected */
+    IS(a.state.count, 1);
+    k.state = a.state;
+    a = vb_forget_area(k.state, STORE(&k), all, 0, all);
+    IS(a.forgotten, 1);
+    IS(a.state.count, 0);
+    for (size_t n = 0; n < VB_RECORD_MOST * 5; n++) IS(k.spt[n] | k.tsp[n], 0);
+    for (size_t n = 0; n < 10; n++) IS(k.spt_dir[n] | k.tsp_dir[n], 0);
+    drop(&k);
+}
+
+int main(void) {
+    memset(token, 0x42, sizeof token);
+    IS(vb_edition(), VB_EDITION);
+    for (unsigned n = 0; n < 10; n++) IS(strcmp(vb_refusal_text(n), "unknown") != 0, 1);
+    IS(strcmp(vb_refusal_text(10), "unknown"), 0);
+    paths();
+    entries();
+    areas_and_ranges();
+    keys();
+    openings();
+    ingestion();
+    reading_and_forgetting();
+    printf("%u answers of the door as written\n", compared);
+    return 0;
+}

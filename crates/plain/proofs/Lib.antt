@@ -1,0 +1,2 @@
+mod PartLaws
+pub mod RowLaws

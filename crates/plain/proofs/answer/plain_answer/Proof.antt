@@ -1,0 +1,26 @@
+-- `plain_answer` meets its contract: a case each. Assumes nothing.
+use borrow.Author.Needs.{needs}
+use Rattle.plain.proofs.answer.plain_answer.Statement.{statement}
+use Rattle.plain.proofs.answer.plain_answer.Tie as tie
+
+enum-told : tie.Need-enum-told
+enum-told c = search needs
+
+enum-told-2 : tie.Need-enum-told-2
+enum-told-2 c = search needs
+
+enum-known-a : tie.Need-enum-known-a
+enum-known-a c = search needs
+
+returns : tie.Need-returns
+returns c = cc
+
+returns-2 : tie.Need-returns-2
+returns-2 c = cc
+
+returns-3 : tie.Need-returns-3
+returns-3 c = cc
+
+pub plain-answer-spec : {M : Type 1} → statement M
+plain-answer-spec =
+    tie.close (tie.spec enum-told enum-told-2 enum-known-a returns returns-2 returns-3)

@@ -1,0 +1,26 @@
+-- `plain_listed` meets its contract: a case each. Assumes nothing.
+use borrow.Author.Needs.{needs}
+use Rattle.plain.proofs.answer.plain_listed.Statement.{statement}
+use Rattle.plain.proofs.answer.plain_listed.Tie as tie
+
+enum-known-l : tie.Need-enum-known-l
+enum-known-l c = search needs
+
+enum-told : tie.Need-enum-told
+enum-told c = search needs
+
+enum-known-l-2 : tie.Need-enum-known-l-2
+enum-known-l-2 c = search needs
+
+returns : tie.Need-returns
+returns c = cc
+
+returns-2 : tie.Need-returns-2
+returns-2 c = cc
+
+returns-3 : tie.Need-returns-3
+returns-3 c = cc
+
+pub plain-listed-spec : {M : Type 1} → statement M
+plain-listed-spec =
+    tie.close (tie.spec enum-known-l enum-told enum-known-l-2 returns returns-2 returns-3)

@@ -1,0 +1,17 @@
+-- `subspaces_of` meets its contract: the flag decides. Assumes nothing.
+use mathlib.Core.Path.{sym, ap, _∙_}
+use borrow.Author.Needs.{needs}
+use Rattle.plain.proofs.input.subspaces_of.Statement.{statement}
+use Rattle.plain.proofs.input.subspaces_of.Tie as tie
+
+is-yes-requires : tie.Need-is-yes-requires
+is-yes-requires c κs = search needs
+
+returns : tie.Need-returns
+returns c = rw (sym (c .before .is-yes .ensures) ∙ c .if1 .taken)
+
+returns-2 : tie.Need-returns-2
+returns-2 c = rw (sym (c .before .is-yes .ensures) ∙ c .if1 .left)
+
+pub subspaces-of-spec : {M : Type 1} → statement M
+subspaces-of-spec = tie.close (tie.spec is-yes-requires returns returns-2)

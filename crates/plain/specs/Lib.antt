@@ -1,0 +1,5 @@
+pub mod Input
+pub mod Answer
+pub mod RangeAnswer
+pub mod Part
+pub mod Rows

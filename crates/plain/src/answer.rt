@@ -1,0 +1,246 @@
+// Answers, told in plain values. `refusal` is 0, or the number of the refusal, and all else is then 0 or empty, but for the state that was handed in.
+use data_model::answer::Answer;
+use data_model::answer::Compared;
+use data_model::entry::Entry;
+use data_model::path::MCL;
+use key_reader::Stepped;
+use keys::decode::Next;
+use keys::encode::Encoded;
+use pairs::NUMBERS_MOST;
+use pairs::NumbersIngested;
+use query::answer::Listed;
+use store::ingest::IngestVerdict;
+use store::ingest::Ingested;
+use store::state::State;
+ghost use mathlib.Core.Path.{_≡_};
+ghost use Rattle.plain.specs.Answer.{plainAnswer, plainCompared, plainEncoded, plainListed, plainIngested, plainNumbers, plainStepped};
+
+// Refusal 0 and whether it holds; or the refusal.
+#[repr(C)]
+pub struct PlainAnswer {
+    pub refusal: u8,
+    pub yes: bool,
+}
+
+// Refusal 0 and how the first compares with the second, equal if neither is true; or the refusal.
+#[repr(C)]
+pub struct PlainCompared {
+    pub refusal: u8,
+    pub less: bool,
+    pub greater: bool,
+}
+
+// Refusal 0 and how many bytes were written; or the refusal.
+#[repr(C)]
+pub struct PlainEncoded {
+    pub refusal: u8,
+    pub length: usize,
+}
+
+// Refusal 0, whether there is a match, and its place; or the refusal.
+#[repr(C)]
+pub struct PlainListed {
+    pub refusal: u8,
+    pub found: bool,
+    pub place: usize,
+}
+
+// Refusal 0 and how many entries were pruned; or obsolete, with the newer entry and its token; or the refusal. In each case the state.
+#[repr(C)]
+pub struct PlainIngested {
+    pub refusal: u8,
+    pub obsolete: bool,
+    pub pruned: usize,
+    pub state: State,
+    pub newer: Entry,
+    pub token: [u8; 64],
+}
+
+// An ingestion's answer and the whole prune list by value, two numbers a pair.
+#[repr(C)]
+pub struct PlainNumbersIngested {
+    pub ingested: PlainIngested,
+    pub numbers: [u32; NUMBERS_MOST],
+}
+
+// Refusal 0, whether a component was taken (else the path's end), its length and bytes, where the reader then stands and how many bytes are left.
+// Or the refusal: nothing was taken and the reader stands where it stood.
+#[repr(C)]
+pub struct PlainStepped {
+    pub refusal: u8,
+    pub component: bool,
+    pub length: usize,
+    pub bytes: [u8; MCL],
+    pub position: usize,
+    pub left: usize,
+}
+
+// The answer to a question about paths.
+pub fn plain_answer(a: Answer) -> PlainAnswer
+    ensures { λ r. ⌜ r ≡ plainAnswer a ⌝ }
+{
+    match a {
+        Answer::Yes => PlainAnswer {
+            refusal: 0,
+            yes: true,
+        },
+        Answer::No => PlainAnswer {
+            refusal: 0,
+            yes: false,
+        },
+        Answer::Refused(n) => PlainAnswer {
+            refusal: n,
+            yes: false,
+        },
+    }
+}
+
+// The answer of a comparison.
+pub fn plain_compared(c: Compared) -> PlainCompared
+    ensures { λ r. ⌜ r ≡ plainCompared c ⌝ }
+{
+    match c {
+        Compared::Less => PlainCompared {
+            refusal: 0,
+            less: true,
+            greater: false,
+        },
+        Compared::Equal => PlainCompared {
+            refusal: 0,
+            less: false,
+            greater: false,
+        },
+        Compared::Greater => PlainCompared {
+            refusal: 0,
+            less: false,
+            greater: true,
+        },
+        Compared::Refused(n) => PlainCompared {
+            refusal: n,
+            less: false,
+            greater: false,
+        },
+    }
+}
+
+// The answer of an encoder.
+pub fn plain_encoded(e: Encoded) -> PlainEncoded
+    ensures { λ r. ⌜ r ≡ plainEncoded e ⌝ }
+{
+    match e {
+        Encoded::Written(n) => PlainEncoded {
+            refusal: 0,
+            length: n,
+        },
+        Encoded::Refused(n) => PlainEncoded {
+            refusal: n,
+            length: 0,
+        },
+    }
+}
+
+// The answer of a listing.
+pub fn plain_listed(l: Listed) -> PlainListed
+    ensures { λ r. ⌜ r ≡ plainListed l ⌝ }
+{
+    match l {
+        Listed::Match(k) => PlainListed {
+            refusal: 0,
+            found: true,
+            place: k,
+        },
+        Listed::Finished => PlainListed {
+            refusal: 0,
+            found: false,
+            place: 0,
+        },
+        Listed::Refused(n) => PlainListed {
+            refusal: n,
+            found: false,
+            place: 0,
+        },
+    }
+}
+
+// The answer of an ingestion.
+pub fn plain_ingested(i: Ingested) -> PlainIngested
+    ensures { λ r. ⌜ r ≡ plainIngested i ⌝ }
+{
+    let verdict = i.verdict;
+    let state = i.state;
+    let newer = i.newer;
+    let token = i.token;
+    match verdict {
+        IngestVerdict::Success(n) => PlainIngested {
+            refusal: 0,
+            obsolete: false,
+            pruned: n,
+            state,
+            newer,
+            token,
+        },
+        IngestVerdict::Obsolete => PlainIngested {
+            refusal: 0,
+            obsolete: true,
+            pruned: 0,
+            state,
+            newer,
+            token,
+        },
+        IngestVerdict::Refused(n) => PlainIngested {
+            refusal: n,
+            obsolete: false,
+            pruned: 0,
+            state,
+            newer,
+            token,
+        },
+    }
+}
+
+// The answer of an ingestion over pairs by value.
+pub fn plain_numbers(n: NumbersIngested) -> PlainNumbersIngested
+    ensures { λ r. ⌜ r ≡ plainNumbers n ⌝ }
+{
+    let answer = n.ingested;
+    let numbers = n.numbers;
+    let ingested = plain_ingested(answer);
+    PlainNumbersIngested { ingested, numbers }
+}
+
+// The answer of a reader's step.
+pub fn plain_stepped(s: Stepped) -> PlainStepped
+    ensures { λ r. ⌜ r ≡ plainStepped s ⌝ }
+{
+    let taken = s.component;
+    let next = taken.next;
+    let bytes = taken.bytes;
+    let position = s.position;
+    let left = s.left;
+    match next {
+        Next::Component(n, _) => PlainStepped {
+            refusal: 0,
+            component: true,
+            length: n,
+            bytes,
+            position,
+            left,
+        },
+        Next::PathEnd(_) => PlainStepped {
+            refusal: 0,
+            component: false,
+            length: 0,
+            bytes,
+            position,
+            left,
+        },
+        Next::Refused(n) => PlainStepped {
+            refusal: n,
+            component: false,
+            length: 0,
+            bytes,
+            position,
+            left,
+        },
+    }
+}

@@ -1,0 +1,155 @@
+// The calls that change a store: opening, ingestion over a prune list of numbers and of pairs by value, both forgettings.
+use data_model::entry::Entry;
+use data_model::parameters::Subspace;
+use data_model::path::Path;
+use pairs::ingest_entry_by_value;
+use plain::answer::PlainIngested;
+use plain::answer::PlainNumbersIngested;
+use plain::answer::plain_ingested;
+use plain::answer::plain_numbers;
+use plain::input::PlainArea;
+use plain::input::PlainPairs;
+use plain::input::area_of;
+use plain::input::is_yes;
+use store::forget::AreaForgotten;
+use store::forget::EntryForgotten;
+use store::forget::forget_area;
+use store::forget::forget_entry;
+use store::ingest::ingest_entry_numbers;
+use store::open::open;
+use store::state::Opened;
+use store::state::State;
+ghost use mathlib.Core.Path.{_≡_};
+ghost use Rattle.data_model.specs.Path.{field};
+ghost use Rattle.store.specs.Store.{storeOf};
+ghost use Rattle.store.specs.Open.{openOutcome, opening};
+ghost use Rattle.store.specs.Ingest.{ingested};
+ghost use Rattle.store.specs.Forget.{forgetEntryOutcome, entryForgotten, forgetAreaOutcome, areaForgotten};
+ghost use Rattle.pairs.specs.Pairs.{pairsOf, pairsIngested};
+ghost use Rattle.plain.specs.Input.{isYes, areaOf};
+ghost use Rattle.virebony.specs.Outcome.{numbersLeft, toldNumbers, pairsLeft, toldPairs};
+
+// `store::open::open`: a store of no entries, for at most `limit` of them.
+#[no_mangle]
+pub extern "C" fn vb_open(
+    namespace: &[u8; 16],
+    limit: usize,
+    spt: &mut [u8],
+    spt_dir: &mut [u32],
+    tsp: &mut [u8],
+    tsp_dir: &mut [u32],
+) -> Opened
+    ensures { λ r. ⌜ openOutcome r (now (spt .exit)) (now («spt_dir» .exit)) (now (tsp .exit)) (now («tsp_dir» .exit)) ≡ opening field (now (namespace .entry)) limit (now (spt .entry)) (now («spt_dir» .entry)) (now (tsp .entry)) (now («tsp_dir» .entry)) ⌝ }
+{
+    open(*namespace, limit, spt, spt_dir, tsp, tsp_dir)
+}
+
+// `store::ingest::ingest_entry_numbers`: ingestion with the pruned pairs in a lent slice of numbers, offset and length by turns.
+#[no_mangle]
+pub extern "C" fn vb_ingest_entry_numbers(
+    state: State,
+    spt: &mut [u8],
+    spt_dir: &mut [u32],
+    tsp: &mut [u8],
+    tsp_dir: &mut [u32],
+    prune: &mut [u32],
+    entry: Entry,
+    token: &[u8; 64],
+    prevent_pruning: u8,
+) -> PlainIngested
+    ensures { λ r. ⌜ numbersLeft r (now (spt .exit)) (now («spt_dir» .exit)) (now (tsp .exit)) (now («tsp_dir» .exit)) (now (prune .exit)) ≡ toldNumbers (ingested field (storeOf state (now (spt .entry)) (now («spt_dir» .entry)) (now (tsp .entry)) (now («tsp_dir» .entry))) (now (prune .entry)) entry (now (token .entry)) (isYes «prevent_pruning»)) ⌝ }
+{
+    let prevent = is_yes(prevent_pruning);
+    let given = ingest_entry_numbers(
+        state,
+        spt,
+        spt_dir,
+        tsp,
+        tsp_dir,
+        prune,
+        entry,
+        *token,
+        prevent,
+    );
+    plain_ingested(given)
+}
+
+// `pairs::ingest_entry` itself, on a prune list of 1,024 pairs that goes in and comes back by value.
+#[no_mangle]
+pub extern "C" fn vb_ingest_entry_by_value(
+    state: State,
+    spt: &mut [u8],
+    spt_dir: &mut [u32],
+    tsp: &mut [u8],
+    tsp_dir: &mut [u32],
+    prune: PlainPairs,
+    entry: Entry,
+    token: &[u8; 64],
+    prevent_pruning: u8,
+) -> PlainNumbersIngested
+    ensures { λ r. ⌜ pairsLeft (r .ingested) (now (spt .exit)) (now («spt_dir» .exit)) (now (tsp .exit)) (now («tsp_dir» .exit)) (pairsOf (r .numbers)) ≡ toldPairs (pairsIngested field (storeOf state (now (spt .entry)) (now («spt_dir» .entry)) (now (tsp .entry)) (now («tsp_dir» .entry))) (prune .pairs) entry (now (token .entry)) (isYes «prevent_pruning»)) ⌝ }
+{
+    let prevent = is_yes(prevent_pruning);
+    let pairs = prune.pairs;
+    let given = ingest_entry_by_value(
+        state,
+        spt,
+        spt_dir,
+        tsp,
+        tsp_dir,
+        pairs,
+        entry,
+        *token,
+        prevent,
+    );
+    plain_numbers(given)
+}
+
+// `store::forget::forget_entry`: drops the entry at a subspace and path; with `expects`, only if its digest is the one expected.
+#[no_mangle]
+pub extern "C" fn vb_forget_entry(
+    state: State,
+    spt: &mut [u8],
+    spt_dir: &mut [u32],
+    tsp: &mut [u8],
+    tsp_dir: &mut [u32],
+    subspace: Subspace,
+    path: Path,
+    expects: u8,
+    expected_digest: &[u8; 32],
+) -> EntryForgotten
+    ensures { λ r. ⌜ forgetEntryOutcome r (now (spt .exit)) (now («spt_dir» .exit)) (now (tsp .exit)) (now («tsp_dir» .exit)) ≡ entryForgotten field (storeOf state (now (spt .entry)) (now («spt_dir» .entry)) (now (tsp .entry)) (now («tsp_dir» .entry))) subspace path (isYes expects) (now («expected_digest» .entry)) ⌝ }
+{
+    let expecting = is_yes(expects);
+    forget_entry(
+        state,
+        spt,
+        spt_dir,
+        tsp,
+        tsp_dir,
+        subspace,
+        path,
+        expecting,
+        *expected_digest,
+    )
+}
+
+// `store::forget::forget_area`: drops what an area includes and, with `protects`, the protected area does not.
+#[no_mangle]
+pub extern "C" fn vb_forget_area(
+    state: State,
+    spt: &mut [u8],
+    spt_dir: &mut [u32],
+    tsp: &mut [u8],
+    tsp_dir: &mut [u32],
+    area: PlainArea,
+    protects: u8,
+    protected: PlainArea,
+) -> AreaForgotten
+    ensures { λ r. ⌜ forgetAreaOutcome r (now (spt .exit)) (now («spt_dir» .exit)) (now (tsp .exit)) (now («tsp_dir» .exit)) ≡ areaForgotten field (storeOf state (now (spt .entry)) (now («spt_dir» .entry)) (now (tsp .entry)) (now («tsp_dir» .entry))) (areaOf area) (isYes protects) (areaOf protected) ⌝ }
+{
+    let whole = area_of(area);
+    let protecting = is_yes(protects);
+    let kept = area_of(protected);
+    forget_area(state, spt, spt_dir, tsp, tsp_dir, whole, protecting, kept)
+}

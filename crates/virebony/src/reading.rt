@@ -1,0 +1,184 @@
+// The calls that only read a store: lookup, listings, counts, areas of interest.
+use data_model::parameters::Subspace;
+use data_model::path::Path;
+use plain::answer::PlainListed;
+use plain::answer::plain_listed;
+use plain::input::PlainArea;
+use plain::input::PlainIgnore;
+use plain::input::PlainInterest;
+use plain::input::PlainRange;
+use plain::input::area_of;
+use plain::input::ignore_of;
+use plain::input::interest_of;
+use plain::input::range_of;
+use plain::part::PlainPart;
+use plain::part::plain_part;
+use plain::range_answer::PlainAreaRange;
+use plain::range_answer::plain_interest_range;
+use query::answer::Counted;
+use query::answer::EntryFound;
+use query::count::count_area;
+use query::count::summarise;
+use query::entry::entry;
+use query::interest::area_of_interest_to_range;
+use query::listing::query_area_place;
+use query::listing::query_range_place;
+use store::state::State;
+ghost use mathlib.Core.Path.{_≡_};
+ghost use lib.ListN.{take, drop};
+ghost use Rattle.data_model.specs.Path.{field};
+ghost use Rattle.store.specs.Store.{storeOf};
+ghost use Rattle.query.specs.Lookup.{entryFound};
+ghost use Rattle.query.specs.Listing.{areaListed, areaPart, rangeListed, rangePart};
+ghost use Rattle.query.specs.Count.{areaCounted, summarised};
+ghost use Rattle.query.specs.Interest.{interestRange};
+ghost use Rattle.plain.specs.Input.{areaOf, rangeOf, interestOf, ignoreOf};
+ghost use Rattle.plain.specs.Answer.{plainListed};
+ghost use Rattle.plain.specs.RangeAnswer.{plainInterestRange};
+ghost use Rattle.plain.specs.Part.{plainPart};
+
+// `query::entry::entry`: the entry at a subspace and path, its token and available length; or none.
+#[no_mangle]
+pub extern "C" fn vb_find_entry(
+    state: State,
+    spt: &[u8],
+    spt_dir: &[u32],
+    tsp: &[u8],
+    tsp_dir: &[u32],
+    subspace: Subspace,
+    path: Path,
+    ignore: PlainIgnore,
+) -> EntryFound
+    ensures { λ r. ⌜ r ≡ entryFound field (storeOf state (now (spt .entry)) (now («spt_dir» .entry)) (now (tsp .entry)) (now («tsp_dir» .entry))) subspace path (ignoreOf ignore) ⌝ }
+{
+    let flags = ignore_of(ignore);
+    entry(state, spt, spt_dir, tsp, tsp_dir, subspace, path, flags)
+}
+
+// `query::listing::query_area_place`: the place of an area's first match at or after a place, in key order.
+#[no_mangle]
+pub extern "C" fn vb_query_area_place(
+    state: State,
+    spt: &[u8],
+    spt_dir: &[u32],
+    tsp: &[u8],
+    tsp_dir: &[u32],
+    area: PlainArea,
+    ignore: PlainIgnore,
+    place: usize,
+) -> PlainListed
+    ensures { λ r. ⌜ r ≡ plainListed (areaListed field (storeOf state (now (spt .entry)) (now («spt_dir» .entry)) (now (tsp .entry)) (now («tsp_dir» .entry))) (areaOf area) (ignoreOf ignore) place) ⌝ }
+{
+    let whole = area_of(area);
+    let flags = ignore_of(ignore);
+    plain_listed(query_area_place(state, spt, spt_dir, tsp, tsp_dir, whole, flags, place))
+}
+
+// `query::listing::query_area`: that match's record, as a part of the caller's subspace-first tree; no match or a refusal is 0 and 0.
+#[no_mangle]
+pub extern "C" fn vb_query_area(
+    state: State,
+    spt: &[u8],
+    spt_dir: &[u32],
+    tsp: &[u8],
+    tsp_dir: &[u32],
+    area: PlainArea,
+    ignore: PlainIgnore,
+    place: usize,
+) -> PlainPart
+    ensures { λ r. ⌜ r ≡ plainPart (now («spt_dir» .entry)) (areaListed field (storeOf state (now (spt .entry)) (now («spt_dir» .entry)) (now (tsp .entry)) (now («tsp_dir» .entry))) (areaOf area) (ignoreOf ignore) place) ⌝ }
+    ensures { λ r. ⌜ take (r .length) (drop (r .offset) (now (spt .entry))) ≡ areaPart field (storeOf state (now (spt .entry)) (now («spt_dir» .entry)) (now (tsp .entry)) (now («tsp_dir» .entry))) (areaOf area) (ignoreOf ignore) place ⌝ }
+{
+    let whole = area_of(area);
+    let flags = ignore_of(ignore);
+    let listed = query_area_place(state, spt, spt_dir, tsp, tsp_dir, whole, flags, place);
+    plain_part(state.limit, spt, spt_dir, listed)
+}
+
+// `query::listing::query_range_place`: the place of a 3d range's first match at or after a place, in key order.
+#[no_mangle]
+pub extern "C" fn vb_query_range_place(
+    state: State,
+    spt: &[u8],
+    spt_dir: &[u32],
+    tsp: &[u8],
+    tsp_dir: &[u32],
+    range: PlainRange,
+    ignore: PlainIgnore,
+    place: usize,
+) -> PlainListed
+    ensures { λ r. ⌜ r ≡ plainListed (rangeListed field (storeOf state (now (spt .entry)) (now («spt_dir» .entry)) (now (tsp .entry)) (now («tsp_dir» .entry))) (rangeOf range) (ignoreOf ignore) place) ⌝ }
+{
+    let whole = range_of(range);
+    let flags = ignore_of(ignore);
+    plain_listed(query_range_place(state, spt, spt_dir, tsp, tsp_dir, whole, flags, place))
+}
+
+// `query::listing::query_range`: that match's record, as a part of the caller's subspace-first tree; no match or a refusal is 0 and 0.
+#[no_mangle]
+pub extern "C" fn vb_query_range(
+    state: State,
+    spt: &[u8],
+    spt_dir: &[u32],
+    tsp: &[u8],
+    tsp_dir: &[u32],
+    range: PlainRange,
+    ignore: PlainIgnore,
+    place: usize,
+) -> PlainPart
+    ensures { λ r. ⌜ r ≡ plainPart (now («spt_dir» .entry)) (rangeListed field (storeOf state (now (spt .entry)) (now («spt_dir» .entry)) (now (tsp .entry)) (now («tsp_dir» .entry))) (rangeOf range) (ignoreOf ignore) place) ⌝ }
+    ensures { λ r. ⌜ take (r .length) (drop (r .offset) (now (spt .entry))) ≡ rangePart field (storeOf state (now (spt .entry)) (now («spt_dir» .entry)) (now (tsp .entry)) (now («tsp_dir» .entry))) (rangeOf range) (ignoreOf ignore) place ⌝ }
+{
+    let whole = range_of(range);
+    let flags = ignore_of(ignore);
+    let listed = query_range_place(state, spt, spt_dir, tsp, tsp_dir, whole, flags, place);
+    plain_part(state.limit, spt, spt_dir, listed)
+}
+
+// `query::count::count_area`: how many entries an area includes.
+#[no_mangle]
+pub extern "C" fn vb_count_area(
+    state: State,
+    spt: &[u8],
+    spt_dir: &[u32],
+    tsp: &[u8],
+    tsp_dir: &[u32],
+    area: PlainArea,
+) -> Counted
+    ensures { λ r. ⌜ r ≡ areaCounted field (storeOf state (now (spt .entry)) (now («spt_dir» .entry)) (now (tsp .entry)) (now («tsp_dir» .entry))) (areaOf area) ⌝ }
+{
+    let whole = area_of(area);
+    count_area(state, spt, spt_dir, tsp, tsp_dir, whole)
+}
+
+// `query::count::summarise`, its size: how many entries a 3d range includes.
+#[no_mangle]
+pub extern "C" fn vb_summarise(
+    state: State,
+    spt: &[u8],
+    spt_dir: &[u32],
+    tsp: &[u8],
+    tsp_dir: &[u32],
+    range: PlainRange,
+) -> Counted
+    ensures { λ r. ⌜ r ≡ summarised field (storeOf state (now (spt .entry)) (now («spt_dir» .entry)) (now (tsp .entry)) (now («tsp_dir» .entry))) (rangeOf range) ⌝ }
+{
+    let whole = range_of(range);
+    summarise(state, spt, spt_dir, tsp, tsp_dir, whole)
+}
+
+// `query::interest::area_of_interest_to_range`: the 3d range of the newest entries of an area that keep its limits.
+#[no_mangle]
+pub extern "C" fn vb_area_of_interest_to_range(
+    state: State,
+    spt: &[u8],
+    spt_dir: &[u32],
+    tsp: &[u8],
+    tsp_dir: &[u32],
+    interest: PlainInterest,
+) -> PlainAreaRange
+    ensures { λ r. ⌜ r ≡ plainInterestRange (interestRange field (storeOf state (now (spt .entry)) (now («spt_dir» .entry)) (now (tsp .entry)) (now («tsp_dir» .entry))) (interestOf interest)) ⌝ }
+{
+    let whole = interest_of(interest);
+    plain_interest_range(area_of_interest_to_range(state, spt, spt_dir, tsp, tsp_dir, whole))
+}
