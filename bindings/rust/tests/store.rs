@@ -1,4 +1,5 @@
 //! Document 01's examples through `Store` and its values; the answers are written by hand.
+use std::cmp::Ordering;
 use virebony::*;
 
 const NAMESPACE: NamespaceId = [3; 16];
@@ -25,7 +26,7 @@ fn success(pruned: usize) -> Result<EntryIngestionSuccess, Refusal> {
 fn paths_ascend() {
     let ascending: [&[&[u8]]; 5] = [&[], &[b""], &[b"\0"], &[b"\x01"], &[b"a"]];
     for pair in ascending.map(path).windows(2) {
-        assert!(pair[0] < pair[1] && pair[1] > pair[0] && pair[0] != pair[1]);
+        assert_eq!((pair[0].cmp(&pair[1]), pair[1].cmp(&pair[0])), (Ordering::Less, Ordering::Greater));
     }
 }
 
