@@ -5,8 +5,8 @@ use lib.ListN.{length}
 use Rattle.data_model.specs.Path.{field}
 use Rattle.call_laws.proofs.Stands.{ingestion-value}
 use borrow.Author.Needs.{needs}
-use Rattle.values.proofs.ingestion_is_value.Statement.{statement}
-use Rattle.values.proofs.ingestion_is_value.Tie as tie
+use Rattle.steps.proofs.ingestion_is_value.Statement.{statement}
+use Rattle.steps.proofs.ingestion_is_value.Tie as tie
 
 slice-aggregate-is-bytes : tie.Need-slice-aggregate-is-bytes
 slice-aggregate-is-bytes c = search needs

@@ -1,8 +1,8 @@
 -- `entry_forgetting_is_value`: no ingestion is handed in. Assumes nothing.
 use mathlib.Core.List.{List·Memᴰ·not-nil as none-in}
 use Rattle.call_laws.specs.Calls.{input}
-use Rattle.values.proofs.entry_forgetting_is_value.Statement.{statement}
-use Rattle.values.proofs.entry_forgetting_is_value.Tie as tie
+use Rattle.steps.proofs.entry_forgetting_is_value.Statement.{statement}
+use Rattle.steps.proofs.entry_forgetting_is_value.Tie as tie
 
 returns : tie.Need-returns
 unfolding input
