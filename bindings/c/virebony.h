@@ -1,8 +1,8 @@
 /* virebony: a proved entry store in buffers that you lend. Every call here is proved to end, to read and write nothing but what it is lent, and to
    answer as its contract says (crates/virebony), for every value that these types can hold: any numbers, any bytes, any lengths.
 
-   Make the archive with `rt staticlib virebony` and link target/staticlib/libvirebony.a, from C11 or C++11. It is made for x86-64 Linux; it needs no
-   other library, allocates nothing, keeps nothing between calls, reads and writes no file, and may be called from several threads at once on
+   Make the archive with `rt staticlib virebony` and link target/staticlib/libvirebony.a, from C11 or C++11. It is made for x86-64 Linux. Of functions that
+   are not its own it calls memcpy and memset; it allocates nothing, keeps nothing between calls and has no variables, so several threads may call it at once, on
    different stores. docs/FORMAT.md shows how keys, records, directories and the state lie in memory.
 
    What you owe: a pointer with a count points to so many elements, of the type's own alignment, and is not NULL unless the count is 0; a pointer
