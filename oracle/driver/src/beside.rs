@@ -1,6 +1,9 @@
 //! The port and the customer's Rust side by side, in one run on one thread: the same calls on the same stores, each answer compared,
-//! and the best time of many rounds of each. Built by bench/beside, which links the port's static library.
+//! and the best time of many rounds of each. Built by bench/beside, which links the port's archive: the calls go through its
+//! door.
+mod door;
 mod params;
+use door::{place, Port};
 use either::Either;
 use params::*;
 use std::hint::black_box;
@@ -17,101 +20,7 @@ type P = Path<64, 8, 128>;
 type Ar = g::Area<64, 8, 128, Sub>;
 
 extern "C" {
-    fn store_check(n: usize, limit: usize, a: *const u8, al: usize, b: *const u32, bl: usize, c: *const u8, cl: usize, d: *const u32, dl: usize) -> u64;
-    fn store_open(limit: usize, a: *mut u8, al: usize, b: *mut u32, bl: usize, c: *mut u8, cl: usize, d: *mut u32, dl: usize) -> u64;
-    fn store_ingest(n: usize, limit: usize, a: *mut u8, al: usize, b: *mut u32, bl: usize, c: *mut u8, cl: usize, d: *mut u32, dl: usize, p: *mut u32, pl: usize, k: *const u8, kl: usize, v: *const u8, vl: usize) -> u64;
-    fn store_forget_entry(n: usize, limit: usize, a: *mut u8, al: usize, b: *mut u32, bl: usize, c: *mut u8, cl: usize, d: *mut u32, dl: usize, k: *const u8, kl: usize) -> u64;
-    fn store_forget_area(n: usize, limit: usize, a: *mut u8, al: usize, b: *mut u32, bl: usize, c: *mut u8, cl: usize, d: *mut u32, dl: usize, any: bool, k: *const u8, kl: usize, start: u64) -> u64;
-    fn store_count_area(n: usize, limit: usize, a: *const u8, al: usize, b: *const u32, bl: usize, c: *const u8, cl: usize, d: *const u32, dl: usize, any: bool, k: *const u8, kl: usize, start: u64) -> u64;
-    fn store_list(n: usize, limit: usize, a: *const u8, al: usize, b: *const u32, bl: usize, c: *const u8, cl: usize, d: *const u32, dl: usize, any: bool, k: *const u8, kl: usize, start: u64, place: usize) -> u64;
-    fn store_interest(n: usize, limit: usize, a: *const u8, al: usize, b: *const u32, bl: usize, c: *const u8, cl: usize, d: *const u32, dl: usize, any: bool, k: *const u8, kl: usize, start: u64, max_count: u64, max_size: u64) -> u64;
     fn memcmp(a: *const u8, b: *const u8, n: usize) -> i32;
-}
-const RECORD: usize = 410;
-const FINISHED: u64 = u64::MAX - 13;
-
-/// The port's buffers.
-#[derive(Clone)]
-struct Port {
-    n: usize,
-    limit: usize,
-    spt: Vec<u8>,
-    spt_dir: Vec<u32>,
-    tsp: Vec<u8>,
-    tsp_dir: Vec<u32>,
-    prune: Vec<u32>,
-}
-macro_rules! call {
-    ($f:ident, $s:expr $(, $x:expr)*) => {
-        unsafe {
-            $f($s.n, $s.limit, $s.spt.as_ptr(), $s.spt.len(), $s.spt_dir.as_ptr(), $s.spt_dir.len(), $s.tsp.as_ptr(), $s.tsp.len(),
-                $s.tsp_dir.as_ptr(), $s.tsp_dir.len() $(, $x)*)
-        }
-    };
-}
-macro_rules! call_mut {
-    ($f:ident, $s:expr $(, $x:expr)*) => {
-        unsafe {
-            $f($s.n, $s.limit, $s.spt.as_mut_ptr(), $s.spt.len(), $s.spt_dir.as_mut_ptr(), $s.spt_dir.len(), $s.tsp.as_mut_ptr(),
-                $s.tsp.len(), $s.tsp_dir.as_mut_ptr(), $s.tsp_dir.len() $(, $x)*)
-        }
-    };
-}
-impl Port {
-    fn open(limit: usize) -> Port {
-        // Not zero before it is opened.
-        let mut s = Port {
-            n: 0,
-            limit,
-            spt: vec![7; RECORD * limit],
-            spt_dir: vec![7; 2 * limit],
-            tsp: vec![7; RECORD * limit],
-            tsp_dir: vec![7; 2 * limit],
-            prune: vec![0; 2 * limit],
-        };
-        assert_eq!(s.reopen(), 0);
-        s
-    }
-    fn reopen(&mut self) -> u64 {
-        let s = self;
-        unsafe {
-            store_open(s.limit, s.spt.as_mut_ptr(), s.spt.len(), s.spt_dir.as_mut_ptr(), s.spt_dir.len(), s.tsp.as_mut_ptr(),
-                s.tsp.len(), s.tsp_dir.as_mut_ptr(), s.tsp_dir.len())
-        }
-    }
-    fn check(&self) -> u64 {
-        call!(store_check, self)
-    }
-    fn ingest(&mut self, k: &[u8], v: &[u8]) -> u64 {
-        call_mut!(store_ingest, self, self.prune.as_mut_ptr(), self.prune.len(), k.as_ptr(), k.len(), v.as_ptr(), v.len())
-    }
-    fn forget_entry(&mut self, k: &[u8]) -> u64 {
-        call_mut!(store_forget_entry, self, k.as_ptr(), k.len())
-    }
-    fn forget_area(&mut self, any: bool, k: &[u8], start: u64) -> u64 {
-        call_mut!(store_forget_area, self, any, k.as_ptr(), k.len(), start)
-    }
-    fn count_area(&self, any: bool, k: &[u8], start: u64) -> u64 {
-        call!(store_count_area, self, any, k.as_ptr(), k.len(), start)
-    }
-    fn list(&self, any: bool, k: &[u8], start: u64, place: usize) -> u64 {
-        call!(store_list, self, any, k.as_ptr(), k.len(), start, place)
-    }
-    fn interest(&self, any: bool, k: &[u8], start: u64, count: u64, size: u64) -> u64 {
-        call!(store_interest, self, any, k.as_ptr(), k.len(), start, count, size)
-    }
-    /// Puts back what a call changed.
-    fn restore(&mut self, from: &Port) {
-        self.n = from.n;
-        self.spt.copy_from_slice(&from.spt);
-        self.spt_dir.copy_from_slice(&from.spt_dir);
-        self.tsp.copy_from_slice(&from.tsp);
-        self.tsp_dir.copy_from_slice(&from.tsp_dir);
-    }
-    fn records(&self, tsp: bool) -> Vec<&[u8]> {
-        let (tree, dir) = if tsp { (&self.tsp, &self.tsp_dir) } else { (&self.spt, &self.spt_dir) };
-        (0..self.n).map(|k| &tree[dir[2 * k] as usize..][..dir[2 * k + 1] as usize]).collect()
-    }
 }
 
 /// The Rust's store over the stand-in for sled.
@@ -215,17 +124,12 @@ fn time(i: u32, shape: Shape) -> u64 {
         _ => 100 + (i % 2) as u64,
     }
 }
-/// The subspace-first key and the value.
+/// The subspace-first key and the value, as the Rust writes them.
 fn encoded(i: u32, subs: u32, shape: Shape, t: u64) -> (Vec<u8>, Vec<u8>) {
     let one = Rust::open();
     one.ingest(entry(i, subs, shape, t));
     let (k, v) = one.raw(false).remove(0);
     (k.to_vec(), v.to_vec())
-}
-fn area_key(s: Sub) -> Vec<u8> {
-    let mut k = s.0.to_vec();
-    k.extend([0; 10]);
-    k
 }
 
 /// The same for a call that changes the port's store, which is put back before each round.
@@ -260,7 +164,7 @@ fn same(port: &Port, rust: &Rust, what: &str) {
         let want: Vec<Vec<u8>> = rust.raw(tsp).iter().map(|(k, v)| [&k[..], &v[..]].concat()).collect();
         assert!(port.records(tsp) == want, "{what}: the trees differ");
     }
-    assert_eq!(port.check(), 0, "{what}: not well-formed");
+    port.check();
 }
 
 /// A store of n entries in both, filled by the calls themselves where that is quick.
@@ -270,9 +174,8 @@ fn filled(n: u32, subs: u32, shape: Shape, limit: usize) -> (Port, Rust) {
         rust.ingest(entry(i, subs, shape, time(i, shape)));
     }
     for (k, v) in rust.raw(false) {
-        let got = port.ingest(&k, &v);
-        port.n += 1;
-        assert_eq!(got, port.n as u64);
+        let count = port.count() + 1;
+        assert_eq!(port.ingest(&place(&k, &v)), count);
     }
     same(&port, &rust, "filled");
     (port, rust)
@@ -282,21 +185,21 @@ fn rows(n: u32, subs: u32, shape: Shape, secs: f64, out: &mut Vec<Row>) {
     let limit = n as usize;
     let (full, rust) = filled(n, subs, shape, limit);
     let raws = [rust.raw(false), rust.raw(true)];
-    let check = best(secs, || (), |_| assert_eq!(black_box(full.check()), 0));
+    let check = best(secs, || (), |_| full.check());
     let mut port = full.clone();
     let mut push = |call, port, rust, check| out.push(Row { call, subs, n, port, rust, check });
     let i = n / 2 + 1;
 
     // The last of n entries: the store has one less.
     let (k, v) = encoded(i, subs, shape, time(i, shape));
+    let at = place(&k, &v);
     let less = {
         let mut p = full.clone();
-        assert_eq!(p.forget_entry(&k), n as u64 - 1);
-        p.n -= 1;
+        assert_eq!(p.forget_entry(&at), n as usize - 1);
         p
     };
-    let check_less = best(secs, || (), |_| assert_eq!(black_box(less.check()), 0));
-    let a = best_of(secs, &mut port, &less, |p| assert_eq!(p.ingest(&k, &v), n as u64));
+    let check_less = best(secs, || (), |_| less.check());
+    let a = best_of(secs, &mut port, &less, |p| assert_eq!(p.ingest(&at), n as usize));
     let b = best(
         secs,
         || {
@@ -305,18 +208,18 @@ fn rows(n: u32, subs: u32, shape: Shape, secs: f64, out: &mut Vec<Row>) {
         },
         |e| rust.ingest(e),
     );
-    port.n = n as usize;
     same(&port, &rust, "ingest");
     push("ingest", a, b, check_less);
 
-    let a = best_of(secs, &mut port, &full, |p| assert_eq!(p.ingest(&k, &v), n as u64));
+    let a = best_of(secs, &mut port, &full, |p| assert_eq!(p.ingest(&at), n as usize));
     let b = best(secs, || entry(i, subs, shape, time(i, shape)), |e| rust.ingest(e));
     same(&port, &rust, "resend");
     push("resend", a, b, check);
 
     // A newer one at its place.
     let (k9, v9) = encoded(i, subs, shape, 900);
-    let a = best_of(secs, &mut port, &full, |p| assert_eq!(p.ingest(&k9, &v9), n as u64));
+    let at9 = place(&k9, &v9);
+    let a = best_of(secs, &mut port, &full, |p| assert_eq!(p.ingest(&at9), n as usize));
     let b = best(
         secs,
         || {
@@ -330,7 +233,7 @@ fn rows(n: u32, subs: u32, shape: Shape, secs: f64, out: &mut Vec<Row>) {
     push("replace", a, b, check);
     rust.restore(&raws);
 
-    let a = best_of(secs, &mut port, &full, |p| assert_eq!(p.forget_entry(&k), n as u64 - 1));
+    let a = best_of(secs, &mut port, &full, |p| assert_eq!(p.forget_entry(&at), n as usize - 1));
     let b = best(
         secs,
         || {
@@ -344,39 +247,37 @@ fn rows(n: u32, subs: u32, shape: Shape, secs: f64, out: &mut Vec<Row>) {
         },
         |_| block_on(rust.store.forget_entry(&sub(i, subs), &path(i, shape), None)).unwrap(),
     );
-    port.n = n as usize - 1;
     same(&port, &rust, "forget_entry");
     push("forget_entry", a, b, check);
     rust.restore(&raws);
 
     // Half: those of the later time.
-    let any = area_key(Sub([0; 16]));
+    let any = place(&[0; 26], &[]);
     let half: Ar = g::Area::new(g::AreaSubspace::Any, Path::new_empty(), g::Range::new(101, g::RangeEnd::Open));
-    let a = best_of(secs, &mut port, &full, |p| assert_eq!(p.forget_area(true, &any, 101), n as u64 / 2));
+    let a = best_of(secs, &mut port, &full, |p| assert_eq!(p.forget_area(true, &any, 101), n as usize / 2));
     let b = best(
         secs,
         || rust.restore(&raws),
         |_| assert_eq!(block_on(rust.store.forget_area(&half, None)), Ok(n as usize / 2)),
     );
-    port.n = n as usize / 2;
     same(&port, &rust, "forget_area");
     push("forget_area of half", a, b, check);
     rust.restore(&raws);
     port.restore(&full);
 
     let all: Ar = g::Area::new_full();
-    let a = best(secs, || (), |_| assert_eq!(port.count_area(true, &any, 0), n as u64));
+    let a = best(secs, || (), |_| assert_eq!(port.count_area(true, &any, 0), n as usize));
     let b = best(secs, || (), |_| assert_eq!(block_on(rust.store.count_area(&all)), Ok(n as usize)));
     push("count_area of all", a, b, check);
 
     // A small area: the one path, of the one subspace.
     let one: Ar = g::Area::new(g::AreaSubspace::Id(sub(i, subs)), path(i, shape), g::Range::new(0, g::RangeEnd::Open));
-    let a = best(secs, || (), |_| assert_eq!(port.count_area(false, &k, 0), 1));
+    let a = best(secs, || (), |_| assert_eq!(port.count_area(false, &at, 0), 1));
     let b = best(secs, || (), |_| assert_eq!(block_on(rust.store.count_area(&one)), Ok(1)));
     push("count_area of one", a, b, check);
 
     let mid = n as usize / 2;
-    let a = best(secs, || (), |_| assert_eq!(port.list(true, &any, 0, mid), mid as u64));
+    let a = best(secs, || (), |_| assert_eq!(port.list(true, &any, 0, mid), Some(mid)));
     let b = best(secs, || (), |_| assert_eq!(rust.list(1), 1));
     push("one listing step", a, b, check);
 
@@ -384,15 +285,10 @@ fn rows(n: u32, subs: u32, shape: Shape, secs: f64, out: &mut Vec<Row>) {
         secs,
         || (),
         |_| {
-            let (mut place, mut found) = (0, 0);
-            loop {
-                match port.list(true, &any, 0, place) {
-                    FINISHED => break,
-                    k => {
-                        found += 1;
-                        place = k as usize + 1;
-                    }
-                }
+            let (mut from, mut found) = (0, 0);
+            while let Some(k) = port.list(true, &any, 0, from) {
+                found += 1;
+                from = k + 1;
             }
             assert_eq!(found, n);
         },
@@ -409,18 +305,15 @@ fn rows(n: u32, subs: u32, shape: Shape, secs: f64, out: &mut Vec<Row>) {
 fn validation(n: u32, shape: Shape, secs: f64) {
     let (port, _) = filled(n, 1, shape, n as usize);
     let other = port.clone();
-    let check = best(secs, || (), |_| assert_eq!(black_box(port.check()), 0));
-    let bytes = |v: &Vec<u32>| unsafe { std::slice::from_raw_parts(v.as_ptr() as *const u8, 4 * v.len()).to_vec() };
-    let (d, e) = (bytes(&port.spt_dir), bytes(&port.tsp_dir));
-    let (d2, e2) = (d.clone(), e.clone());
-    let pairs = [(&port.spt, &other.spt), (&port.tsp, &other.tsp), (&d, &d2), (&e, &e2)];
+    let check = best(secs, || (), |_| port.check());
+    let (mine, theirs) = (port.bytes(), other.bytes());
     let cmp = best(secs, || (), |_| {
-        for (a, b) in pairs {
+        for (a, b) in mine.iter().zip(&theirs) {
             assert_eq!(black_box(unsafe { memcmp(a.as_ptr(), b.as_ptr(), a.len()) }), 0);
         }
     });
     let used: usize = port.records(false).iter().map(|r| r.len()).sum();
-    let total: usize = pairs.iter().map(|p| p.0.len()).sum();
+    let total: usize = mine.iter().map(|p| p.len()).sum();
     println!("| {} | {} | {} | {} | {:.1} | {:.1} | {:.1} |", n, used / n as usize, 2 * used, total, check, cmp, check / cmp);
 }
 

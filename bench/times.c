@@ -1,0 +1,121 @@
+/* Times the store's calls through the door, beside memcmp and memmove of the same bytes. The validation of a store is vb_count_area with an illegal path:
+   it is refused with 4 once 1, 2 and 3 have been ruled out. Microseconds, the best of 200 rounds: the noise of a shared machine only adds. With an
+   argument, so many rounds. */
+#define _POSIX_C_SOURCE 199309L
+#include "virebony.h"
+#include <stdio.h>
+#include <stdlib.h>
+#include <string.h>
+#include <time.h>
+
+enum { MOST = 1024, RECORD = 410 };
+typedef struct {
+    vb_state state;
+    uint8_t tree[2][RECORD * MOST];
+    uint32_t dir[2][2 * MOST];
+} Store;
+static Store store, full, less;
+static vb_pair prune[MOST];
+static uint8_t token[64];
+static volatile size_t sink;
+#define STORE store.tree[0], RECORD * store.state.limit, store.dir[0], 2 * store.state.limit, store.tree[1], RECORD * store.state.limit, store.dir[1], 2 * store.state.limit
+
+static double now(void) {
+    struct timespec t;
+    clock_gettime(CLOCK_MONOTONIC, &t);
+    return t.tv_sec * 1e6 + t.tv_nsec / 1e3;
+}
+
+/* Entry n: a component of 4 bytes that ascend with n, `more` components of 16, one of two times. */
+static vb_entry entry(uint64_t n, int more) {
+    vb_entry e;
+    memset(&e, 0, sizeof e);
+    for (int i = 0; i < 4; i++) e.path.bytes[i] = 1 + (n >> (7 * (3 - i)) & 127);
+    memset(e.path.bytes + 4, 0xaa, 16 * more);
+    for (int i = 0; i <= more; i++) e.path.ends[i] = 4 + 16 * i;
+    e.path.count = more + 1, e.timestamp = 100 + n % 2, e.payload_length = 3;
+    memset(e.payload_digest, 10, 32);
+    return e;
+}
+
+static void restore(const Store *from) {
+    store.state = from->state;
+    for (int t = 0; t < 2; t++)
+        memcpy(store.tree[t], from->tree[t], RECORD * from->state.limit), memcpy(store.dir[t], from->dir[t], 8 * from->state.limit);
+}
+
+static void must(const char *what, size_t got, size_t want) {
+    if (got == want) return;
+    printf("%s answers %zu, not %zu\n", what, got, want);
+    exit(1);
+}
+
+static void ingest(uint64_t n, int more) {
+    vb_ingested r = vb_ingest_entry(store.state, STORE, prune, store.state.limit, entry(n, more), token, 0);
+    must("an ingestion", r.refusal | r.obsolete, 0);
+    store.state = r.state;
+}
+
+static int rounds = 200;
+#define BEST(name, before, what)                  \
+    double name = 1e18;                           \
+    for (int round = 0; round < rounds; round++) { \
+        before;                                   \
+        double t0 = now();                        \
+        what;                                     \
+        double t = now() - t0;                    \
+        if (t < name) name = t;                   \
+    }
+
+static void times(size_t n, int more) {
+    static const uint8_t namespace_id[16];
+    store.state.limit = n;
+    store.state = vb_open(namespace_id, n, STORE).state;
+    for (size_t k = 0; k < n; k++) ingest(k, more);
+    full = store;
+    vb_entry first = entry(0, more), mid = entry(n / 2, more);
+    vb_area all, none, one;
+    memset(&all, 0, sizeof all);
+    all.any_subspace = 1, all.times.open = 1;
+    none = one = all, none.path.count = 9, one.path = mid.path;
+    vb_interest quarter = {all, n / 4, UINT64_MAX};
+    vb_ignore nothing = {0, 0};
+    store.state = vb_forget_entry(store.state, STORE, first.subspace_id, first.path, 0, first.payload_digest).state;
+    less = store;
+    size_t used = full.dir[0][2 * n - 2];
+
+    restore(&full);
+    BEST(check, , sink = vb_count_area(store.state, STORE, none).refusal)
+    must("validation", sink, 4);
+    BEST(cmp, , sink = memcmp(store.tree, full.tree, RECORD * n) + memcmp(store.tree[1], full.tree[1], RECORD * n) + memcmp(store.dir, full.dir, 8 * n) + memcmp(store.dir[1], full.dir[1], 8 * n))
+    BEST(in, restore(&less), ingest(0, more))
+    must("an ingestion's count", store.state.count, n);
+    BEST(again, restore(&full), ingest(n / 2, more))
+    BEST(forget, restore(&full), sink = vb_forget_entry(store.state, STORE, first.subspace_id, first.path, 0, first.payload_digest).state.count)
+    must("a forgetting", sink, n - 1);
+    vb_area half = all;
+    half.times.start = 101;
+    BEST(area, restore(&full), sink = vb_forget_area(store.state, STORE, half, 0, half).forgotten)
+    must("a forgetting of an area", sink, n / 2);
+    restore(&full);
+    BEST(count, , sink = vb_count_area(store.state, STORE, all).count)
+    must("a count", sink, n);
+    BEST(small, , sink = vb_count_area(store.state, STORE, one).count)
+    must("a small count", sink, 1);
+    BEST(step, , sink = vb_query_area_place(store.state, STORE, all, nothing, n / 2).place)
+    must("a step", sink, n / 2);
+    BEST(interest, , sink = vb_area_of_interest_to_range(store.state, STORE, quarter).range.times.start)
+    must("an interest", sink, 101);
+    BEST(move, , memmove(store.tree[0], store.tree[0] + 144, used))
+    printf("| %zu | %u | %.1f | %.1f | %.1f | %.1f | %.1f | %.1f | %.1f | %.1f | %.1f | %.1f | %.1f |\n", n, full.dir[0][1], check, cmp, in, again, forget, area, count, small, step, interest, move);
+}
+
+int main(int argc, char **argv) {
+    static const size_t sizes[] = {64, 256, 1024};
+    if (argc > 1) rounds = atoi(argv[1]);
+    puts("| entries | bytes a record | validation | memcmp | ingest | again | forget entry | forget half | count all | count one | step | interest | memmove of a tree |");
+    puts("|---|---|---|---|---|---|---|---|---|---|---|---|---|");
+    for (int more = 0; more <= 7; more += 7)
+        for (int i = 0; i < 3; i++) times(sizes[i], more);
+    return 0;
+}

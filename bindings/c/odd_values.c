@@ -1,0 +1,219 @@
+/* Values that no line of text can say, and refusal 4 of every call of the keys' layer that takes a path, with answers written by hand from document 01:
+   garbage behind a path's count and total, ends that make no path, open ends with a path that is none, ranges that end before they start, key
+   buffers one byte short. It prints how many answers were compared; the first wrong one is shown and ends it. */
+#include "virebony.h"
+#include <stdio.h>
+#include <stdlib.h>
+#include <string.h>
+
+static unsigned compared;
+#define IS(x, y) is((unsigned long long)(x), (unsigned long long)(y), #x, __LINE__)
+static void is(unsigned long long x, unsigned long long y, const char *what, int line) {
+    compared++;
+    if (x == y) return;
+    printf("line %d: %s is %llu, not %llu\n", line, what, x, y);
+    exit(1);
+}
+
+/* All bytes 7 and all ends 255 where nothing else is said. */
+static vb_path odd(size_t count, size_t first, size_t second, size_t third) {
+    vb_path p;
+    memset(p.bytes, 7, sizeof p.bytes);
+    for (size_t i = 0; i < VB_MCC; i++) p.ends[i] = 255;
+    p.ends[0] = first, p.ends[1] = second, p.ends[2] = third;
+    p.count = count;
+    return p;
+}
+
+/* The paths that are none, each by one bound alone. */
+enum { ILLEGAL = 8 };
+static vb_path illegal(int which) {
+    vb_path p = odd(9, 1, 2, 3);
+    switch (which) {
+    case 0: for (size_t i = 0; i < VB_MCC; i++) p.ends[i] = i; break; /* nine components of a byte at most */
+    case 1: p.count = SIZE_MAX; break;
+    case 2: p = odd(2, 5, 3, 255); break; /* descend */
+    case 3: p = odd(3, 3, 5, 4); break;
+    case 4: p = odd(1, 65, 255, 255); break;
+    case 5: p = odd(2, 0, 65, 255); break;
+    case 6: p = odd(3, 64, 128, 129); break; /* 129 in all */
+    default: p = odd(1, SIZE_MAX, 255, 255);
+    }
+    return p;
+}
+
+static vb_path empty(void) { vb_path p; memset(&p, 0, sizeof p); return p; }
+static vb_path garbage(void) { return odd(0, 255, 255, 255); } /* the empty path, garbage behind it */
+static vb_subspace subspace(uint64_t high, uint64_t low) { vb_subspace s; s.high = high; s.low = low; return s; }
+static vb_times times(uint64_t start, uint64_t end, uint8_t open) { vb_times t; t.start = start; t.end = end; t.open = open; return t; }
+
+/* Any subspace and time; paths from one up to another. */
+static vb_range range(vb_path from, vb_path to, uint8_t open) {
+    vb_range r;
+    memset(&r, 0, sizeof r);
+    r.subspaces.open = r.times.open = 1;
+    r.paths.start = from, r.paths.end = to, r.paths.open = open;
+    return r;
+}
+
+static vb_area area(uint8_t any, vb_subspace s, vb_path p, vb_times t) {
+    vb_area a;
+    memset(&a, 0, sizeof a);
+    a.any_subspace = any, a.subspace = s, a.path = p, a.times = t;
+    return a;
+}
+
+static void is_empty(vb_path p) {
+    IS(p.count, 0);
+    for (size_t i = 0; i < VB_MCC; i++) IS(p.ends[i], 0);
+    for (size_t i = 0; i < VB_MPL; i++) IS(p.bytes[i], 0);
+}
+
+static void legality(void) {
+    IS(vb_path_is_legal(garbage()), 1);
+    for (int i = 0; i < ILLEGAL; i++) IS(vb_path_is_legal(illegal(i)), 0);
+    IS(vb_path_is_legal(odd(2, 5, 5, 255)), 1);
+    IS(vb_path_is_legal(odd(1, 64, 255, 255)), 1);
+    IS(vb_path_is_legal(odd(2, 64, 128, 255)), 1);
+    IS(vb_path_is_legal(odd(3, 64, 128, 128)), 1);
+    vb_path eight = odd(8, 1, 2, 3);
+    for (size_t i = 3; i < VB_MCC; i++) eight.ends[i] = 128;
+    IS(vb_path_is_legal(eight), 0); /* the fourth has 125 bytes */
+    eight.ends[3] = 64, eight.ends[4] = 127;
+    IS(vb_path_is_legal(eight), 1);
+}
+
+static void relations(void) {
+    IS(vb_path_eq(garbage(), empty()).yes, 1);
+    IS(vb_path_is_prefix_of(empty(), garbage()).yes, 1);
+    IS(vb_path_is_prefix_of(garbage(), odd(1, 3, 255, 255)).yes, 1);
+    IS(vb_path_is_prefix_of(odd(1, 3, 255, 255), garbage()).yes, 0);
+    IS(vb_path_cmp(garbage(), empty()).less | vb_path_cmp(garbage(), empty()).greater, 0);
+    IS(vb_path_greater_but_not_prefixed(garbage()).found, 0);
+    vb_above a = vb_path_greater_but_not_prefixed(odd(2, 1, 1, 255)); /* [07][] */
+    IS(a.found, 1);
+    IS(a.path.count, 2);
+    IS(a.path.ends[0], 1);
+    IS(a.path.ends[1], 2);
+    IS(a.path.bytes[0], 7);
+    for (size_t i = 1; i < VB_MPL; i++) IS(a.path.bytes[i], 0); /* and zeros behind */
+}
+
+static void says_four(vb_answer a) {
+    IS(a.refusal, 4);
+    IS(a.yes, 0);
+}
+
+/* A path that is none, in every place of every call that takes one. */
+static void refusal_four(vb_path bad) {
+    const vb_compared c[3] = {vb_path_cmp(bad, empty()), vb_path_cmp(empty(), bad), vb_path_cmp(bad, bad)};
+    for (int i = 0; i < 3; i++) {
+        IS(c[i].refusal, 4);
+        IS(c[i].less | c[i].greater, 0);
+    }
+    says_four(vb_path_eq(bad, bad)), says_four(vb_path_eq(bad, empty())), says_four(vb_path_eq(empty(), bad));
+    says_four(vb_path_is_prefix_of(bad, empty())), says_four(vb_path_is_prefix_of(empty(), bad)), says_four(vb_path_is_prefix_of(bad, bad));
+    vb_above above = vb_path_greater_but_not_prefixed(bad);
+    IS(above.refusal, 4);
+    IS(above.found, 0);
+    is_empty(above.path);
+
+    vb_entry good, none; /* the timestamps differ, so the path is not needed; it is refused all the same */
+    memset(&good, 0, sizeof good);
+    none = good, none.path = bad, none.timestamp = 9;
+    says_four(vb_entry_is_newer_than(good, none)), says_four(vb_entry_is_newer_than(none, good)), says_four(vb_entry_is_newer_than(none, none));
+    says_four(vb_entry_prunes(good, none)), says_four(vb_entry_prunes(none, good)), says_four(vb_entry_prunes(none, none));
+    says_four(vb_entry_is_pruned_by(good, none)), says_four(vb_entry_is_pruned_by(none, good)), says_four(vb_entry_is_pruned_by(none, none));
+    none.namespace_id[0] = 1, none.subspace_id.high = 1; /* nor is it, where another namespace and subspace decide */
+    says_four(vb_entry_prunes(none, good)), says_four(vb_entry_is_pruned_by(good, none));
+
+    const vb_subspace zero = subspace(0, 0);
+    vb_area a = area(0, subspace(0, 1), bad, times(5, 4, 0)); /* another subspace, and no time is in it */
+    says_four(vb_area_includes_triplet(a, zero, empty(), 0));
+    a.path = empty();
+    says_four(vb_area_includes_triplet(a, zero, bad, 0));
+    a.path = bad;
+    vb_area_range r = vb_area_to_range(a);
+    IS(r.refusal, 4);
+    IS(r.range.subspaces.open | r.range.paths.open | r.range.times.open, 0);
+    IS(r.range.subspaces.start.low | r.range.subspaces.end.low | r.range.times.start | r.range.times.end, 0);
+    is_empty(r.range.paths.start), is_empty(r.range.paths.end);
+
+    says_four(vb_range_includes_triplet(range(bad, empty(), 1), zero, empty(), 0));
+    says_four(vb_range_includes_triplet(range(bad, empty(), 0), zero, empty(), 0));
+    says_four(vb_range_includes_triplet(range(empty(), bad, 0), zero, empty(), 0));
+    says_four(vb_range_includes_triplet(range(empty(), bad, 1), zero, bad, 0));
+    IS(vb_range_includes_triplet(range(empty(), bad, 1), zero, empty(), 0).refusal, 0); /* the path of an open end is not looked at */
+    IS(vb_range_includes_triplet(range(empty(), bad, 255), zero, empty(), 0).yes, 1);
+    vb_range nothing = range(empty(), bad, 0);
+    nothing.times = times(9, 9, 0);
+    says_four(vb_range_includes_triplet(nothing, zero, empty(), 0));
+}
+
+static void ranges(void) {
+    vb_range r = range(empty(), empty(), 1);
+    const vb_subspace zero = subspace(0, 0);
+    IS(vb_range_includes_triplet(r, zero, empty(), UINT64_MAX).yes, 1);
+    r.times = times(0, UINT64_MAX, 0);
+    IS(vb_range_includes_triplet(r, zero, empty(), UINT64_MAX).yes, 0);
+    IS(vb_range_includes_triplet(r, zero, empty(), UINT64_MAX - 1).yes, 1);
+    r.times = times(20, 10, 0); /* ends before it starts */
+    static const uint64_t around[] = {9, 10, 15, 20, 21};
+    for (int i = 0; i < 5; i++) IS(vb_range_includes_triplet(r, zero, empty(), around[i]).yes, 0);
+    r = range(odd(1, 3, 255, 255), odd(1, 2, 255, 255), 0); /* from [070707] to [0707] */
+    for (size_t n = 0; n < 5; n++) IS(vb_range_includes_triplet(r, zero, odd(1, n, 255, 255), 0).yes, 0);
+    IS(vb_range_includes_triplet(r, zero, empty(), 0).refusal, 0);
+    r = range(empty(), empty(), 1);
+    r.subspaces.start = subspace(1, 0), r.subspaces.end = subspace(0, UINT64_MAX), r.subspaces.open = 0;
+    IS(vb_range_includes_triplet(r, subspace(1, 0), empty(), 0).yes, 0);
+    IS(vb_range_includes_triplet(r, subspace(0, UINT64_MAX), empty(), 0).yes, 0);
+    r.subspaces.end = subspace(1, 1);
+    IS(vb_range_includes_triplet(r, subspace(1, 0), empty(), 0).yes, 1);
+    IS(vb_range_includes_triplet(r, subspace(1, 1), empty(), 0).yes, 0);
+    IS(vb_range_includes_triplet(r, subspace(0, UINT64_MAX), empty(), 0).yes, 0);
+}
+
+static void areas(void) {
+    vb_area_range r = vb_area_to_range(area(0, subspace(0, UINT64_MAX), garbage(), times(0, 77, 9)));
+    IS(r.refusal, 0);
+    IS(vb_range_includes_triplet(r.range, subspace(1, 0), empty(), 0).yes, 0);
+    IS(vb_range_includes_triplet(r.range, subspace(0, UINT64_MAX), empty(), UINT64_MAX).yes, 1);
+    is_empty(r.range.paths.start);
+    IS(r.range.times.end, 0); /* an open end is told as 0 */
+    r = vb_area_to_range(area(0, subspace(1, 0), garbage(), times(0, 0, 1)));
+    IS(vb_range_includes_triplet(r.range, subspace(1, 0), empty(), 0).yes, 1);
+    is_empty(r.range.paths.start);
+    r = vb_area_to_range(area(0, subspace(UINT64_MAX, UINT64_MAX), garbage(), times(0, 0, 1))); /* no subspace above it */
+    IS(r.range.subspaces.open, 1);
+    IS(vb_range_includes_triplet(r.range, subspace(UINT64_MAX, UINT64_MAX), empty(), 0).yes, 1);
+    IS(vb_range_includes_triplet(r.range, subspace(UINT64_MAX, UINT64_MAX - 1), empty(), 0).yes, 0);
+}
+
+/* A key written to so many bytes, all 9: which answer, and that only the key's bytes, all 0, have changed. */
+static void written(size_t bytes, vb_path p, int refusal, size_t length) {
+    for (int time_first = 0; time_first < 2; time_first++) {
+        uint8_t *out = (uint8_t *)malloc(bytes);
+        if (!out) exit(2);
+        memset(out, 9, bytes);
+        vb_encoded e = time_first ? vb_encode_tsp_entry_key(subspace(0, 0), p, 0, out, bytes) : vb_encode_spt_entry_key(subspace(0, 0), p, 0, out, bytes);
+        IS(e.refusal, refusal);
+        IS(e.length, length);
+        for (size_t i = 0; i < bytes; i++) IS(out[i], i < length ? 0 : 9);
+        free(out);
+    }
+}
+
+int main(void) {
+    legality();
+    relations();
+    for (int i = 0; i < ILLEGAL; i++) refusal_four(illegal(i));
+    ranges();
+    areas();
+    written(1, empty(), 2, 0);
+    written(297, empty(), 2, 0);
+    written(298, empty(), 0, 26);
+    written(300, garbage(), 0, 26);
+    for (int i = 0; i < ILLEGAL; i++) written(297, illegal(i), 2, 0), written(298, illegal(i), 4, 0);
+    printf("%u answers on odd values as written\n", compared);
+    return 0;
+}

@@ -1,0 +1,205 @@
+/* What a call answers on the store that was read, and what it leaves in the buffers: document 01 over a plain list of items. Nothing of the trees
+   is edited: what is left is laid again, record after record, from its triple and its value. */
+#include "items.h"
+#include <stdlib.h>
+
+/* Calls that write */
+
+static size_t write_key(int t, const item *e, uint8_t *out) {
+    uint8_t *p = out;
+    if (t) put64(p, e->time), p += 8;
+    memcpy(p, e->subspace, 16), p += 16;
+    for (int i = 0; i < e->parts; i++) {
+        for (int k = 0; k < e->len[i]; k++) {
+            *p++ = e->part[i][k];
+            if (!e->part[i][k]) *p++ = 2;
+        }
+        *p++ = 0, *p++ = 1;
+    }
+    *p++ = 0, *p++ = 0;
+    if (!t) put64(p, e->time), p += 8;
+    return p - out;
+}
+
+static const item *left[LIMIT_LAST + 1];
+
+/* "ascending by that tree's keys; zeros follow up to 410 × limit" */
+static void lay(lent *after, size_t n) {
+    for (int t = 0; t < 2; t++) {
+        size_t at = 0;
+        memset(after->tree[t], 0, RECORD_BYTES * after->state.limit), memset(after->dir[t], 0, 8 * after->state.limit);
+        qsort(left, n, sizeof *left, t ? time_first : subspace_first);
+        for (size_t k = 0; k < n; k++) {
+            size_t key = write_key(t, left[k], after->tree[t] + at);
+            memcpy(after->tree[t] + at + key, left[k]->value, VALUE_BYTES);
+            after->dir[t][2 * k] = (uint32_t)at, after->dir[t][2 * k + 1] = (uint32_t)(key + VALUE_BYTES);
+            at += key + VALUE_BYTES;
+        }
+    }
+    after->state.count = n;
+}
+
+static answer refused(answer a, int number) {
+    a.refusal = (uint8_t)number;
+    return a;
+}
+
+static answer ingested(const call *c, lent *after, answer a) {
+    static item new;
+    static uint8_t value[VALUE_BYTES];
+    size_t n = 0, pruned = 0;
+    if (!judge_is_legal(&c->entry.path)) return refused(a, 4);
+    if (memcmp(c->entry.namespace_id, after->state.namespace_id, 16)) return refused(a, 6);
+    take_subspace(c->entry.subspace_id, new.subspace), take_path(&c->entry.path, &new);
+    new.time = c->entry.timestamp, new.value = value;
+    put64(value, c->entry.payload_length), memcpy(value + DIGEST_AT, c->entry.payload_digest, 32), memcpy(value + TOKEN_AT, c->token, 64);
+    for (size_t k = 0; k < after->state.count; k++) {
+        const item *e = judged_items + k;
+        if (same_subspace(e, &new) && prefixes(e, &new) && newer(e, &new)) {
+            a.yes = 1;
+            return a;
+        }
+    }
+    for (size_t k = 0; k < after->state.count; k++) {
+        const item *e = judged_items + k;
+        if (same_subspace(e, &new) && prefixes(&new, e) && !newer(e, &new)) pruned++;
+        else left[n++] = e;
+    }
+    if (c->prevent_pruning && pruned) return refused(a, 7);
+    if (n >= after->state.limit) return refused(a, 8);
+    a.number = pruned;
+    for (size_t k = 0, i = 0; k < after->state.count; k++) { /* "as they stood in the subspace-first tree before the call, in key order" */
+        const item *e = judged_items + k;
+        if (i < n && left[i] == e) {
+            i++;
+            continue;
+        }
+        *after->prune++ = (uint32_t)e->offset, *after->prune++ = (uint32_t)e->size;
+    }
+    after->prune -= 2 * pruned;
+    left[n++] = &new;
+    lay(after, n);
+    a.state = after->state;
+    return a;
+}
+
+static answer forgotten(const call *c, lent *after, answer a) {
+    item at;
+    size_t n = 0;
+    if (!judge_is_legal(&c->entry.path)) return refused(a, 4);
+    take_subspace(c->entry.subspace_id, at.subspace), take_path(&c->entry.path, &at);
+    for (size_t k = 0; k < after->state.count; k++) {
+        const item *e = judged_items + k;
+        if (!same_subspace(e, &at) || !same_path(e, &at)) left[n++] = e;
+        else if (c->expects && memcmp(e->value + DIGEST_AT, c->entry.payload_digest, 32)) return refused(a, 9);
+    }
+    lay(after, n);
+    a.state = after->state;
+    return a;
+}
+
+static answer area_forgotten(const call *c, lent *after, answer a) {
+    size_t n = 0;
+    if (!judge_is_legal(&c->area.path) || (c->protects && !judge_is_legal(&c->protected_area.path))) return refused(a, 4);
+    for (size_t k = 0; k < after->state.count; k++) {
+        const item *e = judged_items + k;
+        if (in_area(&c->area, e) && !(c->protects && in_area(&c->protected_area, e))) a.number++;
+        else left[n++] = e;
+    }
+    lay(after, n);
+    a.state = after->state;
+    return a;
+}
+
+/* Calls that read */
+
+static answer found(const call *c, const lent *s, answer a) {
+    item at;
+    if (!judge_is_legal(&c->entry.path)) return refused(a, 4);
+    take_subspace(c->entry.subspace_id, at.subspace), take_path(&c->entry.path, &at);
+    for (size_t k = 0; k < s->state.count; k++) {
+        const item *e = judged_items + k;
+        if (!same_subspace(e, &at) || !same_path(e, &at) || passed_over(&c->ignore, e)) continue;
+        a.yes = 1;
+        give_entry(e, &a.lengthy);
+    }
+    return a;
+}
+
+static bool matches(const call *c, const item *e) {
+    switch (c->kind) {
+    case RANGE_PLACE: case RANGE_PART: return in_range(&c->range, e) && !passed_over(&c->ignore, e);
+    case SUMMARISE: return in_range(&c->range, e);
+    case AREA_PLACE: case AREA_PART: return in_area(&c->area, e) && !passed_over(&c->ignore, e);
+    default: return in_area(&c->area, e);
+    }
+}
+
+static bool legal_query(const call *c) {
+    bool range = c->kind == RANGE_PLACE || c->kind == RANGE_PART || c->kind == SUMMARISE;
+    if (!range) return judge_is_legal(&c->area.path);
+    return judge_is_legal(&c->range.paths.start) && (c->range.paths.open || judge_is_legal(&c->range.paths.end));
+}
+
+/* "the next match at or after it as a part of the caller's tree; another answers that match's place, or finished, or a refusal. In the last two
+   cases the part is empty." A part cannot say a refusal. */
+static answer listed(const call *c, const lent *s, answer a) {
+    bool part = c->kind == AREA_PART || c->kind == RANGE_PART;
+    if (!legal_query(c)) return refused(a, part ? 0 : 4);
+    for (size_t k = c->place; k < s->state.count; k++)
+        if (matches(c, judged_items + k)) {
+            if (part) a.part.offset = judged_items[k].offset, a.part.length = judged_items[k].size;
+            else a.yes = 1, a.number = k;
+            break;
+        }
+    return a;
+}
+
+static answer counted(const call *c, const lent *s, answer a) {
+    if (!legal_query(c)) return refused(a, 4);
+    for (size_t k = 0; k < s->state.count; k++) a.number += matches(c, judged_items + k);
+    return a;
+}
+
+/* "walking the matches in time-first order from the last; the times start at that of the first entry met that broke a limit, else of the least
+   match, else as given. A limit of 2^64 − 1 means none; for the size, no sum is then kept. A sum past 2^64 − 1 counts as over" */
+static answer interest(const call *c, const lent *s, answer a) {
+    uint64_t met = 0, sum = 0;
+    if (!legal_query(c)) return refused(a, 4);
+    area_range(&c->area, &a.range);
+    size_t n = 0;
+    for (size_t k = 0; k < s->state.count; k++)
+        if (matches(c, judged_items + k)) left[n++] = judged_items + k;
+    qsort(left, n, sizeof *left, time_first);
+    while (n-- > 0) {
+        uint64_t length = be64(left[n]->value);
+        bool over = length > UINT64_MAX - sum;
+        met++, sum += length;
+        a.range.times.start = left[n]->time;
+        if (c->max_count != UINT64_MAX && met > c->max_count) break;
+        if (c->max_size != UINT64_MAX && (over || sum > c->max_size)) break;
+    }
+    return a;
+}
+
+answer judge_answers(const call *c, lent *after) {
+    static const answer nothing;
+    answer a = nothing;
+    bool writes = c->kind < FIND_ENTRY, part = c->kind == AREA_PART || c->kind == RANGE_PART;
+    int number = judge_refuses(c->kind, after);
+    if (writes && !(c->kind == OPEN && number)) a.state = after->state; /* "A refused opening, handed no state, returns one that is all 0." */
+    if (number) return refused(a, part ? 0 : number);
+    switch (c->kind) {
+    case OPEN:
+        lay(after, 0);
+        a.state.count = 0;
+        return a;
+    case INGEST: case INGEST_NUMBERS: case INGEST_BY_VALUE: return ingested(c, after, a);
+    case FORGET_ENTRY: return forgotten(c, after, a);
+    case FORGET_AREA: return area_forgotten(c, after, a);
+    case FIND_ENTRY: return found(c, after, a);
+    case COUNT_AREA: case SUMMARISE: return counted(c, after, a);
+    case INTEREST: return interest(c, after, a);
+    default: return listed(c, after, a);
+    }
+}

@@ -1,0 +1,289 @@
+/* Ways to damage a store, some of which leave it well-formed. Works on the global `store`. */
+#ifndef DAMAGES_H
+#define DAMAGES_H
+#include "values.h"
+#include <stdlib.h>
+
+static lent store;
+
+static void put64(uint8_t *p, uint64_t x) {
+    for (int i = 7; i >= 0; i--, x >>= 8) p[i] = (uint8_t)x;
+}
+
+/* Records as they lie, so that one can be taken out, put in or changed, and the trees written anew without gaps. */
+
+typedef struct {
+    size_t len;
+    uint8_t b[VB_RECORD_MOST + 32];
+} Rec;
+
+static Rec recs[2][VB_LIMIT_MOST + 2];
+static uint64_t held[2];
+
+static void take_apart(void) {
+    for (int t = 0; t < 2; t++) {
+        held[t] = store.state.count;
+        for (uint64_t k = 0; k < store.state.count; k++) {
+            recs[t][k].len = store.dir[t][2 * k + 1];
+            memcpy(recs[t][k].b, store.tree[t] + store.dir[t][2 * k], recs[t][k].len);
+        }
+    }
+}
+
+static void put_together(void) {
+    for (int t = 0; t < 2; t++) {
+        size_t at = 0;
+        memset(store.tree[t], 0, VB_RECORD_MOST * store.state.limit), memset(store.dir[t], 0, 8 * store.state.limit);
+        for (uint64_t k = 0; k < held[t]; k++) {
+            if (k >= store.state.limit || at + recs[t][k].len > VB_RECORD_MOST * store.state.limit) break;
+            memcpy(store.tree[t] + at, recs[t][k].b, recs[t][k].len);
+            store.dir[t][2 * k] = at, store.dir[t][2 * k + 1] = recs[t][k].len;
+            at += recs[t][k].len;
+        }
+    }
+}
+
+static int by_key(const void *x, const void *y) {
+    const Rec *a = x, *b = y;
+    size_t m = a->len - VB_VALUE, n = b->len - VB_VALUE;
+    int c = memcmp(a->b, b->b, m < n ? m : n);
+    return c ? c : (m > n) - (m < n);
+}
+
+/* The record in the other tree of the one at k in the subspace-first tree. */
+static uint64_t partner(uint64_t k) {
+    Rec *r = &recs[0][k];
+    size_t key = r->len - VB_VALUE;
+    for (uint64_t j = 0; j < held[1]; j++) {
+        Rec *o = &recs[1][j];
+        if (o->len == r->len && !memcmp(o->b, r->b + key - 8, 8) && !memcmp(o->b + 8, r->b, key - 8)) return j;
+    }
+    return 0;
+}
+
+/* A tree's record made out of the other's key: time, subspace and path change places. */
+static void as_time_first(const Rec *r, Rec *o) {
+    size_t key = r->len - VB_VALUE;
+    o->len = r->len;
+    memcpy(o->b, r->b + key - 8, 8), memcpy(o->b + 8, r->b, key - 8), memcpy(o->b + key, r->b + key, VB_VALUE);
+}
+
+static void shift(Rec *r, size_t at, int by) {
+    if (by > 0) memmove(r->b + at + 1, r->b + at, r->len - at), r->len++;
+    else memmove(r->b + at, r->b + at + 1, r->len - at - 1), r->len--;
+}
+
+static uint32_t odd_number(uint32_t x) {
+    switch (below(5)) {
+    case 0: return x + 1;
+    case 1: return x - 1;
+    case 2: return x ^ 1u << below(32);
+    case 3: return (uint32_t)random64();
+    default: return (uint32_t)below(500);
+    }
+}
+
+/* A record of any components, also of such as make no path. */
+static void write_record(Rec *p, vb_subspace subspace, const uint8_t *bytes, const size_t *ends, size_t parts, uint64_t time, const uint8_t *value) {
+    uint8_t *q = p->b;
+    put64(q, subspace.high), put64(q + 8, subspace.low), q += 16;
+    for (size_t i = 0, at = 0; i < parts; i++) {
+        for (; at < ends[i]; at++) {
+            *q++ = bytes[at];
+            if (!bytes[at]) *q++ = 2;
+        }
+        *q++ = 0, *q++ = 1;
+    }
+    *q++ = 0, *q++ = 0;
+    put64(q, time), q += 8;
+    memmove(q, value, VB_VALUE), p->len = q - p->b + VB_VALUE;
+}
+
+/* Components of which one bound is met, or passed by one: a total of 128 or 129, eight or nine components, 64 or 65 bytes in one. How many. */
+static size_t bound_path(uint8_t bytes[VB_MPL + 1], size_t ends[VB_MCC + 1]) {
+    size_t over = below(2), parts;
+    for (size_t i = 0; i <= VB_MPL; i++) bytes[i] = SOME[1 + below(4)]; /* few bytes 00: the record has at most 410 bytes */
+    switch (below(3)) {
+    case 0: ends[0] = 43, ends[1] = 86, ends[2] = 128 + over, parts = 3; break;
+    case 1: parts = 8 + over; for (size_t i = 0; i < parts; i++) ends[i] = i / 2; break;
+    default: ends[0] = 2, ends[1] = 66 + over, parts = 2;
+    }
+    return parts;
+}
+
+/* The record at n of the subspace-first tree also goes to the other; both are sorted again. */
+static void add_last(uint64_t n) {
+    as_time_first(&recs[0][n], &recs[1][n]);
+    held[0] = held[1] = store.state.count = n + 1;
+    for (int i = 0; i < 2; i++) qsort(recs[i], held[i], sizeof(Rec), by_key);
+}
+
+enum { DAMAGES = 23 };
+
+static void damage(int kind) {
+    int t = (int)below(2);
+    uint64_t n = store.state.count, k = n ? below(n) : 0, j = n ? below(n) : 0, end = n ? store.dir[t][2 * n - 2] + store.dir[t][2 * n - 1] : 0;
+    uint64_t room = VB_RECORD_MOST * store.state.limit;
+    take_apart();
+    Rec *r = &recs[0][k], *o = &recs[1][partner(k)], swap;
+    size_t key = r->len - VB_VALUE;
+    switch (kind) {
+    case 0: /* a byte of a tree */
+        if (end) store.tree[t][below(end)] ^= 1 << below(8);
+        break;
+    case 1: /* a byte of a tree, to one of the bytes that keys have */
+        if (end) store.tree[t][below(end)] = SOME[below(5)];
+        break;
+    case 2: { /* a number of a directory */
+        uint64_t i = below(2 * store.state.limit);
+        if (n && one_in(2)) i = below(2 * n);
+        store.dir[t][i] = odd_number(store.dir[t][i]);
+        break;
+    }
+    case 3: /* the count */
+        store.state.count = one_in(3) ? n + 1 : one_in(3) ? n - 1 : one_in(3) ? below(2 * store.state.limit) : random64();
+        break;
+    case 4: /* the limit */
+        store.state.limit = one_in(4) ? 0 : one_in(4) ? 1025 + below(3) : one_in(3) ? store.state.limit + 1 : one_in(2) ? store.state.limit - 1 : random64();
+        break;
+    case 5: /* the length of a buffer */
+        switch (below(3)) {
+        case 0: store.bytes[t] = one_in(2) ? room - 1 : below(room); break;
+        case 1: store.numbers[t] = one_in(2) ? 2 * store.state.limit - 1 : below(2 * store.state.limit); break;
+        default: store.prune_numbers = one_in(2) ? 2 * store.state.limit - 1 : below(2 * store.state.limit);
+        }
+        break;
+    case 6: /* two records of one tree change places */
+        swap = recs[t][k], recs[t][k] = recs[t][j], recs[t][j] = swap;
+        put_together();
+        break;
+    case 7: /* a value in one tree only */
+        if (n) recs[t][k].b[recs[t][k].len - VB_VALUE + below(VB_VALUE)] ^= 1 << below(8);
+        put_together();
+        break;
+    case 8: /* a value in both trees alike */
+        if (n) {
+            size_t i = one_in(2) ? below(8) : below(VB_VALUE);
+            uint8_t x = 1 << below(8);
+            r->b[key + i] ^= x, o->b[key + i] ^= x;
+        }
+        put_together();
+        break;
+    case 9: /* a key in both trees alike, a byte more or less: of another form, or another path */
+        if (n) {
+            size_t at = 16 + below(key - 23);
+            int by = one_in(2) ? 1 : -1;
+            shift(r, at, by), shift(o, at + 8, by);
+            if (by > 0) r->b[at] = o->b[at + 8] = SOME[below(5)];
+        }
+        put_together();
+        break;
+    case 10: /* a byte of the path in both trees alike */
+        if (n) {
+            size_t at = 16 + below(key - 24);
+            r->b[at] = o->b[at + 8] = one_in(3) ? 3 : SOME[below(5)];
+        }
+        put_together();
+        break;
+    case 11: /* the same, sorted again: a form of key that no encoder writes, or another entry */
+        if (n) {
+            size_t at = 16 + below(key - 24);
+            r->b[at] = o->b[at + 8] = one_in(3) ? 3 : SOME[below(5)];
+            for (int i = 0; i < 2; i++) qsort(recs[i], held[i], sizeof(Rec), by_key);
+        }
+        put_together();
+        break;
+    case 12: /* a timestamp in both trees, sorted again: perhaps it now prunes another, or is pruned */
+        if (n) {
+            uint64_t x = below(9);
+            put64(r->b + key - 8, x), put64(o->b, x);
+            for (int i = 0; i < 2; i++) qsort(recs[i], held[i], sizeof(Rec), by_key);
+        }
+        put_together();
+        break;
+    case 13: /* one entry more in both trees, in order, unasked: unrelated, pruning, pruned, or at a taken place */
+        if (n && n < store.state.limit) {
+            Rec *p = &recs[0][n];
+            *p = *r;
+            if (one_in(2)) {
+                vb_path path = random_path();
+                write_record(p, random_subspace(), path.bytes, path.ends, path.count, random_number(6), r->b + key);
+            } else {
+                put64(p->b + key - 8, below(9)); /* the same place */
+            }
+            add_last(n);
+        }
+        put_together();
+        break;
+    case 14: /* one entry less, in both trees or in one */
+        if (n) {
+            int both = one_in(2);
+            if (both || t == 0) memmove(r, r + 1, (held[0]-- - k - 1) * sizeof(Rec));
+            if (both || t == 1) memmove(o, o + 1, (held[1]-- - (o - recs[1]) - 1) * sizeof(Rec));
+            store.state.count = n - 1 + (!both && one_in(2));
+        }
+        put_together();
+        break;
+    case 15: /* a byte behind the last record */
+        if (end < room) store.tree[t][end + below(one_in(2) ? 1 : room - end)] = 1 + below(255);
+        break;
+    case 16: /* a number behind the last pair */
+        if (n < store.state.limit) store.dir[t][2 * n + below(one_in(2) ? 1 : 2 * (store.state.limit - n))] = 1 + below(500);
+        break;
+    case 17: /* an available length, in both trees or in one: perhaps above the payload's */
+        if (n) {
+            uint64_t x = one_in(4) ? random64() : below(5);
+            int both = !one_in(3);
+            if (both || t == 0) put64(r->b + key + 104, x);
+            if (both || t == 1) put64(o->b + key + 104, x);
+        }
+        put_together();
+        break;
+    case 18: /* bytes beyond the bounds: no damage */
+        if (store.bytes[t] > room) store.tree[t][room + below(store.bytes[t] - room)] ^= 0xff;
+        if (store.numbers[t] > 2 * store.state.limit) store.dir[t][2 * store.state.limit + below(store.numbers[t] - 2 * store.state.limit)] ^= 0xff;
+        break;
+    case 19: /* the state's namespace: no damage */
+        store.state.namespace_id[below(16)] ^= 1 << below(8);
+        break;
+    case 20: /* a path at a bound or one over it, in both trees, in order: in place of an entry, or one more */
+    case 21:
+        if (n) {
+            uint8_t bytes[VB_MPL + 1];
+            size_t ends[VB_MCC + 1], parts = bound_path(bytes, ends);
+            bool more = n < store.state.limit && one_in(2);
+            uint8_t value[VB_VALUE];
+            memcpy(value, r->b + key, VB_VALUE);
+            if (!more) {
+                memmove(r, r + 1, (n - k - 1) * sizeof(Rec)), memmove(o, o + 1, (n - (o - recs[1]) - 1) * sizeof(Rec));
+                n--;
+            }
+            write_record(&recs[0][n], random_subspace(), bytes, ends, parts, random_number(6), value);
+            add_last(n);
+        }
+        put_together();
+        break;
+    default: /* a gap: all offsets but the first one further, or the first not 0 */
+        if (n) {
+            uint64_t from = one_in(2) ? 0 : k;
+            if (end < room) memmove(store.tree[t] + store.dir[t][2 * from] + 1, store.tree[t] + store.dir[t][2 * from], end - store.dir[t][2 * from]);
+            for (uint64_t i = from; i < n; i++) store.dir[t][2 * i]++;
+        }
+    }
+}
+
+/* Available lengths up to the payload's, in both trees, as no call of this edition writes them. */
+static void poke_available(void) {
+    take_apart();
+    for (uint64_t k = 0; k < store.state.count; k++) {
+        Rec *r = &recs[0][k], *o = &recs[1][partner(k)];
+        uint8_t *value = r->b + r->len - VB_VALUE;
+        uint64_t length = 0;
+        for (int i = 0; i < 8; i++) length = length << 8 | value[i];
+        if (!length || one_in(2)) continue;
+        length = one_in(3) ? length : one_in(2) ? 1 : length - below(length < 4 ? length : 4);
+        put64(value + 104, length), put64(o->b + o->len - 8, length);
+    }
+    put_together();
+}
+#endif

@@ -1,0 +1,204 @@
+/* Random edits of a store through the door, each beside a plain copy in C: two lists of records, sorted by key, into which a record is put, or out of which
+   some are taken, by plain memmove. After each edit both trees and both directories are compared byte for byte, and the pairs of what was pruned; then a
+   byte behind the last record, an offset and a byte of a key's end are damaged in turn, and each must be refused with 3. Ends with 1 at the first
+   difference. */
+#include "virebony.h"
+#include <stdbool.h>
+#include <stdio.h>
+#include <stdlib.h>
+#include <string.h>
+
+enum { MOST = 40, RECORD = 410, VALUE = 112 };
+
+/* A path is one component `n` and `more` components of 16 bytes, so one prefixes another if `n` is the same and `more` not greater. */
+typedef struct {
+    uint64_t n, time;
+    int more;
+    size_t len[2];
+    uint8_t record[2][RECORD];
+} Copy;
+
+static Copy copies[MOST + 1];
+static size_t copied;
+
+static uint8_t tree[2][RECORD * MOST], want[RECORD * MOST];
+static uint32_t dir[2][2 * MOST], want_dir[2 * MOST];
+static vb_pair prune[MOST], want_prune[MOST];
+static vb_state state;
+#define STORE tree[0], RECORD * state.limit, dir[0], 2 * state.limit, tree[1], RECORD * state.limit, dir[1], 2 * state.limit
+
+static uint8_t *put64(uint8_t *p, uint64_t x) {
+    for (int i = 7; i >= 0; i--) *p++ = (uint8_t)(x >> (8 * i));
+    return p;
+}
+
+static uint8_t *put_path(uint8_t *p, const Copy *c) {
+    for (int i = 3; i >= 0; i--) *p++ = 1 + (c->n >> (7 * i) & 127);
+    *p++ = 0, *p++ = 1;
+    for (int k = 0; k < c->more; k++) {
+        memset(p, 0xaa, 16), p += 16;
+        *p++ = 0, *p++ = 1;
+    }
+    *p++ = 0, *p++ = 0;
+    return p;
+}
+
+static void write_records(Copy *c) {
+    for (int t = 0; t < 2; t++) {
+        uint8_t *p = c->record[t];
+        if (t) p = put64(p, c->time);
+        p = put_path(put64(put64(p, 0), 0), c);
+        if (!t) p = put64(p, c->time);
+        p = put64(p, 7);
+        for (int i = 0; i < 96; i++) *p++ = i;
+        c->len[t] = put64(p, 0) - c->record[t];
+    }
+}
+
+static vb_entry entry(const Copy *c) {
+    vb_entry e;
+    memset(&e, 0, sizeof e);
+    for (int i = 3; i >= 0; i--) e.path.bytes[3 - i] = 1 + (c->n >> (7 * i) & 127);
+    memset(e.path.bytes + 4, 0xaa, 16 * c->more);
+    for (int i = 0; i <= c->more; i++) e.path.ends[i] = 4 + 16 * i;
+    e.path.count = c->more + 1, e.timestamp = c->time, e.payload_length = 7;
+    for (int i = 0; i < 32; i++) e.payload_digest[i] = i;
+    return e;
+}
+
+static int compare(const Copy *a, const Copy *b, int t) {
+    size_t m = a->len[t] - VALUE, n = b->len[t] - VALUE;
+    int c = memcmp(a->record[t], b->record[t], m < n ? m : n);
+    return c ? c : (m > n) - (m < n);
+}
+
+static void take_out(size_t k) { memmove(copies + k, copies + k + 1, (--copied - k) * sizeof(Copy)); }
+
+/* 0 if taken, 8 if full, -1 if obsolete; the pairs of what it prunes. */
+static int put_in(const Copy *c, size_t *pruned) {
+    size_t at = 0;
+    for (size_t k = 0; k < copied; k++)
+        if (copies[k].n == c->n && copies[k].more <= c->more && copies[k].time > c->time) return -1;
+    *pruned = 0;
+    for (size_t k = 0, offset = 0; k < copied; k++) {
+        if (copies[k].n == c->n && c->more <= copies[k].more && copies[k].time <= c->time)
+            want_prune[*pruned].offset = (uint32_t)offset, want_prune[(*pruned)++].length = (uint32_t)copies[k].len[0];
+        offset += copies[k].len[0];
+    }
+    if (copied - *pruned == state.limit) return 8;
+    for (size_t k = copied; k-- > 0;)
+        if (copies[k].n == c->n && c->more <= copies[k].more && copies[k].time <= c->time) take_out(k);
+    while (at < copied && compare(copies + at, c, 0) < 0) at++;
+    memmove(copies + at + 1, copies + at, (copied++ - at) * sizeof(Copy));
+    copies[at] = *c;
+    return 0;
+}
+
+static vb_area area(const Copy *c, uint64_t start, uint64_t end) {
+    vb_area a;
+    memset(&a, 0, sizeof a);
+    if (c) a.path = entry(c).path;
+    a.any_subspace = 1, a.times.start = start, a.times.end = end;
+    return a;
+}
+
+static const char *laid(void) {
+    const Copy *sorted[MOST];
+    for (int t = 0; t < 2; t++) {
+        size_t at = 0;
+        for (size_t k = 0; k < copied; k++) {
+            size_t i = k;
+            for (; i > 0 && compare(sorted[i - 1], copies + k, t) > 0; i--) sorted[i] = sorted[i - 1];
+            sorted[i] = copies + k;
+        }
+        memset(want, 0, RECORD * state.limit), memset(want_dir, 0, 8 * state.limit);
+        for (size_t k = 0; k < copied; k++) {
+            memcpy(want + at, sorted[k]->record[t], sorted[k]->len[t]);
+            want_dir[2 * k] = (uint32_t)at, want_dir[2 * k + 1] = (uint32_t)sorted[k]->len[t], at += sorted[k]->len[t];
+        }
+        if (memcmp(want, tree[t], RECORD * state.limit)) return "a tree's bytes";
+        if (memcmp(want_dir, dir[t], 8 * state.limit)) return "a directory's numbers";
+    }
+    return state.count == copied ? NULL : "the count";
+}
+
+static const char *damaged(void) {
+    int t = rand() % 2;
+    size_t end = copied ? dir[t][2 * copied - 2] + dir[t][2 * copied - 1] : 0, k = copied ? rand() % copied : 0;
+    vb_area all = area(NULL, 0, UINT64_MAX);
+    if (vb_count_area(state, STORE, all).refusal) return "a sound store";
+    if (end < RECORD * state.limit) {
+        tree[t][end] ^= 1;
+        if (vb_count_area(state, STORE, all).refusal != 3) return "a byte behind the last record";
+        tree[t][end] ^= 1;
+    }
+    if (!copied) return NULL;
+    dir[t][2 * k] ^= 1;
+    if (vb_count_area(state, STORE, all).refusal != 3) return "an offset";
+    dir[t][2 * k] ^= 1;
+    size_t last = dir[t][2 * k] + dir[t][2 * k + 1] - VALUE - (t ? 1 : 9);
+    tree[t][last] = 3;
+    if (vb_count_area(state, STORE, all).refusal != 3) return "a byte of a key's end";
+    tree[t][last] = 0;
+    return NULL;
+}
+
+static const char *ingest(long *kinds) {
+    Copy c;
+    memset(&c, 0, sizeof c);
+    c.n = rand() % (rand() % 4 ? 1000 : 10), c.more = rand() % 4, c.time = rand() % 8;
+    write_records(&c);
+    vb_entry e = entry(&c);
+    uint8_t token[64];
+    size_t pruned = 0;
+    for (int i = 0; i < 64; i++) token[i] = 32 + i;
+    int said = put_in(&c, &pruned);
+    vb_ingested r = vb_ingest_entry(state, STORE, prune, state.limit, e, token, 0);
+    if (r.obsolete != (said < 0) || r.refusal != (said > 0 ? said : 0)) return "a verdict";
+    if (!said && (r.pruned != pruned || memcmp(prune, want_prune, pruned * sizeof *prune))) return "a pair";
+    state = r.state;
+    kinds[said < 0 ? 1 : said ? 2 : pruned ? 3 : 0]++;
+    return NULL;
+}
+
+static const char *forget(long *kinds) {
+    if (copied && rand() % 2) {
+        size_t k = rand() % copied;
+        vb_entry e = entry(copies + k);
+        vb_entry_forgotten r = vb_forget_entry(state, STORE, e.subspace_id, e.path, 1, e.payload_digest);
+        if (r.refusal) return "a forgetting";
+        take_out(k), state = r.state, kinds[4]++;
+        return NULL;
+    }
+    uint64_t start = rand() % 8, end = start + 1 + rand() % 2; /* scattered over the tree */
+    const Copy *saved = copied && rand() % 2 ? copies + rand() % copied : NULL;
+    uint64_t n = saved ? saved->n : 0;
+    int more = saved ? saved->more : 0;
+    vb_area_forgotten r = vb_forget_area(state, STORE, area(NULL, start, end), saved != NULL, area(saved, 0, UINT64_MAX));
+    size_t before = copied;
+    for (size_t k = copied; k-- > 0;)
+        if (copies[k].time >= start && copies[k].time < end && !(saved && copies[k].n == n && copies[k].more >= more)) take_out(k);
+    if (r.refusal || r.forgotten != before - copied) return "a forgetting of an area";
+    state = r.state, kinds[5]++;
+    return NULL;
+}
+
+int main(void) {
+    static const uint8_t namespace_id[16];
+    long done = 0, kinds[6] = {0};
+    for (int seed = 0; seed < 220; seed++) {
+        srand(seed);
+        copied = 0, state.limit = 1 + rand() % MOST;
+        state = vb_open(namespace_id, state.limit, STORE).state;
+        for (int s = 0; s < 300; s++) {
+            const char *wrong = rand() % 3 ? ingest(kinds) : forget(kinds);
+            if (!wrong) wrong = laid();
+            if (!wrong) wrong = damaged();
+            if (wrong) return printf("%s, seed %d, step %d\n", wrong, seed, s), 1;
+            done++;
+        }
+    }
+    printf("%ld random edits beside a plain copy: %ld put in, %ld obsolete, %ld full, %ld that prune, %ld entries and %ld areas forgotten\n", done, kinds[0],
+           kinds[1], kinds[2], kinds[3], kinds[4], kinds[5]);
+    return 0;
+}

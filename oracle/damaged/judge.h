@@ -1,0 +1,59 @@
+/* A judge of the store's calls, written from document 01 and sharing no code and no number with the port or with whoever makes the calls: of the header
+   it uses the shapes of values only. It reads a store once, as it was lent, and then says of each call on it what the answer is and what every byte
+   of the buffers is afterwards. */
+#ifndef JUDGE_H
+#define JUDGE_H
+#include "virebony.h"
+#include <stdbool.h>
+#include <string.h>
+
+/* A state and what is lent beside it. Trees and directories: subspace-first, then time-first. */
+typedef struct {
+    vb_state state;
+    uint8_t *tree[2];
+    uint32_t *dir[2], *prune;
+    size_t bytes[2], numbers[2], prune_numbers;
+} lent;
+
+enum call_kind {
+    OPEN, INGEST, INGEST_NUMBERS, INGEST_BY_VALUE, FORGET_ENTRY, FORGET_AREA,
+    FIND_ENTRY, AREA_PLACE, AREA_PART, RANGE_PLACE, RANGE_PART, COUNT_AREA, SUMMARISE, INTEREST, CALL_KINDS
+};
+
+/* The arguments of every kind of call. An opening's namespace and limit are those of the state. */
+typedef struct {
+    enum call_kind kind;
+    vb_entry entry; /* its subspace, path and digest are also those of a forgetting and of a lookup */
+    uint8_t token[64], prevent_pruning, expects, protects;
+    vb_area area, protected_area;
+    vb_range range;
+    vb_ignore ignore;
+    size_t place;
+    uint64_t max_count, max_size;
+} call;
+
+/* The answer of every kind of call; what a kind does not answer is 0. */
+typedef struct {
+    uint8_t refusal, yes; /* obsolete, or found */
+    size_t number;        /* pruned, forgotten, counted, or a place */
+    vb_state state;
+    vb_part part;
+    vb_lengthy_entry lengthy; /* found, or newer */
+    vb_range range;
+} answer;
+
+/* Reads a store. Which of 1, 2, 3 a call must give that has no prune list, or 0. What is kept points into its buffers. */
+int judge_reads(const lent *s);
+
+/* The answer to a call on the store that was read, by its kind; `after` is a copy of it, whose buffers become what the call leaves. */
+answer judge_answers(const call *c, lent *after);
+
+/* The first field in which an answer is not the judge's, or NULL. Of an obsolete verdict: whether the entry shown is one that 01 allows. */
+const char *judge_differs(const call *c, const answer *want, const answer *got);
+
+/* Whether a path is legal. */
+bool judge_is_legal(const vb_path *p);
+
+/* The number that a call by its kind must be refused with on the store that was read, or 0: 1, 2 or 3. */
+int judge_refuses(enum call_kind kind, const lent *s);
+#endif

@@ -1,0 +1,104 @@
+/* Ports that lie: LIE says which. Included before a run's own source, so that the run calls these in place of the door's own calls. */
+#include "virebony.h"
+#include <stdlib.h>
+#include <string.h>
+
+#define ARGUMENTS spt, spt_len, spt_dir, spt_dir_len, tsp, tsp_len, tsp_dir, tsp_dir_len
+#ifdef __GNUC__
+#define MAY __attribute__((unused))
+#endif
+
+MAY static vb_counted lie_count_area(vb_state state, VB_CONST_BUFFERS, vb_area area) {
+    vb_counted c = vb_count_area(state, ARGUMENTS, area);
+    if (LIE == COUNTS_MADE_UP && !c.refusal) c.count = 7;
+    if (LIE == READS_REFUSED && !c.refusal) c.refusal = 9, c.count = 0;
+    if (LIE == DESCENDING_ACCEPTED && c.refusal == 4 && area.path.count == 2 && area.path.ends[1] < area.path.ends[0]) c.refusal = 0;
+    return c;
+}
+
+MAY static vb_counted lie_summarise(vb_state state, VB_CONST_BUFFERS, vb_range range) {
+    vb_counted c = vb_summarise(state, ARGUMENTS, range);
+    if (LIE == SIZES_MADE_UP && c.count) c.count--;
+    if (LIE == READS_REFUSED && !c.refusal) c.refusal = 9, c.count = 0;
+    return c;
+}
+
+MAY static vb_entry_found lie_find_entry(vb_state state, VB_CONST_BUFFERS, vb_subspace subspace, vb_path path, vb_ignore ignore) {
+    vb_entry_found f = vb_find_entry(state, ARGUMENTS, subspace, path, ignore);
+    if (LIE == READS_REFUSED && !f.refusal) memset(&f, 0, sizeof f), f.refusal = 9;
+    if (LIE == OTHER_TOKEN && f.found) f.lengthy.token[63] ^= 1;
+    if (LIE == FLAGS_NOT_LOOKED_AT) {
+        vb_ignore none = {0, 0};
+        f = vb_find_entry(state, ARGUMENTS, subspace, path, none);
+    }
+    return f;
+}
+
+MAY static vb_listed lie_query_area_place(vb_state state, VB_CONST_BUFFERS, vb_area area, vb_ignore ignore, size_t place) {
+    vb_listed l = vb_query_area_place(state, ARGUMENTS, area, ignore, place);
+    if (LIE == READS_REFUSED && !l.refusal) l.refusal = 9, l.found = 0, l.place = 0;
+    if (LIE == FINISHED_TOO_EARLY) l.found = 0, l.place = 0;
+    return l;
+}
+
+MAY static vb_area_range lie_interest(vb_state state, VB_CONST_BUFFERS, vb_interest interest) {
+    vb_area_range r = vb_area_of_interest_to_range(state, ARGUMENTS, interest);
+    if (LIE == INTEREST_AS_GIVEN && !r.refusal) r.range.times.start = interest.area.times.start;
+    return r;
+}
+
+MAY static vb_entry_forgotten lie_forget_entry(vb_state state, VB_BUFFERS, vb_subspace subspace, vb_path path, uint8_t expects, const uint8_t digest[32]) {
+    if (LIE == NOTHING_FORGOTTEN) {
+        vb_ignore none = {0, 0};
+        vb_entry_found f = vb_find_entry(state, ARGUMENTS, subspace, path, none);
+        vb_entry_forgotten r;
+        memset(&r, 0, sizeof r);
+        r.refusal = f.refusal, r.state = state;
+        if (f.found && expects && memcmp(f.lengthy.entry.payload_digest, digest, 32)) r.refusal = 9;
+        return r;
+    }
+    vb_entry_forgotten r = vb_forget_entry(state, ARGUMENTS, subspace, path, expects, digest);
+    if (LIE == NINE_HIDDEN && r.refusal == 9) r.refusal = 0;
+    return r;
+}
+
+MAY static vb_area_forgotten lie_forget_area(vb_state state, VB_BUFFERS, vb_area area, uint8_t protects, vb_area protected_area) {
+    if (LIE == NOTHING_FORGOTTEN) {
+        vb_counted c = vb_count_area(state, ARGUMENTS, area);
+        vb_area_forgotten r;
+        memset(&r, 0, sizeof r);
+        r.refusal = c.refusal, r.state = state, r.forgotten = c.count;
+        return r;
+    }
+    vb_area_forgotten r = vb_forget_area(state, ARGUMENTS, area, LIE == NOTHING_PROTECTED ? 0 : protects, protected_area);
+    if (LIE == FORGOTTEN_MADE_UP && !r.refusal) r.forgotten = 1;
+    return r;
+}
+
+MAY static vb_ingested lie_ingest_entry(vb_state state, VB_BUFFERS, vb_pair *prune, size_t prune_len, vb_entry entry, const uint8_t token[64], uint8_t prevent) {
+    static uint8_t kept[VB_RECORD_MOST * VB_LIMIT_MOST + 64];
+    static uint32_t kept_dir[2 * VB_LIMIT_MOST + 64];
+    if (LIE == ONE_TREE_PRUNED) memcpy(kept, tsp, tsp_len), memcpy(kept_dir, tsp_dir, 4 * tsp_dir_len);
+    if (LIE == NOTHING_FILED) return (vb_ingested){.state = state};
+    vb_ingested r = vb_ingest_entry(state, ARGUMENTS, prune, prune_len, entry, token, prevent);
+    if (LIE == FOUR_AND_SIX_HIDDEN && (r.refusal == 4 || r.refusal == 6)) r.refusal = 0;
+    if (LIE == SIX_HIDDEN && r.refusal == 6) r.refusal = 0;
+    if (LIE == WRONG_PAIR && r.pruned) prune[r.pruned - 1].offset++;
+    if (LIE == PAIRS_BEHIND && !r.refusal && !r.obsolete && r.pruned < prune_len) prune[r.pruned].offset = 0;
+    if (LIE == OTHER_NAMESPACE) r.state.namespace_id[15] ^= 1;
+    if (LIE == NEWER_MADE_UP && r.obsolete) r.newer.payload_length++;
+    if (LIE == FULL_TOO_EARLY && !r.refusal && !r.obsolete && !r.pruned && state.count + 1 == state.limit) return (vb_ingested){.refusal = 8, .state = state};
+    if (LIE == ONE_TREE_PRUNED && r.pruned) memcpy(tsp, kept, tsp_len), memcpy(tsp_dir, kept_dir, 4 * tsp_dir_len);
+    if (LIE == BEYOND_THE_BOUNDS && !r.refusal && spt_len > VB_RECORD_MOST * state.limit) spt[VB_RECORD_MOST * state.limit] = 0;
+    if (LIE == ALL_OBSOLETE && !r.refusal) r.obsolete = 1;
+    return r;
+}
+
+#define vb_count_area lie_count_area
+#define vb_summarise lie_summarise
+#define vb_find_entry lie_find_entry
+#define vb_query_area_place lie_query_area_place
+#define vb_area_of_interest_to_range lie_interest
+#define vb_forget_entry lie_forget_entry
+#define vb_forget_area lie_forget_area
+#define vb_ingest_entry lie_ingest_entry
