@@ -151,8 +151,8 @@ static void full(void) {
    [61][62] of another subspace at 1, then [61] at 7: it removes [61] and [61][63] only. */
 static void pruned(void) {
     fresh(4), in("a/b", 5, 3, 1);
-    uint32_t size = dir[0][1];
-    expect("size of the record", size, 16 + 3 + 3 + 2 + 8 + 112);
+    const uint32_t size = 16 + 3 + 3 + 2 + 8 + 112;
+    expect("size of the record", dir[0][1], size);
     ingests("one is pruned", named(entry("a", 6, 3, 1)), false, 0, false, 1);
     expect("pair's offset", prune[0].offset, 0), expect("pair's length", prune[0].length, size);
     expect("next pair untouched", prune[1].offset, 0x07070707);
