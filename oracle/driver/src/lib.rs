@@ -5,14 +5,21 @@ pub mod call;
 pub mod convert;
 pub mod extras;
 pub mod gen;
+pub mod gen_any;
 pub mod gen_keys;
+pub mod gen_steps;
 pub mod gen_values;
 pub mod judge;
 pub mod oracle;
 pub mod params;
+#[cfg(feature = "door")]
+pub mod port;
 pub mod probe;
 pub mod rng;
 pub mod show;
+pub mod step;
+#[cfg(feature = "door")]
+pub mod three;
 pub mod walks;
 use std::cell::RefCell;
 
