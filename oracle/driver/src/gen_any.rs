@@ -34,7 +34,7 @@ impl Any {
     pub fn new(seed: u64) -> Any {
         let r = Rng(seed ^ 0x5eed_0fa1_1000_0000);
         let mut a = Any { r, subspaces: vec![], paths: vec![], times: vec![], digests: vec![], tokens: vec![], huge: false };
-        a.huge = a.r.one_in(4);
+        a.huge = a.r.one_in(3);
         a
     }
     fn bytes<const N: usize>(&mut self) -> [u8; N] {
@@ -95,6 +95,7 @@ impl Any {
         match self.r.below(4) {
             0 => self.r.of(&EDGES),
             1 => self.r.below(8),
+            2 => self.r.next(),
             _ => self.r.next() >> self.r.below(64),
         }
     }
@@ -111,11 +112,11 @@ impl Any {
         t
     }
     pub fn length(&mut self) -> u64 {
-        match self.r.below(8) {
-            0 => 0,
+        match self.r.below(9) {
+            0 | 8 => 0,
             1 => 1,
             2 | 3 => 2 + self.r.below(6),
-            4 if self.huge => {
+            4 | 5 if self.huge => {
                 let any = self.r.next();
                 self.r.of(&[u64::MAX, u64::MAX - 1, 1 << 63, (1 << 63) + 5, any])
             }
@@ -146,7 +147,8 @@ impl Any {
     pub fn relative(&mut self, p: &Path) -> Path {
         let mut q = p.clone();
         match (self.r.below(9), q.last_mut()) {
-            (0 | 1, Some(_)) => q.truncate(self.r.at(p.len())),
+            (0, Some(_)) => q.truncate(self.r.at(p.len())),
+            (1, Some(_)) => q.truncate(p.len() - 1),
             (2..=4, _) => {
                 let n = self.r.of(&[0, 1, 1, 2]);
                 q.push(self.component(n))
@@ -164,11 +166,14 @@ impl Any {
             let p = self.r.of(&self.paths);
             return self.relative(&p);
         }
-        let p = if self.r.one_in(6) {
+        let p = if self.r.one_in(60) {
+            // The longest key: every byte is escaped.
+            self.of(&[64, 64, 0, 0, 0, 0, 0, 0]).into_iter().map(|c| vec![0; c.len()]).collect()
+        } else if self.r.one_in(6) {
             let shape = self.r.of(&FULL);
             self.of(shape)
         } else {
-            let n = self.r.of(&[0, 1, 1, 1, 2, 2, 3, 4]);
+            let n = self.r.of(&[0, 1, 1, 1, 1, 1, 2, 2, 2, 2, 2, 3, 3, 3, 4, 5]);
             let lengths: Vec<usize> = (0..n).map(|_| self.r.of(&[0, 1, 1, 1, 2, 3])).collect();
             self.of(&lengths)
         };
@@ -190,7 +195,7 @@ impl Any {
     }
     fn end(&mut self, start: u64, inside: u64) -> Option<u64> {
         let any = self.time();
-        self.r.of(&[None, None, inside.checked_add(1), Some(inside), Some(start), Some(any)])
+        self.r.of(&[None, None, None, None, inside.checked_add(1), inside.checked_add(1), inside.checked_add(1), Some(inside), Some(start), Some(any)])
     }
     /// Times around one, mostly with it inside.
     fn times_around(&mut self, t: u64) -> Range<u64> {
@@ -201,23 +206,23 @@ impl Any {
     /// A beginning of a path.
     fn beginning(&mut self, p: &Path) -> Path {
         let n = self.r.at(p.len() + 1);
-        if self.r.one_in(20) { self.illegal() } else { p[..n].to_vec() }
+        if self.r.one_in(14) { self.illegal() } else { p[..n].to_vec() }
     }
     /// An area, mostly with the entry inside.
     pub fn area_around(&mut self, e: &Entry) -> Area {
         let other = self.subspace();
         let subspace = self.r.of(&[None, None, Some(e.subspace), Some(e.subspace), Some(e.subspace), Some(other)]);
-        let path = if self.r.one_in(8) { self.path() } else { self.beginning(&e.path) };
+        let path = if self.r.one_in(10) { self.path() } else { self.beginning(&e.path) };
         Area { subspace, path, times: self.times_around(e.timestamp) }
     }
     /// A 3d range, mostly with the entry inside.
     pub fn range_around(&mut self, e: &Entry) -> Range3d {
         let (a, b) = (self.subspace(), self.subspace());
         let next = u128::from_be_bytes(e.subspace).checked_add(1).map(u128::to_be_bytes);
-        let subspaces = Range { start: self.r.of(&[[0; 16], e.subspace, e.subspace, a]), end: self.r.of(&[None, None, next, Some(e.subspace), Some(b)]) };
+        let subspaces = Range { start: self.r.of(&[[0; 16], [0; 16], e.subspace, e.subspace, e.subspace, a]), end: self.r.of(&[None, None, None, next, next, Some(e.subspace), Some(b)]) };
         let (start, end, above) = (self.path(), self.path(), FIELD.above(&e.path));
         let begin = self.beginning(&e.path);
-        let paths = Range { start: self.r.of(&[vec![], e.path.clone(), begin, start]), end: self.r.of(&[None, None, above, Some(e.path.clone()), Some(end)]) };
+        let paths = Range { start: self.r.of(&[vec![], vec![], e.path.clone(), begin.clone(), begin, start]), end: self.r.of(&[None, None, None, above.clone(), above, Some(e.path.clone()), Some(end)]) };
         Range3d { subspaces, paths, times: self.times_around(e.timestamp) }
     }
     /// An entry of this namespace with any values.

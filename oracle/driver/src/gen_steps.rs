@@ -20,7 +20,7 @@ struct Gen {
 
 impl Gen {
     fn open(&mut self) -> Call {
-        let limits: &[u64] = if self.kind == "full" { &[1024, 1024, 1024, 1023, 700, 256] } else { &[1, 2, 3, 4, 6, 8, 12, 16, 24, 32, 48, 64, 64, 200] };
+        let limits: &[u64] = if self.kind == "full" { &[1024, 1024, 1024, 1024, 1023, 700] } else { &[1, 2, 4, 8, 16, 24, 32, 48, 64, 64, 64, 64, 100, 200] };
         let namespace = if self.a.r.one_in(4) { [0; 16] } else { self.a.subspace() };
         self.sent.clear();
         Call::Open(namespace, Some(self.a.r.of(limits)))
@@ -84,7 +84,11 @@ impl Gen {
     }
     fn interest(&mut self) -> Call {
         let e = self.about();
-        let a = self.a.area_around(&e);
+        let mut a = self.a.area_around(&e);
+        // Often wide, so that several match.
+        if self.a.r.one_in(2) {
+            a = Area { subspace: a.subspace.filter(|_| self.a.r.one_in(2)), path: e.path[..e.path.len().min(self.a.r.at(2))].to_vec(), times: Range { start: 0, ..a.times } };
+        }
         let mut met: Vec<&Entry> = self.judge.store.entries().iter().map(|x| &x.entry).filter(|e| a.includes(e)).collect();
         met.sort_by_key(|e| key(e, true));
         let lengths: Vec<u64> = met.iter().rev().map(|e| e.payload_length).collect();
@@ -97,8 +101,16 @@ impl Gen {
         let size = r.of(&[u64::MAX, sum, sum, sum.saturating_sub(1), sum.saturating_sub(1), any, 0, u64::MAX - 1]);
         Call::Bent(Box::new(Call::Aoi(a, count, size)))
     }
-    fn place(&mut self) -> u64 {
-        let n = self.judge.store.entries().len() as u64;
+    /// A place to list from: often a record that does not match and has a match behind it, if there is one.
+    fn place(&mut self, ignore: Ignore, includes: impl Fn(&Entry) -> bool) -> u64 {
+        let list = self.judge.store.entries();
+        let n = list.len() as u64;
+        let matches: Vec<bool> = list.iter().map(|x| includes(&x.entry) && !ignore.passes_over(x)).collect();
+        let last = matches.iter().rposition(|m| *m).unwrap_or(0);
+        let gaps: Vec<u64> = (0..last).filter(|i| !matches[*i]).map(|i| i as u64).collect();
+        if !gaps.is_empty() && !self.a.r.one_in(4) {
+            return self.a.r.of(&gaps);
+        }
         let (inside, any) = (self.a.r.below(n + 1), self.a.number());
         self.a.r.of(&[0, inside, inside, inside, inside, n, n + 1, any, u64::MAX])
     }
@@ -106,56 +118,74 @@ impl Gen {
         let full = self.kind == "full";
         let e = self.about();
         match self.a.r.below(100) {
-            0..=37 => {
+            0..=40 => {
                 let (e, k) = self.entry();
                 Call::Ingest(e, k, self.a.r.one_in(4))
             }
-            38..=43 => {
+            41..=44 => {
                 let mut d = e.payload_digest;
                 let i = self.a.r.of(&[0, 31, 16]);
                 d[i] ^= self.a.r.of(&[1, 128]);
                 let d = self.a.r.of(&[None, None, Some(e.payload_digest), Some(d), Some(d)]);
-                let p = if self.a.r.one_in(20) { self.a.path() } else { e.path };
+                let p = if self.a.r.one_in(12) { self.a.illegal() } else { e.path };
                 Call::Forget(e.subspace, p, d)
             }
-            44..=48 if !full || self.a.r.one_in(6) => {
+            45..=48 if !full || self.a.r.one_in(6) => {
                 let mut a = self.a.area_around(&e);
-                // Mostly of one subspace, so that something is left.
+                // Mostly of one subspace and not of all its paths, so that something is left.
                 if a.subspace.is_none() && !self.a.r.one_in(4) {
                     a.subspace = Some(e.subspace);
+                }
+                if a.path.is_empty() && !self.a.r.one_in(4) {
+                    a.path = e.path[..e.path.len().min(1)].to_vec();
                 }
                 // Around another entry of the area, if there is one.
                 let inside: Vec<Entry> = self.judge.store.entries().iter().map(|x| x.entry.clone()).filter(|e| a.includes(e)).collect();
                 let other = if inside.is_empty() { e } else { self.a.r.of(&inside) };
                 let mut b = self.a.area_around(&other);
+                // It saves this one, but for its path now and then.
+                if !self.a.r.one_in(4) {
+                    let end = self.a.r.of(&[None, other.timestamp.checked_add(1)]);
+                    b = Area { subspace: Some(other.subspace).filter(|_| self.a.r.one_in(2)), times: Range { start: 0, end }, ..b };
+                }
                 if self.a.r.one_in(2) {
                     b.path = other.path;
                 }
                 let protects = self.a.r.below(5) < 4;
                 Call::ForgetArea(a, protects.then_some(b))
             }
-            49..=57 => {
-                let p = if self.a.r.one_in(8) { self.a.path() } else { e.path };
+            49..=55 => {
+                let absent = self.a.relative(&e.path);
+                let illegal = self.a.illegal();
+                let p = self.a.r.of(&[&e.path, &e.path, &e.path, &e.path, &e.path, &e.path, &e.path, &e.path, &absent, &illegal]).clone();
                 Call::Entry(e.subspace, p, self.a.ignore())
             }
-            58..=62 => {
+            56..=61 => {
                 let n = if e.payload_length > 1 { 1 + self.a.r.next() % (e.payload_length - 1) } else { 1 };
                 let any = self.a.number();
                 Call::Avail(e.subspace, e.path, self.a.r.of(&[n, n, n, u64::MAX, any]))
             }
-            63..=64 => Call::IncludedIn(self.a.area_around(&e), self.a.ignore()),
-            65..=66 => Call::Bent(Box::new(Call::QueryArea(self.a.area_around(&e), self.a.ignore()))),
-            67..=70 => Call::QueryRange(self.a.range_around(&e), self.a.ignore()),
-            71..=75 => Call::NextInArea(self.a.area_around(&e), self.a.ignore(), self.place()),
-            76..=80 => Call::NextInRange(self.a.range_around(&e), self.a.ignore(), self.place()),
+            62..=63 => Call::IncludedIn(self.a.area_around(&e), self.a.ignore()),
+            64..=65 => Call::Bent(Box::new(Call::QueryArea(self.a.area_around(&e), self.a.ignore()))),
+            66..=69 => Call::QueryRange(self.a.range_around(&e), self.a.ignore()),
+            70..=75 => {
+                let (a, i) = (self.a.area_around(&e), self.a.ignore());
+                let from = self.place(i, |e| a.includes(e));
+                Call::NextInArea(a, i, from)
+            }
+            76..=80 => {
+                let (r, i) = (self.a.range_around(&e), self.a.ignore());
+                let from = self.place(i, |e| r.includes(e));
+                Call::NextInRange(r, i, from)
+            }
             81..=83 => Call::Count(self.a.area_around(&e)),
-            84..=86 => Call::Size(self.a.range_around(&e)),
-            87..=94 => self.interest(),
-            95 if self.a.r.one_in(2) => {
+            84..=85 => Call::Size(self.a.range_around(&e)),
+            86..=94 => self.interest(),
+            95 if self.a.r.one_in(4) => {
                 let limit = self.a.r.of(&[0, 1025, u64::MAX, 1 << 63, 2000]);
                 Call::Open(self.judge.store.namespace, Some(limit))
             }
-            95 if !full || self.a.r.one_in(20) => self.open(),
+            95 if self.a.r.one_in(if full { 20 } else { 3 }) => self.open(),
             96 => Call::Dump,
             _ => self.value_call(),
         }
@@ -197,7 +227,11 @@ impl Gen {
                 a.path = self.a.path();
                 Call::Bent(Box::new(Call::AreaRange(a)))
             }
-            19..=20 => Call::Key(self.a.subspace(), self.a.path(), self.a.time()),
+            19..=20 => {
+                let longest = [vec![vec![0; 64]; 2], vec![vec![]; 6]].concat();
+                let p = if self.a.r.one_in(10) { longest } else { self.a.path() };
+                Call::Key(self.a.subspace(), p, self.a.time())
+            }
             _ => {
                 let time_first = self.a.r.one_in(2);
                 Call::Decode(time_first, self.raw_key(time_first))

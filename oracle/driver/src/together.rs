@@ -65,11 +65,8 @@ fn main() {
         }
         let by = |j: Judged| judged.get(&j).copied().unwrap_or(0);
         print!("{kind} {from} {to} {n}: {} by the Rust and the model, {} by the model", by(Judged::ByBoth), by(Judged::ByModel));
-        let skips = [("1.2 and 5", Judged::SkippedArea), ("2 read", Judged::SkippedRead), ("2 panics", Judged::SkippedPanic), ("2 unreached", Judged::SkippedUnreached)];
-        for (words, j) in skips {
-            print!(", {} by the model ({words})", by(j));
-        }
-        println!(", {bad} lines that are no call");
+        print!("; the Rust differs in {} (1.2, 5), {} (2, read)", by(Judged::SkippedArea), by(Judged::SkippedRead));
+        println!(", {} (2, panics), {} (2, unreached); {bad} lines are no call", by(Judged::SkippedPanic), by(Judged::SkippedUnreached));
     }
     let mut low = 0;
     for (row, n) in table.all() {

@@ -25,8 +25,12 @@ pub fn records(list: &[Stored], time_first: bool) -> Vec<(Vec<u8>, Vec<u8>)> {
 
 /// A tree and its directory: the part that belongs to a store of this limit.
 pub fn image(list: &[Stored], time_first: bool, limit: u64) -> (Vec<u8>, Vec<u32>) {
+    layout(&records(list, time_first), limit)
+}
+/// These records from byte 0 on without gaps, and zeros up to the limit's room.
+pub fn layout(records: &[(Vec<u8>, Vec<u8>)], limit: u64) -> (Vec<u8>, Vec<u32>) {
     let (mut tree, mut directory) = (vec![], vec![]);
-    for (k, v) in records(list, time_first) {
+    for (k, v) in records {
         directory.extend([tree.len() as u32, (k.len() + v.len()) as u32]);
         tree.extend(k);
         tree.extend(v);

@@ -151,12 +151,12 @@ impl Three {
     /// Writes what the model holds into the shadow.
     fn draw(&mut self) {
         let (s, limit) = (&self.judge.store, self.judge.store.limit.unwrap_or(1024));
-        let ((a, ad), (b, bd)) = (image(s.entries(), false, limit), image(s.entries(), true, limit));
+        self.records = [records(s.entries(), false), records(s.entries(), true)];
+        let ((a, ad), (b, bd)) = (layout(&self.records[0], limit), layout(&self.records[1], limit));
         self.shadow.spt[..a.len()].copy_from_slice(&a);
         self.shadow.spt_dir[..ad.len()].copy_from_slice(&ad);
         self.shadow.tsp[..b.len()].copy_from_slice(&b);
         self.shadow.tsp_dir[..bd.len()].copy_from_slice(&bd);
-        self.records = [records(s.entries(), false), records(s.entries(), true)];
     }
     /// Makes a call in all three. The model's answer and who judged the port's; or the difference, in words.
     pub fn step(&mut self, step: &Step) -> Result<(Answer, Judged), String> {

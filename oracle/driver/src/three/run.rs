@@ -1,6 +1,7 @@
 //! Runs of steps, and the smallest one that still shows a difference.
 use super::table::Table;
 use super::{Judged, Three};
+use crate::call::Call;
 use crate::show::show_call;
 use crate::step::Step;
 use std::collections::BTreeMap;
@@ -9,10 +10,12 @@ use std::collections::BTreeMap;
 pub fn run(steps: &[Step], table: &mut Table, judged: &mut BTreeMap<Judged, u64>) -> Result<(), (usize, String)> {
     let mut three = Three::new();
     for (i, step) in steps.iter().enumerate() {
-        let before = three.judge.store.clone();
+        // Where the call writes, the store before it is counted.
+        let writes = matches!(step.call, Call::Ingest(..) | Call::Forget(..) | Call::ForgetArea(..));
+        let before = writes.then(|| three.judge.store.clone());
         let (answer, by) = three.step(step).map_err(|words| (i, words))?;
         *judged.entry(by).or_default() += 1;
-        table.count(&before, step, &answer);
+        table.count(before.as_ref().unwrap_or(&three.judge.store), step, &answer);
     }
     Ok(())
 }
