@@ -1,149 +1,183 @@
--- The wrong stores of 01's marking rule c: `shut-out` refutes demand 3 of each, of the made-up count `CountsRight`; of ours both are proved.
-use Prim.Native.Nat.{ℕ, _+_, _<_}
+-- What demand 3 shuts out: kinds of stores, each refuted of every member that opens as 01 says (demand 1), with one that there is; and stores that are as ours
+-- but for one flaw, each with the clause of demand 3 that it breaks. `shut-out` proves it.
+use Prim.Native.Nat.{ℕ, suc, _<_}
 use mathlib.Core.Path.{_≡_}
-use mathlib.Core.List.{List}
-use mathlib.Core.Bool.{Bool, cond}
+use mathlib.Core.List.{List, [], _∷_, map, _++_}
+use mathlib.Core.Bool.{Bool, true, false, cond}
+use mathlib.Core.Option.{some}
+use lib.ListN.{length, replicate, take, drop}
 use lib.Dec.{eqb}
-use Rattle.laws.specs.Sorted.{_∈_, insert}
-use Rattle.data_model.specs.Path.{Figures, field}
+use Rattle.laws.specs.Sorted.{_∈_, keep, insert, Ascends}
+use Rattle.layout.specs.Layout.{treeBytes, dirNumbers}
+use Rattle.data_model.specs.Path.{field}
 use Rattle.data_model.specs.Entry.{entryOf}
-use Rattle.data_model.specs.declared.entry.Entry.{Entry as EntryValue}
-use Rattle.data_model.specs.declared.area.Area.{Area}
-use Rattle.tree.specs.Stored.{Stored}
+use Rattle.tree.specs.Stored.{Stored, recordOf, keyBelow}
+use Rattle.tree.specs.Matching.{isForgotten}
+use Rattle.tree.specs.declared.stored.KeyOrder.{KeyOrder}
 use Rattle.tree.specs.declared.stored.KeyOrder.the-variants.{Spt, Tsp}
-use Rattle.store.specs.Store.{Store, held, holding}
-use Rattle.store.specs.Ingest.{tspLess, filing, filedIn, Decision, refuse, obsolete, take-it, judged, plainAnswer}
-use Rattle.store.specs.declared.state.State.{State}
-use Rattle.store.specs.declared.ingest.IngestVerdict.{IngestVerdict}
-use Rattle.store.specs.declared.ingest.IngestVerdict.the-variants.{Success, Obsolete, Refused}
-use Rattle.convergence.specs.History.{Call, ingest, forget-entry, forget-area, Answer, of-ingest, of-entry, of-area, answer, after, Event, Steps, ours, historyOf, Opening, opens, refusalIn, IsObsolete, AreValues}
-use Rattle.convergence.specs.Conditions.{store-full, number}
-use Rattle.convergence.specs.Demand.{OpenedBy, Demand3}
+use Rattle.store.specs.Store.{Store, storeOf, treeRoom, dirRoom, treeOf, dirOf, held, Held, heldBy, holding}
+use Rattle.store.specs.Open.{nothing}
+use Rattle.store.specs.Ingest.{filing, sptLess, tspLess, stays, filedIn, filed, stateWith}
+use Rattle.call_laws.specs.Calls.{Opening, Ingestion, AreaForgetting, Call, ingest, forget-entry, forget-area, filedAs, forgets, Verdict, refused, obsolete, done}
+use Rattle.call_laws.specs.Checks.{OpeningVerdictRight}
+use Rattle.call_laws.specs.Outcomes.{Outcome, outcome, opens}
+use Rattle.convergence.specs.Demand.{Machine, Event, afterAll, receiptOf, notRefused, Run, throughout, events, end, receiptIn, Exactly, Demand3}
+use Rattle.convergence.specs.Examples.{atLimit, one, two, later, other-token}
 
--- Demand 2 of a forgotten count: as many as the store then holds less.
-unfoldable pub forgottenIn : Answer → ℕ
-forgottenIn (of-ingest r) = 0
-forgottenIn (of-entry r) = 0
-forgottenIn (of-area r) = r .forgotten
+-- A store, right or wrong: whatever it answers, and leaves of a state and four buffers.
+abbrev pub AStore : Type 0
+AStore = Machine Opening Store
 
-abbrev pub CountsRight : Steps → Type 0
-CountsRight m = (s : Store) (area : Area) (protects : Bool) (protected : Area) → refusalIn (m .answers s (forget-area area protects protected)) ≡ 0
-    → forgottenIn (m .answers s (forget-area area protects protected)) + m .leaves s (forget-area area protects protected) .state .count ≡ s .state .count
+-- It opens what 01 says, and refuses the rest.
+abbrev pub OpensRight : AStore → Type 0
+OpensRight m = (o : Opening) → OpeningVerdictRight field o (m .opening o .verdict)
 
--- It opens as ours does, and its ingestions file nothing, whatever it answers and however it forgets.
-pub record FilesNothing (m : Steps) : Type 0 where
-  pub opens-so : (o : Opening) → m .opening o ≡ opens field o
-  pub leaves-so : (s : Store) (prune : List ℕ) (e : EntryValue) (token : List ℕ) (prevent : Bool) → m .leaves s (ingest prune e token prevent) ≡ s
+-- What a run of it leaves; and what happens in some run of it.
+abbrev pub Reached : AStore → Store → Type 0
+Reached m s = (r : Run (throughout field) m) × (end r ≡ s)
 
--- It opens as ours does. Of the ingestions that ours does not refuse it files the first and calls the rest obsolete, whatever else it does.
-pub record FirstOnly (m : Steps) : Type 0 where
-  pub opens-so : (o : Opening) → m .opening o ≡ opens field o
-  pub first : (s : Store) (prune : List ℕ) (e : EntryValue) (token : List ℕ) (prevent : Bool) → refusalIn (answer field s (ingest prune e token prevent)) ≡ 0
-      → s .state .count ≡ 0 → m .leaves s (ingest prune e token prevent) ≡ after field s (ingest prune e token prevent)
-  pub rest : (s : Store) (prune : List ℕ) (e : EntryValue) (token : List ℕ) (prevent : Bool) → refusalIn (answer field s (ingest prune e token prevent)) ≡ 0
-      → (s .state .count ≡ 0 → ⊥) → IsObsolete (m .answers s (ingest prune e token prevent))
+abbrev pub Happens : AStore → (Event Store → Type 0) → Type 0
+Happens m P = (r : Run (throughout field) m) × (e : Event Store) × e ∈ events r × P e
 
--- In some list it refuses with 8 on a store of fewer entries than the limit.
-pub record FullBelow (m : Steps) : Type 0 where
-  pub at : Opening
-  pub opened : OpenedBy m at
-  pub calls : List Call
-  pub values : AreValues field calls
-  pub event : Event
-  pub within : event ∈ historyOf m (m .opening at .store) calls
-  pub below : event .before .state .count < event .before .state .limit
-  pub says : refusalIn (event .answered) ≡ number store-full
+-- Kinds of stores. What an ingestion that is done was handed stands in neither tree afterwards.
+abbrev pub FilesNothing : AStore → Type 0
+FilesNothing m = (s : Store) → Reached m s → (i : Ingestion) (k : KeyOrder) → m .call s (ingest i) .verdict ≡ done → receiptOf i ∈ map receiptIn (held field k (m .call s (ingest i) .store)) → ⊥
 
--- It answers an ingestion as if it were a forgetting, and files nothing.
-unfoldable pub turned : State → ℕ → Answer
-turned s n = of-entry (record { refusal = n; state = s })
+-- Once its count is not 0 it calls obsolete all that would not be refused.
+abbrev pub FirstOnly : AStore → Type 0
+FirstOnly m = (s : Store) → Reached m s → (i : Ingestion) → (s .state .count ≡ 0 → ⊥) → notRefused (outcome field s (ingest i) .verdict) ≡ true → m .call s (ingest i) .verdict ≡ obsolete
 
-abbrev pub other-kind : Steps
-other-kind = record { opening = opens field; answers = λ s c. turned (s .state) (refusalIn (answer field s c)); leaves = λ s c. s }
+-- It says 8 although fewer than the limit are left after pruning.
+abbrev pub FullBelow : AStore → Type 0
+FullBelow m = (i : Ingestion)
+    × Happens m λ e. (e .call ≡ ingest i) × (e .outcome .verdict ≡ refused 8) × (length (keep (stays (entryOf (i .entry))) (held field Spt (e .before))) < e .before .state .limit)
 
--- An answer with this verdict, to ingestions; forgetting as ours.
-unfoldable pub saying : IngestVerdict → Store → Call → Answer
-saying v s (ingest prune e token prevent) = of-ingest (plainAnswer v (s .state))
-saying v s (forget-entry subspace path expects digest) = answer field s (forget-entry subspace path expects digest)
-saying v s (forget-area area protects protected) = answer field s (forget-area area protects protected)
+-- It refuses every call; it has one verdict for all ingestions.
+abbrev pub RefusesAll : AStore → Type 0
+RefusesAll m = (s : Store) → Reached m s → (c : Call) → notRefused (m .call s c .verdict) ≡ false
 
--- One store of each of the three records. It files nothing, and answers and forgets as ours.
-unfoldable pub unfiled : Store → Call → Store
-unfiled s (ingest prune e token prevent) = s
-unfiled s (forget-entry subspace path expects digest) = after field s (forget-entry subspace path expects digest)
-unfiled s (forget-area area protects protected) = after field s (forget-area area protects protected)
+abbrev pub OneVerdict : AStore → Type 0
+OneVerdict m = (v : Verdict) × ((s : Store) → Reached m s → (i : Ingestion) → m .call s (ingest i) .verdict ≡ v)
 
-abbrev pub files-nothing : Steps
-files-nothing = record { opening = opens field; answers = answer field; leaves = unfiled }
+-- It forgets nothing, whatever it says; its forgettings write nothing in the time-first tree.
+abbrev pub ForgetsNothing : AStore → Type 0
+ForgetsNothing m = (s : Store) → Reached m s → (c : Call) (p : Stored → Bool) → forgets c ≡ some p → m .call s c .store ≡ s
 
--- As ours while it is empty; then it gives this verdict to the ingestions that ours does not refuse, and files nothing.
-unfoldable pub instead : IngestVerdict → Store → Call → Answer
-instead v s c = cond (eqb (refusalIn (answer field s c)) 0) (saying v s c) (answer field s c)
+abbrev pub ForgetsOneTree : AStore → Type 0
+ForgetsOneTree m = (s : Store) → Reached m s → (c : Call) (p : Stored → Bool) → forgets c ≡ some p → treeOf field Tsp (m .call s c .store) ≡ treeOf field Tsp s
 
-abbrev pub holds-one : IngestVerdict → Steps
-holds-one v = record {
-  opening = opens field;
-  answers = λ s c. cond (eqb (s .state .count) 0) (answer field s c) (instead v s c);
-  leaves = λ s c. cond (eqb (s .state .count) 0) (after field s c) (unfiled s c);
-}
+-- An area's forgetting is done, and its number is not that of the entries that it forgets.
+abbrev pub MadeUpCount : AStore → Type 0
+MadeUpCount m = (a : AreaForgetting)
+    × Happens m λ e. (e .call ≡ forget-area a) × (e .outcome .verdict ≡ done) × (e .outcome .number ≡ length (keep (isForgotten (a .area) (a .protects) (a .protected)) (held field Spt (e .before))) → ⊥)
 
--- It gives one verdict to all, whatever it does: refusing everybody is one of these.
-abbrev pub one-verdict : IngestVerdict → (Store → Call → Store) → Steps
-one-verdict v does = record { opening = opens field; answers = saying v; leaves = does }
+-- It changes the store though the call is refused; it opens a store of limit 0.
+abbrev pub ChangesRefused : AStore → Type 0
+ChangesRefused m = Happens m λ e. (notRefused (e .outcome .verdict) ≡ false) × (e .outcome .store ≡ e .before → ⊥)
 
-abbrev pub refuses-all : ℕ → Steps
-refuses-all n = one-verdict (Refused n) (λ s c. s)
+abbrev pub OpensNone : AStore → Type 0
+OpensNone m = m .opening (atLimit 0) .verdict ≡ done
 
--- It refuses, without a number, whomever ours would not refuse, and files nothing.
-unfoldable pub unnumbered : IngestVerdict → IngestVerdict
-unnumbered (Success n) = Refused 0
-unnumbered Obsolete = Refused 0
-unnumbered (Refused n) = Refused n
+-- One of each: it has this verdict and number for all and does nothing; it is as ours until it holds something; as ours, but it forgets nothing, or in one tree,
+-- or forgets all when it is refused.
+abbrev pub always : Verdict → ℕ → AStore
+always v n = record { opening = opens field; call = λ s c. record { verdict = v; number = n; store = s } }
 
-unfoldable pub hushed : Answer → Answer
-hushed (of-ingest r) = of-ingest (plainAnswer (unnumbered (r .verdict)) (r .state))
-hushed (of-entry r) = of-entry r
-hushed (of-area r) = of-area r
+abbrev pub until-one : AStore
+until-one = record { opening = opens field; call = λ s c. cond (eqb (s .state .count) 0) (outcome field s c) (record { verdict = obsolete; number = 0; store = s }) }
 
-abbrev pub silent : Steps
-silent = record { opening = opens field; answers = λ s c. hushed (answer field s c); leaves = λ s c. s }
+-- As ours, but for the store that a call leaves.
+abbrev pub leaving : (Store → Call → Outcome Store → Store) → AStore
+leaving g = record { opening = opens field; call = λ s c. let o = outcome field s c in record { verdict = o .verdict; number = o .number; store = g s c o } }
 
--- It prunes the subspace-first tree only: the other one keeps ghosts.
-unfoldable pub halfFiled : Figures → Store → Stored → Decision → Store
-halfFiled f s x (refuse n) = s
-halfFiled f s x (obsolete y) = s
-halfFiled f s x take-it = holding f (record { spt = filedIn Spt x (held f Spt s); tsp = insert tspLess x (held f Tsp s) }) s
+-- The one kind of call, or the other.
+unfoldable pub onForgetting : {A : Type 0} → Call → A → A → A
+onForgetting (ingest i) a b = b
+onForgetting (forget-entry p) a b = a
+onForgetting (forget-area x) a b = a
 
-unfoldable pub halfPruned : Figures → Store → Call → Store
-halfPruned f s (ingest prune e token prevent) = halfFiled f s (filing (entryOf e) token) (judged f s prune e prevent)
-halfPruned f s (forget-entry subspace path expects digest) = after f s (forget-entry subspace path expects digest)
-halfPruned f s (forget-area area protects protected) = after f s (forget-area area protects protected)
+abbrev pub idle : AStore
+idle = leaving λ s c o. onForgetting c s (o .store)
 
-abbrev pub one-tree-pruned : Steps
-one-tree-pruned = record { opening = opens field; answers = answer field; leaves = halfPruned field }
+abbrev pub haunted : AStore
+haunted = leaving λ s c o. onForgetting c (storeOf (o .store .state) (o .store .spt) (o .store .sptDir) (s .tsp) (s .tspDir)) (o .store)
 
--- It says that it has forgotten so many, whatever it forgot.
-unfoldable pub countMade : ℕ → Answer → Answer
-countMade n (of-ingest r) = of-ingest r
-countMade n (of-entry r) = of-entry r
-countMade n (of-area r) = of-area (record { refusal = r .refusal; state = r .state; forgotten = n })
+abbrev pub wiping : AStore
+wiping = leaving λ s c o. cond (notRefused (o .verdict)) (o .store) (holding field nothing s)
 
-abbrev pub made-up-count : ℕ → Steps
-made-up-count n = record { opening = opens field; answers = λ s c. countMade n (answer field s c); leaves = after field }
+abbrev pub opening-all : AStore
+opening-all = record { opening = λ o. record { verdict = done; number = 0; store = opens field o .store }; call = outcome field }
 
--- None of them is let through; and of the first three there are some.
+-- As ours, but for what an ingestion that is done leaves.
+unfoldable pub ifDone : {A : Type 0} → Verdict → A → A → A
+ifDone (refused n) a b = b
+ifDone obsolete a b = b
+ifDone done a b = a
+
+unfoldable pub instead : (Ingestion → Store → Store) → Store → Call → Outcome Store → Store
+instead g s (ingest i) o = ifDone (o .verdict) (g i s) s
+instead g s (forget-entry p) o = o .store
+instead g s (forget-area a) o = o .store
+
+-- One thing wrong with what it leaves; all but the first two by what the trees are made to hold.
+pub data Flaw : Type 0 where
+  counts-only leaves-bytes loses-token available-1 prunes-nothing prunes-one-tree in-order-of-arrival : Flaw
+
+abbrev pub makes : (Stored → Held → Held) → Ingestion → Store → Store
+makes g i s = holding field (g (filedAs i) (heldBy field s)) s
+
+unfoldable pub flawed : Flaw → Ingestion → Store → Store
+flawed counts-only i s = storeOf (stateWith (s .state) (suc (s .state .count))) (s .spt) (s .sptDir) (s .tsp) (s .tspDir)
+flawed leaves-bytes i s = let t = makes filed i s in storeOf (t .state) (take 200 (t .spt) ++ 1 ∷ drop 201 (t .spt)) (t .sptDir) (t .tsp) (t .tspDir)
+flawed loses-token i s = makes (λ x h. filed (filing (x .entry) (replicate 64 0)) h) i s
+flawed available-1 i s = makes (λ x h. filed (record { entry = x .entry; token = x .token; available = 1 }) h) i s
+flawed prunes-nothing i s = makes (λ x h. record { spt = insert sptLess x (h .spt); tsp = insert tspLess x (h .tsp) }) i s
+flawed prunes-one-tree i s = makes (λ x h. record { spt = filedIn Spt x (h .spt); tsp = insert tspLess x (h .tsp) }) i s
+flawed in-order-of-arrival i s = makes (λ x h. record { spt = filedIn Spt x (h .spt); tsp = keep (stays (x .entry)) (h .tsp) ++ x ∷ [] }) i s
+
+abbrev pub with-flaw : Flaw → AStore
+with-flaw w = leaving (instead (flawed w))
+
+-- What it leaves of a store of limit 2 after these.
+abbrev pub leaves : Flaw → List Ingestion → Store
+leaves w handed = afterAll (with-flaw w) (opens field (atLimit 2) .store) (map ingest handed)
+
+-- The clause of `Contents` that each of them breaks, all of it having been received.
+pub record Broken : Type 0 where
+  pub counts-only : Exactly (held field Spt (leaves counts-only (one ∷ []))) (map receiptOf (one ∷ [])) → ⊥
+  pub leaves-bytes : let s = leaves leaves-bytes (one ∷ []) in treeOf field Spt s ≡ treeBytes (treeRoom field 2) (map (recordOf Spt) (held field Spt s)) → ⊥
+  pub loses-token : Exactly (held field Spt (leaves loses-token (other-token ∷ []))) (map receiptOf (other-token ∷ [])) → ⊥
+  pub available-1 : ((x : Stored) → x ∈ held field Spt (leaves available-1 (one ∷ [])) → x .available ≡ 0) → ⊥
+  pub prunes-nothing : Exactly (held field Spt (leaves prunes-nothing (one ∷ later ∷ []))) (map receiptOf (one ∷ later ∷ [])) → ⊥
+  pub prunes-one-tree : let s = leaves prunes-one-tree (one ∷ later ∷ []) in dirOf Tsp s ≡ dirNumbers (dirRoom 2) (map (recordOf Tsp) (held field Tsp s)) → ⊥
+  pub in-order-of-arrival : Ascends keyBelow (map (recordOf Tsp) (held field Tsp (leaves in-order-of-arrival (one ∷ two ∷ [])))) → ⊥
+
+abbrev pub Refuted : AStore → Type 0
+Refuted m = Demand3 (throughout field) m → ⊥
+
 pub record ShutOut : Type 0 where
-  pub one-files-nothing : FilesNothing files-nothing
-  pub one-files-the-first : FirstOnly (holds-one Obsolete)
-  pub one-is-full-below : FullBelow (holds-one (Refused 8))
-  pub filing-nothing : (m : Steps) → FilesNothing m → Demand3 field m → ⊥
-  pub filing-the-first : (m : Steps) → FirstOnly m → Demand3 field m → ⊥
-  pub full-below-the-limit : (m : Steps) → FullBelow m → Demand3 field m → ⊥
-  pub refusing-everybody : (n : ℕ) → Demand3 field (refuses-all n) → ⊥
-  pub refusing-every-opening : (m : Steps) → ((o : Opening) → OpenedBy m o → ⊥) → Demand3 field m → ⊥
-  pub answering-in-another-kind : Demand3 field other-kind → ⊥
-  pub refusing-without-a-number : Demand3 field silent → ⊥
-  pub pruning-one-tree : Demand3 field one-tree-pruned → ⊥
-  pub counts-right : (f : Figures) → CountsRight (ours f)
-  pub a-made-up-count : (n : ℕ) → CountsRight (made-up-count n) → ⊥
-  pub one-verdict-for-all : (v : IngestVerdict) (does : Store → Call → Store) → Demand3 field (one-verdict v does) → ⊥
+  pub filing-nothing : (m : AStore) → OpensRight m → FilesNothing m → Refuted m
+  pub filing-the-first : (m : AStore) → OpensRight m → FirstOnly m → Refuted m
+  pub full-below : (m : AStore) → FullBelow m → Refuted m
+  pub refusing-everybody : (m : AStore) → OpensRight m → RefusesAll m → Refuted m
+  pub one-verdict : (m : AStore) → OpensRight m → OneVerdict m → Refuted m
+  pub forgetting-nothing : (m : AStore) → OpensRight m → ForgetsNothing m → Refuted m
+  pub forgetting-one-tree : (m : AStore) → OpensRight m → ForgetsOneTree m → Refuted m
+  pub made-up-count : (m : AStore) → MadeUpCount m → Refuted m
+  pub changing-refused : (m : AStore) → ChangesRefused m → Refuted m
+  pub opening-none : (m : AStore) → OpensNone m → Refuted m
+  -- With demand 1: it opens nothing.
+  pub opening-nothing : (m : AStore) → ((o : Opening) → m .opening o .verdict ≡ done → ⊥) → OpensRight m → ⊥
+  -- There are such, and others that are as ours but for one thing.
+  pub one-files-nothing : OpensRight (always done 0) × FilesNothing (always done 0)
+  pub one-files-the-first : OpensRight until-one × FirstOnly until-one
+  pub one-is-full-below : FullBelow (always (refused 8) 0)
+  pub one-refuses-everybody : (n : ℕ) → OpensRight (always (refused n) 0) × RefusesAll (always (refused n) 0)
+  pub one-has-one-verdict : (v : Verdict) → OpensRight (always v 0) × OneVerdict (always v 0)
+  pub one-forgets-nothing : OpensRight idle × ForgetsNothing idle
+  pub one-forgets-one-tree : OpensRight haunted × ForgetsOneTree haunted
+  pub one-makes-it-up : MadeUpCount (always done 1)
+  pub one-changes-refused : ChangesRefused wiping
+  pub one-opens-none : OpensNone opening-all
+  pub broken : Broken
+  pub having-a-flaw : (w : Flaw) → Refuted (with-flaw w)

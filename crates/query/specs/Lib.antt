@@ -4,3 +4,4 @@ pub mod Count
 pub mod Lookup
 pub mod Interest
 pub mod Walk
+pub mod EarlyFinish

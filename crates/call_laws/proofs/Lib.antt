@@ -1,0 +1,9 @@
+pub mod WellFormedFacts
+pub mod Checked
+pub mod Did
+pub mod Stands
+pub mod Right
+pub mod Kept
+pub mod Links
+pub mod Answers
+pub mod Resent

@@ -1,0 +1,129 @@
+-- The calls that open and change a store: what is handed in, and which verdicts there are.
+use Prim.Native.Nat.{ℕ, _≤_, _<_, _^_}
+use mathlib.Core.Path.{_≡_}
+use mathlib.Core.List.{List, [], _∷_}
+use mathlib.Core.Option.{Option, some, none}
+use mathlib.Core.Bool.{Bool, true, false, cond}
+use lib.ListN.{length}
+use lib.Dec.{eqb}
+use Rattle.laws.specs.Sorted.{_∈_}
+use Rattle.data_model.specs.Path.{Figures, components, isPrefix}
+use Rattle.data_model.specs.Entry.{Entry, entryOf}
+use Rattle.data_model.specs.declared.entry.Entry.{Entry as EntryValue}
+use Rattle.data_model.specs.declared.path.Path.{Path}
+use Rattle.data_model.specs.declared.parameters.Subspace.{Subspace}
+use Rattle.data_model.specs.declared.area.Area.{Area}
+use Rattle.key_laws.specs.Bytes.{Bytes}
+use Rattle.tree.specs.Stored.{Stored}
+use Rattle.tree.specs.Matching.{removes, standsAt, isForgotten}
+use Rattle.store.specs.Store.{dirRoom}
+use Rattle.store.specs.Ingest.{filing}
+use Rattle.store.specs.declared.ingest.IngestVerdict.{IngestVerdict}
+use Rattle.store.specs.declared.ingest.IngestVerdict.the-variants as verdict
+
+-- An opening: whatever namespace, limit and buffers. Two are alike if namespace and limit are the same.
+pub record Opening : Type 0 where
+  pub namespace : List ℕ
+  pub limit : ℕ
+  pub spt : List ℕ
+  pub sptDir : List ℕ
+  pub tsp : List ℕ
+  pub tspDir : List ℕ
+
+pub record Alike (o p : Opening) : Type 0 where
+  pub namespace : o .namespace ≡ p .namespace
+  pub limit : o .limit ≡ p .limit
+
+-- The calls that change a store, with all that is free in them: an entry with its token, a prune list and the flag that prevents pruning; the place of an entry
+-- and the digest expected there, if one is; an area and a protected one, if there is one.
+pub record Ingestion : Type 0 where
+  pub prune : List ℕ
+  pub entry : EntryValue
+  pub token : List ℕ
+  pub prevent : Bool
+
+pub record Target : Type 0 where
+  pub subspace : Subspace
+  pub path : Path
+  pub expects : Bool
+  pub digest : List ℕ
+
+pub record AreaForgetting : Type 0 where
+  pub area : Area
+  pub protects : Bool
+  pub protected : Area
+
+pub data Call : Type 0 where
+  ingest : Ingestion → Call
+  forget-entry : Target → Call
+  forget-area : AreaForgetting → Call
+
+-- What an ingestion files.
+abbrev pub filedAs : Ingestion → Stored
+filedAs i = filing (entryOf (i .entry)) (i .token)
+
+-- Two entries of one subspace, the path of b properly extending that of a, that agree in timestamp, digest and length.
+pub record Tied (a b : Entry) : Type 0 where
+  pub subspace : a .subspace ≡ b .subspace
+  pub extends : isPrefix (a .path) (b .path) ≡ true
+  pub properly : a .path ≡ b .path → ⊥
+  pub rank : a .rank ≡ b .rank
+
+-- A buffer of a call's own: how long it is, and how long it must be.
+pub record Room : Type 0 where
+  pub has : ℕ
+  pub needs : ℕ
+
+-- What a call hands in that a check looks at: paths, its own buffers under the store's limit, ingestions, places with the digest expected there.
+pub record Input : Type 0 where
+  pub paths : List Path
+  pub rooms : (limit : ℕ) → List Room
+  pub ingestions : List Ingestion
+  pub expected : List Target
+
+unfoldable pub input : Call → Input
+input (ingest i) = record { paths = i .entry .path ∷ []; rooms = λ limit. record { has = length (i .prune); needs = dirRoom limit } ∷ []; ingestions = i ∷ []; expected = [] }
+input (forget-entry p) = record { paths = p .path ∷ []; rooms = λ limit. []; ingestions = []; expected = cond (p .expects) (p ∷ []) [] }
+input (forget-area a) = record { paths = a .area .path ∷ cond (a .protects) (a .protected .path ∷ []) []; rooms = λ limit. []; ingestions = []; expected = [] }
+
+-- Which entries a call forgets, if it is one that forgets.
+unfoldable pub forgets : Call → Option (Stored → Bool)
+forgets (ingest i) = none
+forgets (forget-entry p) = some (standsAt (p .subspace) (components (p .path)))
+forgets (forget-area a) = some (isForgotten (a .area) (a .protects) (a .protected))
+
+-- Which entries the number in its answer counts: those that an ingestion removes, those that an area's forgetting forgets. The other answers no number.
+unfoldable pub counted : Call → Stored → Bool
+counted (ingest i) = removes (entryOf (i .entry))
+counted (forget-entry p) = λ x. false
+counted (forget-area a) = isForgotten (a .area) (a .protects) (a .protected)
+
+-- A call is refused with a number, or the entry is obsolete, or the call is done.
+pub data Verdict : Type 0 where
+  refused : ℕ → Verdict
+  obsolete done : Verdict
+
+-- The verdict of an ingestion, and that of a call that answers the number of a refusal, 0 for none.
+unfoldable pub ingestVerdict : IngestVerdict → Verdict
+ingestVerdict (verdict.Success n) = done
+ingestVerdict verdict.Obsolete = obsolete
+ingestVerdict (verdict.Refused n) = refused n
+
+unfoldable pub numberVerdict : ℕ → Verdict
+numberVerdict n = cond (eqb n 0) done (refused n)
+
+-- What every value of its type is, in the language: arrays have their lengths, bytes are below 256, numbers below 2 ^ 64.
+pub record IngestionIsValue (f : Figures) (i : Ingestion) : Type 0 where
+  pub path-room : f .mpl ≤ length (i .entry .path .bytes)
+  pub path-bytes : Bytes (i .entry .path .bytes)
+  pub high : i .entry .«subspace_id» .high < 2 ^ 64
+  pub low : i .entry .«subspace_id» .low < 2 ^ 64
+  pub time : i .entry .timestamp < 2 ^ 64
+  pub payload : i .entry .«payload_length» < 2 ^ 64
+  pub digest : length (i .entry .«payload_digest») ≡ 32
+  pub digest-bytes : Bytes (i .entry .«payload_digest»)
+  pub token : length (i .token) ≡ 64
+  pub token-bytes : Bytes (i .token)
+
+abbrev pub IsValue : Figures → Call → Type 0
+IsValue f c = (i : Ingestion) → i ∈ input c .ingestions → IngestionIsValue f i

@@ -1,0 +1,98 @@
+-- 01, "When a call says no, in checking order": what each call looks for, in which order, and in words where each case holds.
+use Prim.Native.Nat.{_≤_, _<_}
+use mathlib.Core.Path.{_≡_}
+use mathlib.Core.List.{List, [], _∷_}
+use mathlib.Core.Bool.{true, false}
+use mathlib.Core.Logic.{_⊎_, _↔_}
+use lib.ListN.{length}
+use Rattle.laws.specs.Sorted.{_∈_, keep}
+use Rattle.data_model.specs.Path.{Figures, components, legal}
+use Rattle.data_model.specs.Entry.{Entry, entryOf, newer, covers, prunes}
+use Rattle.data_model.specs.declared.path.Path.{Path}
+use Rattle.tree.specs.Stored.{Stored}
+use Rattle.tree.specs.Tree.{WellFormed}
+use Rattle.tree.specs.declared.stored.KeyOrder.{KeyOrder}
+use Rattle.tree.specs.declared.stored.KeyOrder.the-variants.{Spt, Tsp}
+use Rattle.store.specs.Store.{Store, storeOf, limitMost, treeRoom, dirRoom, treeOf, dirOf, held}
+use Rattle.store.specs.Open.{emptyState}
+use Rattle.store.specs.Ingest.{stays}
+use Rattle.call_laws.specs.Calls.{Opening, Ingestion, Target, Call, ingest, forget-entry, forget-area, Room, Input, input, Verdict, refused, obsolete, done}
+
+-- No subspace and path stands twice.
+abbrev pub NoTwice : List Stored → Type 0
+NoTwice [] = Unit
+NoTwice (a ∷ l) = ((b : Stored) → b ∈ l → a .entry .subspace ≡ b .entry .subspace → a .entry .path ≡ b .entry .path → ⊥) × NoTwice l
+
+-- 01, "A well-formed store": what `wellFormedStore` tests, as facts. `WellFormed` is about each tree by itself: its directory, records, keys and zeros are right.
+pub record WellFormedStore (f : Figures) (s : Store) : Type 0 where
+  pub few : s .state .count ≤ s .state .limit
+  pub each : (o : KeyOrder) → WellFormed o f (s .state .count) (dirOf o s) (treeOf f o s)
+  pub same : (x : Stored) → x ∈ held f Spt s ↔ x ∈ held f Tsp s
+  pub no-twice : NoTwice (held f Spt s)
+  pub apart : (x y : Stored) → x ∈ held f Spt s → y ∈ held f Spt s → prunes (x .entry) (y .entry) ≡ false
+
+-- A lent buffer is shorter than 410 × limit bytes for a tree, 2 × limit numbers for a directory.
+abbrev pub ShortBuffer : Figures → Store → Type 0
+ShortBuffer f s =
+    let n = s .state .limit in
+    (length (s .spt) < treeRoom f n) ⊎ ((length (s .sptDir) < dirRoom n) ⊎ ((length (s .tsp) < treeRoom f n) ⊎ (length (s .tspDir) < dirRoom n)))
+
+-- Stored, which is to say held by the subspace-first tree: an entry of the subspace, at a prefix of the path or the path itself, that is newer.
+abbrev pub Outdated : Figures → Store → Entry → Type 0
+Outdated f s e = (x : Stored) × x ∈ held f Spt s × (covers (x .entry) e ≡ true) × (newer (x .entry) e ≡ true)
+
+-- A stored entry at the path or an extension is not newer: it would be removed, and all others stay (`stays`).
+abbrev pub Removes : Figures → Store → Entry → Type 0
+Removes f s e = (x : Stored) × x ∈ held f Spt s × (covers e (x .entry) ≡ true) × (newer (x .entry) e ≡ false)
+
+-- The entry stored at the subspace and path has another digest.
+abbrev pub OtherDigest : Figures → Store → Target → Type 0
+OtherDigest f s p = (x : Stored) × x ∈ held f Spt s × (x .entry .subspace ≡ p .subspace) × (x .entry .path ≡ components (p .path)) × (x .entry .rank .«payload_digest» ≡ p .digest → ⊥)
+
+-- What a call may find, and the verdict that it then gives.
+pub data Case : Type 0 where
+  limit-outside short-buffer not-well-formed illegal-path other-namespace outdated prevented full other-digest : Case
+
+unfoldable pub verdictOf : Case → Verdict
+verdictOf limit-outside = refused 1
+verdictOf short-buffer = refused 2
+verdictOf not-well-formed = refused 3
+verdictOf illegal-path = refused 4
+verdictOf other-namespace = refused 6
+verdictOf outdated = obsolete
+verdictOf prevented = refused 7
+verdictOf full = refused 8
+verdictOf other-digest = refused 9
+
+-- What each call looks for, in checking order.
+unfoldable pub checks : Call → List Case
+checks (ingest i) = limit-outside ∷ short-buffer ∷ not-well-formed ∷ illegal-path ∷ other-namespace ∷ outdated ∷ prevented ∷ full ∷ []
+checks (forget-entry p) = limit-outside ∷ short-buffer ∷ not-well-formed ∷ illegal-path ∷ other-digest ∷ []
+checks (forget-area a) = limit-outside ∷ short-buffer ∷ not-well-formed ∷ illegal-path ∷ []
+
+-- Where each case holds, of a store and what a call hands in.
+unfoldable pub Holds : Figures → Store → Input → Case → Type 0
+Holds f s h limit-outside = (s .state .limit < 1) ⊎ (limitMost < s .state .limit)
+Holds f s h short-buffer = ShortBuffer f s ⊎ ((b : Room) × b ∈ h .rooms (s .state .limit) × (b .has < b .needs))
+Holds f s h not-well-formed = WellFormedStore f s → ⊥
+Holds f s h illegal-path = (p : Path) × p ∈ h .paths × (legal f p ≡ false)
+Holds f s h other-namespace = (i : Ingestion) × i ∈ h .ingestions × (i .entry .«namespace_id» ≡ s .state .«namespace_id» → ⊥)
+Holds f s h outdated = (i : Ingestion) × i ∈ h .ingestions × Outdated f s (entryOf (i .entry))
+Holds f s h prevented = (i : Ingestion) × i ∈ h .ingestions × ((i .prevent ≡ true) × Removes f s (entryOf (i .entry)))
+Holds f s h full = (i : Ingestion) × i ∈ h .ingestions × (s .state .limit ≤ length (keep (stays (entryOf (i .entry))) (held f Spt s)))
+Holds f s h other-digest = (p : Target) × p ∈ h .expected × OtherDigest f s p
+
+-- The first case that holds decides the verdict; done, if none does. One verdict is right: `decides-one`.
+unfoldable pub Decides : (Case → Type 0) → List Case → Verdict → Type 0
+Decides H [] v = v ≡ done
+Decides H (k ∷ ks) v = (H k × (v ≡ verdictOf k)) ⊎ ((H k → ⊥) × Decides H ks v)
+
+abbrev pub VerdictRight : Figures → Store → Call → Verdict → Type 0
+VerdictRight f s c v = Decides (Holds f s (input c)) (checks c) v
+
+-- An opening looks at the limit and the buffers that it asks for, as a store with the state that it would have; it hands in nothing else.
+abbrev pub asked : Opening → Store
+asked o = storeOf (emptyState (o .namespace) (o .limit)) (o .spt) (o .sptDir) (o .tsp) (o .tspDir)
+
+abbrev pub OpeningVerdictRight : Figures → Opening → Verdict → Type 0
+OpeningVerdictRight f o v = Decides (Holds f (asked o) (record { paths = []; rooms = λ limit. []; ingestions = []; expected = [] })) (limit-outside ∷ short-buffer ∷ []) v

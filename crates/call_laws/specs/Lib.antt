@@ -1,0 +1,4 @@
+pub mod Calls
+pub mod Checks
+pub mod Outcomes
+pub mod Resend

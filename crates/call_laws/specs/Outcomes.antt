@@ -1,0 +1,80 @@
+-- What our calls answer and leave, by the definitions that the contracts cite, and what is right of it: demand 1, of each call on any store, well-formed or not.
+use Prim.Native.Nat.{ℕ}
+use mathlib.Core.Path.{_≡_}
+use mathlib.Core.List.{List, []}
+use mathlib.Core.Bool.{Bool, true}
+use lib.ListN.{length, replicate}
+use Rattle.laws.specs.Lists.{put}
+use Rattle.laws.specs.Sorted.{_∈_, keep}
+use Rattle.data_model.specs.Path.{Figures}
+use Rattle.data_model.specs.Entry.{entryOf, prunes}
+use Rattle.data_model.specs.declared.entry.Entry.{Entry as EntryValue}
+use Rattle.tree.specs.Stored.{Stored, lengthy}
+use Rattle.tree.specs.declared.stored.KeyOrder.{KeyOrder}
+use Rattle.tree.specs.declared.stored.KeyOrder.the-variants.{Spt}
+use Rattle.store.specs.Store.{Store, storeOf, treeRoom, dirRoom, held, Lent}
+use Rattle.store.specs.Open.{opening, noState}
+use Rattle.store.specs.Ingest.{IngestOutcome, ingested, prunedPairs, noEntry}
+use Rattle.store.specs.Forget.{entryForgotten, areaForgotten}
+use Rattle.store.specs.declared.state.State.{State}
+use Rattle.pairs.specs.Pairs.{prunedCount}
+use Rattle.call_laws.specs.Calls.{Opening, Ingestion, Call, ingest, forget-entry, forget-area, counted, Verdict, obsolete, done, ingestVerdict, numberVerdict}
+use Rattle.call_laws.specs.Checks.{WellFormedStore, VerdictRight, OpeningVerdictRight}
+
+-- The verdict, the number in the answer (0 if it has none), and the store that is left: its state is the one that is answered.
+pub record Outcome (S : Type 0) : Type 0 where
+  pub verdict : Verdict
+  pub number : ℕ
+  pub store : S
+
+-- Ours: what is answered and left on a store, and by an opening.
+unfoldable pub outcome : Figures → Store → Call → Outcome Store
+outcome f s (ingest i) = let r = ingested f s (i .prune) (i .entry) (i .token) (i .prevent) in record { verdict = ingestVerdict (r .answer .verdict); number = prunedCount (r .answer .verdict); store = r .store }
+outcome f s (forget-entry p) = let r = entryForgotten f s (p .subspace) (p .path) (p .expects) (p .digest) in record { verdict = numberVerdict (r .answer .refusal); number = 0; store = r .store }
+outcome f s (forget-area a) = let r = areaForgotten f s (a .area) (a .protects) (a .protected) in record { verdict = numberVerdict (r .answer .refusal); number = r .answer .forgotten; store = r .store }
+
+unfoldable pub opens : Figures → Opening → Outcome Store
+opens f o = let r = opening f (o .namespace) (o .limit) (o .spt) (o .sptDir) (o .tsp) (o .tspDir) in record { verdict = numberVerdict (r .answer .refusal); number = 0; store = r .store }
+
+-- What a call answered and left: a verdict and a number, with the state in the answer and the buffers as they then are. What an opening and an ingestion are handed.
+abbrev pub outcomeOf : Verdict → ℕ → State → (spt sptDir tsp tspDir : List ℕ) → Outcome Store
+outcomeOf v n s spt sptDir tsp tspDir = record { verdict = v; number = n; store = storeOf s spt sptDir tsp tspDir }
+
+abbrev pub openingOf : (namespace : List ℕ) → (limit : ℕ) → (spt sptDir tsp tspDir : List ℕ) → Opening
+openingOf namespace limit spt sptDir tsp tspDir = record { namespace = namespace; limit = limit; spt = spt; sptDir = sptDir; tsp = tsp; tspDir = tspDir }
+
+abbrev pub ingestionOf : (prune : List ℕ) → EntryValue → (token : List ℕ) → (prevent : Bool) → Ingestion
+ingestionOf prune e token prevent = record { prune = prune; entry = e; token = token; prevent = prevent }
+
+-- Each call on any store: the verdict is right. Done, the number counts what it says it counts. Not done, the store is the one that was handed in, and the number 0.
+pub record CallRight (f : Figures) (s : Store) (c : Call) (r : Outcome Store) : Type 0 where
+  pub verdict : VerdictRight f s c (r .verdict)
+  pub number : r .verdict ≡ done → r .number ≡ length (keep (counted c) (held f Spt s))
+  pub unchanged : (r .verdict ≡ done → ⊥) → (r .store ≡ s) × (r .number ≡ 0)
+
+-- A store keeps what it was opened with: namespace, limit, the length of each buffer and what stands in it beyond the limit's room.
+pub record Keeps (f : Figures) (o : Opening) (s : Store) : Type 0 where
+  pub namespace : s .state .«namespace_id» ≡ o .namespace
+  pub limit : s .state .limit ≡ o .limit
+  pub spt : Lent (treeRoom f (o .limit)) (o .spt) (s .spt)
+  pub sptDir : Lent (dirRoom (o .limit)) (o .sptDir) (s .sptDir)
+  pub tsp : Lent (treeRoom f (o .limit)) (o .tsp) (s .tsp)
+  pub tspDir : Lent (dirRoom (o .limit)) (o .tspDir) (s .tspDir)
+
+-- Each opening: the verdict is right. Done, the store holds nothing, is well-formed and keeps what it was opened with. Refused, every byte of the buffers is
+-- as before and the state is all 0.
+pub record OpeningRight (f : Figures) (o : Opening) (r : Outcome Store) : Type 0 where
+  pub verdict : OpeningVerdictRight f o (r .verdict)
+  pub unchanged : (r .verdict ≡ done → ⊥) → r .store ≡ storeOf noState (o .spt) (o .sptDir) (o .tsp) (o .tspDir)
+  pub empty : r .verdict ≡ done → (k : KeyOrder) → held f k (r .store) ≡ []
+  pub well-formed : r .verdict ≡ done → WellFormedStore f (r .store)
+  pub keeps : r .verdict ≡ done → Keeps f o (r .store)
+
+-- What else an ingestion answers. Done: the pairs of what it removes stand in the prune list, which nothing else writes to. Obsolete: a stored entry that is
+-- newer, of the subspace, at a prefix of the path or the path itself. Zeros where none is shown.
+pub record AnswerRight (f : Figures) (s : Store) (i : Ingestion) (r : IngestOutcome) : Type 0 where
+  pub pairs : ingestVerdict (r .answer .verdict) ≡ done → r .prune ≡ put (prunedPairs f s (entryOf (i .entry))) (i .prune)
+  pub unwritten : (ingestVerdict (r .answer .verdict) ≡ done → ⊥) → r .prune ≡ i .prune
+  pub shown : ingestVerdict (r .answer .verdict) ≡ obsolete
+      → (x : Stored) × x ∈ held f Spt s × (prunes (x .entry) (entryOf (i .entry)) ≡ true) × (r .answer .newer ≡ lengthy x .entry) × (r .answer .token ≡ x .token)
+  pub none-shown : (ingestVerdict (r .answer .verdict) ≡ obsolete → ⊥) → (r .answer .newer ≡ noEntry) × (r .answer .token ≡ replicate 64 0)

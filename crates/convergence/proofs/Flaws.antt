@@ -1,0 +1,236 @@
+-- Stores that are as ours but for one flaw, each refuted by the clause of `Contents` that it breaks, on a small run that is computed. Assumes nothing.
+use Prim.Native.Nat.{ℕ}
+use mathlib.Core.Path.{_≡_, refl, sym, ap, subst, _∙_}
+use mathlib.Core.List.{List, [], _∷_, map, List·Memᴰ·head as here, List·Memᴰ·tail as there}
+use mathlib.Core.Bool.{true}
+use native.Mathlib.Omega.{arith}
+use lib.ListN.{replicate, getD}
+use Rattle.laws.specs.Sorted.{_∈_, all, Ascends}
+use Rattle.laws.proofs.Truth.{clash}
+use Rattle.layout.specs.Layout.{treeBytes, dirNumbers}
+use Rattle.data_model.specs.Path.{field}
+use Rattle.data_model.specs.Entry.{entryOf, prunes}
+use Rattle.key_laws.proofs.EntryLaws.{prunes-irrefl}
+use Rattle.tree.specs.Stored.{Stored, recordOf, keyBelow}
+use Rattle.tree.specs.declared.stored.KeyOrder.{KeyOrder}
+use Rattle.tree.specs.declared.stored.KeyOrder.the-variants.{Spt, Tsp}
+use Rattle.store.specs.Store.{Store, treeRoom, dirRoom, treeOf, dirOf, held, heldBy, holding}
+use Rattle.store.specs.Refusal.{limitOk}
+use Rattle.store.specs.Open.{nothing}
+use Rattle.store.specs.Ingest.{filed}
+use Rattle.call_laws.specs.Calls.{Ingestion, ingest, filedAs, input, Verdict, obsolete, done}
+use Rattle.call_laws.specs.Checks.{asked}
+use Rattle.call_laws.specs.Outcomes.{Outcome, outcome, opens}
+use Rattle.call_laws.proofs.Did.{so, Did, was-refused, was-obsolete, has-filed, has-forgotten, did}
+use Rattle.call_laws.proofs.Stands.{opened-store}
+use Rattle.call_laws.proofs.Right.{refused-done, obsolete-done, not-forgets}
+use Rattle.convergence.specs.Demand.{ours, history, afterAll, Receipt, receiptOf, notRefused, receipts, received, Run, throughout, events, Plain, Current, receiptIn, Exactly, Contents, Demand3}
+use Rattle.convergence.specs.Examples.{atLimit, one, two, later, other-token}
+use Rattle.convergence.specs.WrongStores.{ifDone, instead, Flaw, counts-only, leaves-bytes, loses-token, available-1, prunes-nothing, prunes-one-tree, in-order-of-arrival, makes, flawed, with-flaw, leaves, Broken, Refuted}
+use Rattle.convergence.proofs.Examined.{verdictIn}
+use Rattle.convergence.proofs.Computing.{computing, reading}
+use Rattle.convergence.proofs.Lines.{fine, lines-values, lines-gather, opens-fine, computed}
+use Rattle.convergence.proofs.Shown.{only, tokens-one, mayTie, noneMayTie, ties-none}
+
+pub ok-2 : limitOk 2 ≡ true
+unfolding limitOk
+ok-2 = refl
+
+-- The store that is opened, and ours after one entry: of bytes that can be computed.
+abbrev begun : Store
+begun = holding field nothing (asked (atLimit 2))
+
+abbrev pub t0 : Store
+t0 = opens field (atLimit 2) .store
+
+begins : t0 ≡ begun
+begins = opened-store field (atLimit 2) (opens-fine 2 ok-2)
+
+abbrev next : Store
+next = holding field (record { spt = filedAs one ∷ []; tsp = filedAs one ∷ [] }) begun
+
+-- The verdicts of ours.
+pub first-done : (x : Ingestion) → map verdictIn (history (ours field) t0 (ingest x ∷ [])) ≡ done ∷ [] → outcome field t0 (ingest x) .verdict ≡ done
+unfolding history
+first-done x e = ap (λ (l : List Verdict). getD l 0 obsolete) e
+
+second-done : (x : Ingestion) → map verdictIn (history (ours field) t0 (ingest one ∷ ingest x ∷ [])) ≡ done ∷ done ∷ [] → outcome field (outcome field t0 (ingest one) .store) (ingest x) .verdict ≡ done
+unfolding history
+second-done x e = ap (λ (l : List Verdict). getD l 1 obsolete) e
+
+pub done-one : outcome field t0 (ingest one) .verdict ≡ done
+unfolding computing
+done-one = first-done one (computed 2 refl (one ∷ []) refl .says-all)
+
+done-token : outcome field t0 (ingest other-token) .verdict ≡ done
+unfolding computing
+done-token = first-done other-token (computed 2 refl (other-token ∷ []) refl .says-all)
+
+-- What ours files is what it leaves.
+pub ours-files : (s : Store) (i : Ingestion) → outcome field s (ingest i) .verdict ≡ done → outcome field s (ingest i) .store ≡ makes filed i s
+ours-files s i d = go (did field s (ingest i))
+  where
+    told : {a : Verdict} {n : ℕ} {t : Store} → outcome field s (ingest i) ≡ so a n t → a ≡ done
+    told e = sym (ap (λ (o : Outcome Store). o .verdict) e) ∙ d
+
+    same : {j : Ingestion} → ingest i ≡ ingest j → j ≡ i
+    same q = cc
+
+    go : Did field s (ingest i) → outcome field s (ingest i) .store ≡ makes filed i s
+    go (was-refused n e) = refused-done (told e)
+    go (was-obsolete j q y m o e) = obsolete-done (told e)
+    go (has-filed j q t e) = ap (λ (o : Outcome Store). o .store) e ∙ ap (λ (k : Ingestion). makes filed k s) (same q)
+    go (has-forgotten p q e) = not-forgets i p q
+
+makes-next : makes filed one begun ≡ next
+unfolding computing reading heldBy
+makes-next = refl
+
+ours-next : outcome field t0 (ingest one) .store ≡ next
+ours-next = ours-files t0 one done-one ∙ ap (makes filed one) begins ∙ makes-next
+
+done-later : outcome field next (ingest later) .verdict ≡ done
+unfolding computing
+done-later = subst (λ (s : Store). outcome field s (ingest later) .verdict ≡ done) ours-next (second-done later (computed 2 refl (one ∷ later ∷ []) refl .says-all))
+
+done-two : outcome field next (ingest two) .verdict ≡ done
+unfolding computing
+done-two = subst (λ (s : Store). outcome field s (ingest two) .verdict ≡ done) ours-next (second-done two (computed 2 refl (one ∷ two ∷ []) refl .says-all))
+
+-- What a store with a flaw leaves after one entry, and after `one` and another where the flaw does not show on the first.
+step : (w : Flaw) (s : Store) (i : Ingestion) → outcome field s (ingest i) .verdict ≡ done → with-flaw w .call s (ingest i) .store ≡ flawed w i s
+unfolding instead ifDone
+step w s i d = rw d refl
+
+after-one : (w : Flaw) (x : Ingestion) → outcome field t0 (ingest x) .verdict ≡ done → leaves w (x ∷ []) ≡ flawed w x begun
+unfolding afterAll
+after-one w x d = step w t0 x d ∙ ap (flawed w x) begins
+
+after-two : (w : Flaw) (x : Ingestion) → flawed w one begun ≡ next → outcome field next (ingest x) .verdict ≡ done → leaves w (one ∷ x ∷ []) ≡ flawed w x next
+unfolding afterAll
+after-two w x q d = ap (λ (s : Store). with-flaw w .call s (ingest x) .store) (step w t0 one done-one ∙ ap (flawed w one) begins ∙ q) ∙ step w next x d
+
+-- The flaws.
+alone : (x : Ingestion) → Current (receiptOf x ∷ []) (receiptOf x)
+alone x = record { among = here refl; unpruned = λ q n. rw (only n) (prunes-irrefl (entryOf (x .entry))) }
+
+only-counted : Exactly (held field Spt (leaves counts-only (one ∷ []))) (map receiptOf (one ∷ [])) → ⊥
+unfolding flawed computing reading
+only-counted h =
+    let m : receiptOf one ∈ map receiptIn (held field Spt (flawed counts-only one begun)) = rw (after-one counts-only one done-one) at (h (receiptOf one) .1 (alone one)) in
+    let z : _≡_ {A = ℕ} 1 0 = ap (λ (r : Receipt). r .entry .subspace .low) (only m) in
+    omega arith
+
+bytes-left : let s = leaves leaves-bytes (one ∷ []) in treeOf field Spt s ≡ treeBytes (treeRoom field 2) (map (recordOf Spt) (held field Spt s)) → ⊥
+unfolding flawed computing reading heldBy
+bytes-left h =
+    let e = subst (λ (s : Store). treeOf field Spt s ≡ treeBytes (treeRoom field 2) (map (recordOf Spt) (held field Spt s))) (after-one leaves-bytes one done-one) h in
+    let z : _≡_ {A = ℕ} 1 0 = ap (λ (l : List ℕ). getD l 200 0) e in
+    omega arith
+
+token-lost : Exactly (held field Spt (leaves loses-token (other-token ∷ []))) (map receiptOf (other-token ∷ [])) → ⊥
+unfolding flawed computing reading heldBy
+token-lost h =
+    let m : receiptOf other-token ∈ map receiptIn (held field Spt (flawed loses-token other-token begun)) = rw (after-one loses-token other-token done-token) at (h (receiptOf other-token) .1 (alone other-token)) in
+    let z : _≡_ {A = ℕ} 1 0 = ap (λ (r : Receipt). getD (r .token) 0 0) (only m) in
+    omega arith
+
+available-one : ((x : Stored) → x ∈ held field Spt (leaves available-1 (one ∷ [])) → x .available ≡ 0) → ⊥
+unfolding flawed computing reading heldBy
+available-one h =
+    let k = subst (λ (s : Store). (x : Stored) → x ∈ held field Spt s → x .available ≡ 0) (after-one available-1 one done-one) h in
+    let z : _≡_ {A = ℕ} 1 0 = k (record { entry = entryOf (one .entry); token = one .token; available = 1 }) (here refl) in
+    omega arith
+
+next-nothing : flawed prunes-nothing one begun ≡ next
+unfolding flawed computing reading heldBy
+next-nothing = refl
+
+next-one-tree : flawed prunes-one-tree one begun ≡ next
+unfolding flawed computing reading heldBy
+next-one-tree = refl
+
+next-arrival : flawed in-order-of-arrival one begun ≡ next
+unfolding flawed computing reading heldBy
+next-arrival = refl
+
+none-pruned : Exactly (held field Spt (leaves prunes-nothing (one ∷ later ∷ []))) (map receiptOf (one ∷ later ∷ [])) → ⊥
+unfolding flawed computing reading heldBy
+none-pruned h =
+    let k = subst (λ (s : Store). Exactly (held field Spt s) (map receiptOf (one ∷ later ∷ []))) (after-two prunes-nothing later next-nothing done-later) h in
+    clash {b = prunes (receiptOf later .entry) (receiptOf one .entry)} refl (k (receiptOf one) .0 (here refl) .unpruned (receiptOf later) (there (here refl)))
+
+one-pruned : let s = leaves prunes-one-tree (one ∷ later ∷ []) in dirOf Tsp s ≡ dirNumbers (dirRoom 2) (map (recordOf Tsp) (held field Tsp s)) → ⊥
+unfolding flawed computing reading heldBy
+one-pruned h =
+    let e = subst (λ (s : Store). dirOf Tsp s ≡ dirNumbers (dirRoom 2) (map (recordOf Tsp) (held field Tsp s))) (after-two prunes-one-tree later next-one-tree done-later) h in
+    let z : _≡_ {A = ℕ} 141 0 = ap (λ (l : List ℕ). getD l 3 0) e in
+    omega arith
+
+by-arrival : Ascends keyBelow (map (recordOf Tsp) (held field Tsp (leaves in-order-of-arrival (one ∷ two ∷ [])))) → ⊥
+unfolding flawed computing reading heldBy Ascends
+by-arrival h =
+    let k = subst (λ (s : Store). Ascends keyBelow (map (recordOf Tsp) (held field Tsp s))) (after-two in-order-of-arrival two next-arrival done-two) h in
+    clash {b = keyBelow (recordOf Tsp (filedAs one)) (recordOf Tsp (filedAs two))} (k .0 (recordOf Tsp (filedAs two)) (here refl)) refl
+
+pub broken : Broken
+broken = record {
+  counts-only = only-counted;
+  leaves-bytes = bytes-left;
+  loses-token = token-lost;
+  available-1 = available-one;
+  prunes-nothing = none-pruned;
+  prunes-one-tree = one-pruned;
+  in-order-of-arrival = by-arrival;
+}
+
+-- All that is handed in is received, and the premises hold of it.
+got-one : (w : Flaw) (x : Ingestion) → outcome field t0 (ingest x) .verdict ≡ done → received (history (with-flaw w) t0 (map ingest (x ∷ []))) ≡ map receiptOf (x ∷ [])
+unfolding history received receipts notRefused input
+got-one w x d = rw d refl
+
+got-two : (w : Flaw) (x : Ingestion) → flawed w one begun ≡ next → outcome field next (ingest x) .verdict ≡ done → received (history (with-flaw w) t0 (map ingest (one ∷ x ∷ []))) ≡ map receiptOf (one ∷ x ∷ [])
+unfolding history received receipts notRefused input
+got-two w x q d =
+    let e : with-flaw w .call t0 (ingest one) .store ≡ next = step w t0 one done-one ∙ ap (flawed w one) begins ∙ q in
+    let f : outcome field (with-flaw w .call t0 (ingest one) .store) (ingest x) .verdict ≡ done = ap (λ (s : Store). outcome field s (ingest x) .verdict) e ∙ d in
+    rw (f, done-one) refl
+
+plain-1 : (x : Ingestion) → Plain (map receiptOf (x ∷ []))
+plain-1 x = record { one-token = λ a b n k e. ap (λ (r : Receipt). r .token) (only n ∙ sym (only k)); no-tie = λ a b n k t. t .properly (ap (λ (r : Receipt). r .entry .path) (only n ∙ sym (only k))) }
+
+plain-two : Plain (map receiptOf (one ∷ two ∷ []))
+unfolding computing mayTie noneMayTie
+plain-two = record { one-token = tokens-one (replicate 64 0) _ refl; no-tie = ties-none _ refl }
+
+plain-later : Plain (map receiptOf (one ∷ later ∷ []))
+unfolding computing mayTie noneMayTie
+plain-later = record { one-token = tokens-one (replicate 64 0) _ refl; no-tie = ties-none _ refl }
+
+-- So demand 3 says of these what each of them breaks.
+module _ (w : Flaw) (v : Demand3 (throughout field) (with-flaw w)) (xs : List Ingestion) (h : all (fine 2) xs ≡ true)
+    (got : received (history (with-flaw w) t0 (map ingest xs)) ≡ map receiptOf xs) (p : Plain (map receiptOf xs)) where
+  abbrev run : Run (throughout field) (with-flaw w)
+  run = record { opening = atLimit 2; accepted = opens-fine 2 ok-2; calls = map ingest xs; values = lines-values 2 xs h }
+
+  whole : (k : KeyOrder) → Contents field k (leaves w xs) (events run)
+  whole = v .contents run (lines-gather 2 xs h) (rw got p)
+
+  exactly : (k : KeyOrder) → Exactly (held field k (leaves w xs)) (map receiptOf xs)
+  exactly k = subst (Exactly (held field k (leaves w xs))) got (whole k .exactly)
+
+  bytes : (k : KeyOrder) → treeOf field k (leaves w xs) ≡ treeBytes (treeRoom field 2) (map (recordOf k) (held field k (leaves w xs)))
+  bytes k = whole k .laid .bytes ∙ ap (λ (n : ℕ). treeBytes (treeRoom field n) (map (recordOf k) (held field k (leaves w xs)))) (v .keeps run .limit)
+
+  numbers : (k : KeyOrder) → dirOf k (leaves w xs) ≡ dirNumbers (dirRoom 2) (map (recordOf k) (held field k (leaves w xs)))
+  numbers k = whole k .laid .numbers ∙ ap (λ (n : ℕ). dirNumbers (dirRoom n) (map (recordOf k) (held field k (leaves w xs)))) (v .keeps run .limit)
+
+pub having-a-flaw : (w : Flaw) → Refuted (with-flaw w)
+unfolding computing
+having-a-flaw counts-only v = broken .counts-only (exactly counts-only v (one ∷ []) refl (got-one counts-only one done-one) (plain-1 one) Spt)
+having-a-flaw leaves-bytes v = broken .leaves-bytes (bytes leaves-bytes v (one ∷ []) refl (got-one leaves-bytes one done-one) (plain-1 one) Spt)
+having-a-flaw loses-token v = broken .loses-token (exactly loses-token v (other-token ∷ []) refl (got-one loses-token other-token done-token) (plain-1 other-token) Spt)
+having-a-flaw available-1 v = broken .available-1 (whole available-1 v (one ∷ []) refl (got-one available-1 one done-one) (plain-1 one) Spt .details)
+having-a-flaw prunes-nothing v = broken .prunes-nothing (exactly prunes-nothing v (one ∷ later ∷ []) refl (got-two prunes-nothing later next-nothing done-later) plain-later Spt)
+having-a-flaw prunes-one-tree v = broken .prunes-one-tree (numbers prunes-one-tree v (one ∷ later ∷ []) refl (got-two prunes-one-tree later next-one-tree done-later) plain-later Tsp)
+having-a-flaw in-order-of-arrival v = broken .in-order-of-arrival (whole in-order-of-arrival v (one ∷ two ∷ []) refl (got-two in-order-of-arrival two next-arrival done-two) plain-two Tsp .laid .ascending)
