@@ -1,4 +1,4 @@
--- `main` is safe and ends: each turn has one fewer left. The invariant: the buffers have their lengths. Assumes nothing.
+-- `main` is safe and ends: the buffers keep their lengths. Assumes nothing.
 use mathlib.Core.Path.{_≡_}
 use lib.ListN.{length}
 use borrow.Author.Needs.{needs}
@@ -6,13 +6,10 @@ use Rattle.replay.proofs.main.Statement.{statement}
 use Rattle.replay.proofs.main.Tie as tie
 
 abbrev Inv-loop : tie.InvT-loop
-Inv-loop input₀ line₀ spt₀ spt-dir₀ tsp₀ tsp-dir₀ state₀ cursor₀ turns₀ input line spt spt-dir tsp tsp-dir state cursor turns = (length input ≡ 65536) × (length line ≡ 1024) × (length spt ≡ 419840) × (length spt-dir ≡ 2048) × (length tsp ≡ 419840) × (length tsp-dir ≡ 2048)
+Inv-loop a₀ b₀ c₀ d₀ state₀ turns₀ t8 a b c d state turns = (length a ≡ 419840) × (length b ≡ 2048) × (length c ≡ 419840) × (length d ≡ 2048)
 
 abbrev μ-loop : tie.MeasureT-loop
-μ-loop input₀ line₀ spt₀ spt-dir₀ tsp₀ tsp-dir₀ state₀ cursor₀ turns₀ input line spt spt-dir tsp tsp-dir state cursor turns = turns
-
-large-buffer-requires : tie.Need-large-buffer-requires Inv-loop μ-loop
-large-buffer-requires c κs = search needs
+μ-loop a₀ b₀ c₀ d₀ state₀ turns₀ t8 a b c d state turns = turns
 
 tree-buffer-requires : tie.Need-tree-buffer-requires Inv-loop μ-loop
 tree-buffer-requires c κs = search needs
@@ -26,53 +23,62 @@ tree-buffer-requires-2 c κs = search needs
 pair-buffer-requires-2 : tie.Need-pair-buffer-requires-2 Inv-loop μ-loop
 pair-buffer-requires-2 c κs = search needs
 
-slice-aggregate-open : tie.Need-slice-aggregate-open Inv-loop μ-loop
-slice-aggregate-open c = search needs
-
-slice-aggregate-open-2 : tie.Need-slice-aggregate-open-2 Inv-loop μ-loop
-slice-aggregate-open-2 c = search needs
-
-slice-aggregate-open-3 : tie.Need-slice-aggregate-open-3 Inv-loop μ-loop
-slice-aggregate-open-3 c = search needs
-
-slice-aggregate-open-4 : tie.Need-slice-aggregate-open-4 Inv-loop μ-loop
-slice-aggregate-open-4 c = search needs
-
-open-requires : tie.Need-open-requires Inv-loop μ-loop
-open-requires c κs = search needs
-
 loop-holds : tie.Need-loop-holds Inv-loop μ-loop
 loop-holds c = search needs
 
-slice-aggregate-next-line : tie.Need-slice-aggregate-next-line Inv-loop μ-loop
-slice-aggregate-next-line c = search needs
+slice-aggregate-read-line : tie.Need-slice-aggregate-read-line Inv-loop μ-loop
+slice-aggregate-read-line c = search needs
 
-slice-aggregate-next-line-2 : tie.Need-slice-aggregate-next-line-2 Inv-loop μ-loop
-slice-aggregate-next-line-2 c = search needs
-
-next-line-requires : tie.Need-next-line-requires Inv-loop μ-loop
-next-line-requires c κs = search needs
+read-line-requires : tie.Need-read-line-requires Inv-loop μ-loop
+read-line-requires c κs = search needs
 
 returns : tie.Need-returns Inv-loop μ-loop
 returns c = search needs
 
-slice-aggregate-turn : tie.Need-slice-aggregate-turn Inv-loop μ-loop
-slice-aggregate-turn c = search needs
+slice-aggregate-act : tie.Need-slice-aggregate-act Inv-loop μ-loop
+slice-aggregate-act c = search needs
 
-slice-aggregate-turn-2 : tie.Need-slice-aggregate-turn-2 Inv-loop μ-loop
-slice-aggregate-turn-2 c = search needs
+slice-aggregate-act-2 : tie.Need-slice-aggregate-act-2 Inv-loop μ-loop
+slice-aggregate-act-2 c = search needs
 
-slice-aggregate-turn-3 : tie.Need-slice-aggregate-turn-3 Inv-loop μ-loop
-slice-aggregate-turn-3 c = search needs
+slice-aggregate-act-3 : tie.Need-slice-aggregate-act-3 Inv-loop μ-loop
+slice-aggregate-act-3 c = search needs
 
-slice-aggregate-turn-4 : tie.Need-slice-aggregate-turn-4 Inv-loop μ-loop
-slice-aggregate-turn-4 c = search needs
+slice-aggregate-act-4 : tie.Need-slice-aggregate-act-4 Inv-loop μ-loop
+slice-aggregate-act-4 c = search needs
 
-slice-aggregate-turn-5 : tie.Need-slice-aggregate-turn-5 Inv-loop μ-loop
-slice-aggregate-turn-5 c = search needs
+slice-aggregate-act-5 : tie.Need-slice-aggregate-act-5 Inv-loop μ-loop
+slice-aggregate-act-5 c = search needs
 
-turn-requires : tie.Need-turn-requires Inv-loop μ-loop
-turn-requires c κs = search needs
+act-requires : tie.Need-act-requires Inv-loop μ-loop
+act-requires c κs = search needs
+
+slice-aggregate-look : tie.Need-slice-aggregate-look Inv-loop μ-loop
+slice-aggregate-look c = search needs
+
+slice-aggregate-look-2 : tie.Need-slice-aggregate-look-2 Inv-loop μ-loop
+slice-aggregate-look-2 c = search needs
+
+slice-aggregate-look-3 : tie.Need-slice-aggregate-look-3 Inv-loop μ-loop
+slice-aggregate-look-3 c = search needs
+
+slice-aggregate-look-4 : tie.Need-slice-aggregate-look-4 Inv-loop μ-loop
+slice-aggregate-look-4 c = search needs
+
+slice-aggregate-look-5 : tie.Need-slice-aggregate-look-5 Inv-loop μ-loop
+slice-aggregate-look-5 c = search needs
+
+look-requires : tie.Need-look-requires Inv-loop μ-loop
+look-requires c κs = search needs
+
+tell-state-requires : tie.Need-tell-state-requires Inv-loop μ-loop
+tell-state-requires c κs = search needs
+
+slice-aggregate-write-all : tie.Need-slice-aggregate-write-all Inv-loop μ-loop
+slice-aggregate-write-all c = search needs
+
+write-all-requires : tie.Need-write-all-requires Inv-loop μ-loop
+write-all-requires c κs = search needs
 
 sub-turns : tie.Need-sub-turns Inv-loop μ-loop
 sub-turns c = search needs
@@ -92,27 +98,29 @@ main-spec =
     (tie.spec
     Inv-loop
     μ-loop
-    large-buffer-requires
     tree-buffer-requires
     pair-buffer-requires
     tree-buffer-requires-2
     pair-buffer-requires-2
-    slice-aggregate-open
-    slice-aggregate-open-2
-    slice-aggregate-open-3
-    slice-aggregate-open-4
-    open-requires
     loop-holds
-    slice-aggregate-next-line
-    slice-aggregate-next-line-2
-    next-line-requires
+    slice-aggregate-read-line
+    read-line-requires
     returns
-    slice-aggregate-turn
-    slice-aggregate-turn-2
-    slice-aggregate-turn-3
-    slice-aggregate-turn-4
-    slice-aggregate-turn-5
-    turn-requires
+    slice-aggregate-act
+    slice-aggregate-act-2
+    slice-aggregate-act-3
+    slice-aggregate-act-4
+    slice-aggregate-act-5
+    act-requires
+    slice-aggregate-look
+    slice-aggregate-look-2
+    slice-aggregate-look-3
+    slice-aggregate-look-4
+    slice-aggregate-look-5
+    look-requires
+    tell-state-requires
+    slice-aggregate-write-all
+    write-all-requires
     sub-turns
     loop-less
     loop-again
