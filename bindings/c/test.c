@@ -1,4 +1,4 @@
-/* Every call of the door with answers written by hand from document 01, on buffers that are as long as asked and no longer. It prints how many answers
+/* Every call of the door with answers written by hand from document 01, on buffers that are as long as asked and no longer. It prints how many values
    were compared; the first wrong one is shown and ends it. */
 #include "virebony.h"
 #include <stdio.h>
@@ -51,6 +51,27 @@ static void drop(kept *k) {
     free(k->spt_dir);
     free(k->tsp_dir);
     free(k->prune);
+}
+
+/* A copy of a store's buffers, to be compared byte for byte. */
+static kept copy_of(const kept *k) {
+    kept c = *k;
+    c.spt = (uint8_t *)memcpy(lent(VB_RECORD_MOST * k->limit), k->spt, VB_RECORD_MOST * k->limit);
+    c.tsp = (uint8_t *)memcpy(lent(VB_RECORD_MOST * k->limit), k->tsp, VB_RECORD_MOST * k->limit);
+    c.spt_dir = (uint32_t *)memcpy(lent(8 * k->limit), k->spt_dir, 8 * k->limit);
+    c.tsp_dir = (uint32_t *)memcpy(lent(8 * k->limit), k->tsp_dir, 8 * k->limit);
+    c.prune = (vb_pair *)memcpy(lent(8 * k->limit), k->prune, 8 * k->limit);
+    return c;
+}
+
+static void same_buffers(const kept *a, const kept *b) {
+    IS(memcmp(a->spt, b->spt, VB_RECORD_MOST * a->limit) | memcmp(a->tsp, b->tsp, VB_RECORD_MOST * a->limit), 0);
+    IS(memcmp(a->spt_dir, b->spt_dir, 8 * a->limit) | memcmp(a->tsp_dir, b->tsp_dir, 8 * a->limit), 0);
+}
+
+static void unchanged(const kept *a, const kept *b) {
+    same_buffers(a, b);
+    IS(memcmp(a->prune, b->prune, 8 * a->limit), 0);
 }
 
 /* A path from text: components of lower-case hex joined by slashes, a point for an empty component, nothing for the empty path. Behind it lies garbage,
@@ -360,6 +381,64 @@ static void keys(void) {
     IS(vb_read_path_at(NULL, 0, 0).refusal, 5);
 }
 
+/* Ends at will: all bytes 7, all other ends 255. */
+static vb_path odd(size_t count, size_t first, size_t second, size_t third) {
+    vb_path p;
+    memset(p.bytes, 7, VB_MPL);
+    for (size_t i = 0; i < VB_MCC; i++) p.ends[i] = 255;
+    p.ends[0] = first, p.ends[1] = second, p.ends[2] = third, p.count = count;
+    return p;
+}
+
+/* Values that no line of text can say. */
+static void odd_values(void) {
+    const vb_path garbage = odd(0, 255, 255, 255), nine = odd(9, 1, 2, 3), none = path("");
+    IS(vb_path_is_legal(garbage), 1);
+    IS(vb_path_is_legal(nine), 0);
+    IS(vb_path_is_legal(odd(SIZE_MAX, 1, 2, 3)), 0);
+    IS(vb_path_is_legal(odd(2, 5, 3, 255)), 0);
+    IS(vb_path_is_legal(odd(2, 5, 5, 255)), 1);
+    IS(vb_path_is_legal(odd(1, 64, 255, 255)), 1);
+    IS(vb_path_is_legal(odd(1, 65, 255, 255)), 0);
+    IS(vb_path_is_legal(odd(1, SIZE_MAX, 255, 255)), 0);
+    IS(vb_path_is_legal(odd(2, 64, 128, 255)), 1);
+    IS(vb_path_is_legal(odd(3, 64, 128, 129)), 0);
+    IS(vb_path_is_legal(odd(3, 64, 128, 128)), 1);
+    IS(vb_path_eq(garbage, none).yes, 1);
+    IS(vb_path_is_prefix_of(none, garbage).yes, 1);
+    IS(vb_path_is_prefix_of(garbage, odd(1, 3, 255, 255)).yes, 1);
+    IS(vb_path_eq(nine, nine).refusal, 4);
+    IS(vb_path_is_prefix_of(nine, none).refusal, 4);
+    IS(vb_range_includes_triplet(range(none, nine, 1), subspace(0), none, 0).yes, 1);
+    IS(vb_range_includes_triplet(range(none, nine, 0), subspace(0), none, 0).refusal, 4);
+    vb_range r = range(none, none, 1);
+    r.times = times(0, UINT64_MAX, 0);
+    IS(vb_range_includes_triplet(r, subspace(0), none, UINT64_MAX).yes, 0);
+    IS(vb_range_includes_triplet(r, subspace(0), none, UINT64_MAX - 1).yes, 1);
+    r.times = times(20, 10, 0);
+    IS(vb_range_includes_triplet(r, subspace(0), none, 15).yes, 0);
+    vb_subspace next;
+    next.high = 1, next.low = 0;
+    vb_area_range a = vb_area_to_range(area(0, UINT64_MAX, garbage, times(0, 0, 1)));
+    IS(a.refusal, 0);
+    same_path(a.range.paths.start, ""); /* zeros behind */
+    IS(vb_range_includes_triplet(a.range, next, none, 0).yes, 0);
+    IS(vb_range_includes_triplet(a.range, subspace(UINT64_MAX), none, 0).yes, 1);
+    vb_area last = area(0, UINT64_MAX, none, times(0, 0, 1));
+    last.subspace.high = UINT64_MAX;
+    a = vb_area_to_range(last);
+    IS(a.range.subspaces.open, 1); /* nothing lies above the last subspace */
+    IS(vb_range_includes_triplet(a.range, last.subspace, none, 0).yes, 1);
+    IS(vb_area_to_range(area(1, 0, nine, times(0, 0, 1))).refusal, 4);
+    IS(vb_area_includes_triplet(area(1, 0, nine, times(0, 0, 1)), subspace(0), none, 0).refusal, 4);
+    uint8_t *out = (uint8_t *)lent(300);
+    vb_encoded e = vb_encode_spt_entry_key(subspace(0), garbage, 0, out, 300); /* a longer buffer is taken */
+    IS(e.refusal, 0);
+    IS(e.length, 26);
+    for (size_t i = 0; i < 300; i++) IS(out[i], i < 26 ? 0 : 0xee);
+    free(out);
+}
+
 /* Opening and the refusals that every call of a store shares: 1, 2, 3. */
 static void openings(void) {
     static const uint8_t namespace_id[16] = {0xaa};
@@ -386,6 +465,7 @@ static void openings(void) {
     most.max_count = most.max_size = UINT64_MAX;
     static vb_pairs by_value;
     const uint8_t digest[32] = {0};
+    const kept before = copy_of(&k);
     for (int want = 1; want <= 3; want++) {
         vb_state s = o.state;
         if (want == 1) s.limit = 0, s.count = SIZE_MAX;
@@ -420,6 +500,7 @@ static void openings(void) {
     IS(vb_ingest_entry_numbers(o.state, STORE(&k), (uint32_t *)k.prune, 3, e, token, 0).refusal, 2);
     IS(vb_forget_entry(o.state, STORE(&k), subspace(1), illegal(0), 0, digest).refusal, 4);
     IS(vb_forget_area(o.state, STORE(&k), all, 1, bad).refusal, 4);
+    IS(vb_forget_area(o.state, STORE(&k), bad, 0, all).refusal, 4);
     IS(vb_forget_area(o.state, STORE(&k), all, 0, bad).refusal, 0);
     IS(vb_find_entry(o.state, STORE(&k), subspace(1), illegal(3), ignore(0, 0)).refusal, 4);
     IS(vb_query_area_place(o.state, STORE(&k), bad, ignore(0, 0), SIZE_MAX).refusal, 4);
@@ -427,6 +508,9 @@ static void openings(void) {
     IS(vb_count_area(o.state, STORE(&k), bad).refusal, 4);
     IS(vb_summarise(o.state, STORE(&k), descends).refusal, 4);
     IS(vb_area_of_interest_to_range(o.state, STORE(&k), most).refusal, 4);
+    unchanged(&k, &before);
+    kept done = before;
+    drop(&done);
     drop(&k);
 }
 
@@ -439,6 +523,7 @@ static void ingestion(void) {
     IS(k.spt_dir[0], 0);
     IS(k.spt_dir[1], 144); /* key 16 + 8 + 8, value 112 */
     IS(k.prune[0].offset, 0xeeeeeeee);
+    kept before = copy_of(&k);
     r = ingest(&k, entry(1, "61", 5, 3, 9), 1);
     IS(r.refusal, 7); /* it would prune */
     IS(r.state.count, 1);
@@ -449,6 +534,8 @@ static void ingestion(void) {
     IS(refused.newer.payload_digest[31], 9);
     IS(refused.token[0], 0x42);
     same_path(refused.newer.path, "61/62");
+    unchanged(&k, &before);
+    drop(&before);
     r = ingest(&k, entry(1, "61", 5, 3, 9), 0); /* a tie is removed */
     IS(r.refusal | r.obsolete, 0);
     IS(r.pruned, 1);
@@ -464,7 +551,10 @@ static void ingestion(void) {
 
     k = store_of(1);
     IS(ingest(&k, entry(1, "61", 5, 3, 9), 0).refusal, 0);
+    before = copy_of(&k);
     IS(ingest(&k, entry(1, "62", 5, 3, 9), 0).refusal, 8);
+    unchanged(&k, &before);
+    drop(&before);
     IS(ingest(&k, entry(1, "", 6, 3, 9), 0).refusal, 0);
     IS(k.state.count, 1);
     IS(k.prune[0].length, 16 + 5 + 8 + 112);
@@ -476,12 +566,7 @@ static void ingestion(void) {
     memset(&by_value, 0xdd, sizeof by_value);
     IS(ingest(&k, entry(1, "61/62", 5, 3, 9), 0).refusal, 0);
     IS(ingest(&k, entry(1, "61/63", 5, 3, 9), 0).refusal, 0);
-    kept second = k;
-    second.spt = (uint8_t *)memcpy(lent(1230), k.spt, 1230);
-    second.tsp = (uint8_t *)memcpy(lent(1230), k.tsp, 1230);
-    second.spt_dir = (uint32_t *)memcpy(lent(24), k.spt_dir, 24);
-    second.tsp_dir = (uint32_t *)memcpy(lent(24), k.tsp_dir, 24);
-    second.prune = (vb_pair *)lent(24);
+    kept second = copy_of(&k);
     r = vb_ingest_entry_numbers(k.state, STORE(&k), numbers, 6, entry(1, "61", 6, 3, 9), token, 0);
     IS(r.pruned, 2);
     IS(numbers[0], 0);
@@ -497,8 +582,7 @@ static void ingestion(void) {
     IS(v.pairs[1].length, 144);
     IS(v.pairs[2].offset, 0xdddddddd);
     IS(v.pairs[1023].length, 0xdddddddd);
-    IS(memcmp(second.spt, k.spt, 1230) | memcmp(second.tsp, k.tsp, 1230), 0);
-    IS(memcmp(second.spt_dir, k.spt_dir, 24) | memcmp(second.tsp_dir, k.tsp_dir, 24), 0);
+    same_buffers(&second, &k);
     free(numbers);
     drop(&second);
     drop(&k);
@@ -507,7 +591,7 @@ static void ingestion(void) {
 static void reading_and_forgetting(void) {
     kept k = store_of(5);
     static const char *const at[] = {"61", "61/62", "63", "64"};
-    for (uint64_t i = 0; i < 4; i++) IS(ingest(&k, entry(i == 3 ? 2 : 1, at[i], 10 * (4 - i), i, 9), 0).refusal, i == 1 ? 0 : 0);
+    for (uint64_t i = 0; i < 4; i++) IS(ingest(&k, entry(i == 3 ? 2 : 1, at[i], 10 * (4 - i), i, 9), 0).obsolete, i == 1);
     IS(k.state.count, 3); /* [61][62] was older than [61] */
     IS(ingest(&k, entry(1, "61/62", 50, 1, 9), 0).state.count, 4);
 
@@ -575,10 +659,13 @@ static void reading_and_forgetting(void) {
 
     uint8_t digest[32];
     memset(digest, 8, 32);
+    kept before = copy_of(&k);
     vb_entry_forgotten g = vb_forget_entry(k.state, STORE(&k), subspace(1), path("63"), 1, digest);
     IS(g.refusal, 9);
     IS(g.state.count, 4);
     IS(vb_forget_entry(k.state, STORE(&k), subspace(9), path("63"), 1, digest).refusal, 0); /* absent: done */
+    unchanged(&k, &before);
+    drop(&before);
     g = vb_forget_entry(k.state, STORE(&k), subspace(1), path("63"), 0, digest); /* the digest is not looked at */
     IS(g.refusal, 0);
     IS(g.state.count, 3);
@@ -610,9 +697,10 @@ int main(void) {
     entries();
     areas_and_ranges();
     keys();
+    odd_values();
     openings();
     ingestion();
     reading_and_forgetting();
-    printf("%u answers of the door as written\n", compared);
+    printf("%u comparisons with answers written by hand\n", compared);
     return 0;
 }

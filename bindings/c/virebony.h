@@ -1,8 +1,8 @@
 /* virebony: a proved entry store in buffers that you lend. Every call here is proved to end, to read and write nothing but what it is lent, and to
    answer as its contract says (crates/virebony), for every value that these types can hold: any numbers, any bytes, any lengths.
 
-   Make the archive with `rt staticlib virebony` and link target/staticlib/libvirebony.a, from C11 or C++11. It is made for x86-64 Linux; it needs no
-   other library, allocates nothing, keeps nothing between calls, reads and writes no file, and may be called from several threads at once on
+   Make the archive with `rt staticlib virebony` and link target/staticlib/libvirebony.a, from C11 or C++11. It is made for x86-64 Linux. Of functions that
+   are not its own it calls memcpy and memset; it allocates nothing, keeps nothing between calls and has no variables, so several threads may call it at once, on
    different stores. docs/FORMAT.md shows how keys, records, directories and the state lie in memory.
 
    What you owe: a pointer with a count points to so many elements, of the type's own alignment, and is not NULL unless the count is 0; a pointer
@@ -254,7 +254,8 @@ vb_decoded vb_read_tsp_entry_key(const uint8_t *key, size_t key_len);
 VB_ASSERT(sizeof(size_t) == 8, "x86-64 only");
 VB_ASSERT(sizeof(vb_subspace) == 16, "vb_subspace");
 VB_ASSERT(sizeof(vb_path) == 200 && offsetof(vb_path, ends) == 128 && offsetof(vb_path, count) == 192, "vb_path");
-VB_ASSERT(sizeof(vb_entry) == 280 && offsetof(vb_entry, subspace_id) == 16 && offsetof(vb_entry, path) == 32 && offsetof(vb_entry, timestamp) == 232 && offsetof(vb_entry, payload_length) == 240 && offsetof(vb_entry, payload_digest) == 248, "vb_entry");
+VB_ASSERT(sizeof(vb_entry) == 280 && offsetof(vb_entry, subspace_id) == 16 && offsetof(vb_entry, path) == 32 && offsetof(vb_entry, timestamp) == 232 &&
+              offsetof(vb_entry, payload_length) == 240 && offsetof(vb_entry, payload_digest) == 248, "vb_entry");
 VB_ASSERT(sizeof(vb_times) == 24 && offsetof(vb_times, open) == 16, "vb_times");
 VB_ASSERT(sizeof(vb_subspaces) == 40 && offsetof(vb_subspaces, open) == 32, "vb_subspaces");
 VB_ASSERT(sizeof(vb_paths) == 408 && offsetof(vb_paths, open) == 400, "vb_paths");
@@ -266,11 +267,13 @@ VB_ASSERT(sizeof(vb_state) == 32 && offsetof(vb_state, count) == 16 && offsetof(
 VB_ASSERT(sizeof(vb_pair) == 8, "vb_pair");
 VB_ASSERT(sizeof(vb_pairs) == 8192, "vb_pairs");
 VB_ASSERT(sizeof(vb_opened) == 40 && offsetof(vb_opened, state) == 8, "vb_opened");
-VB_ASSERT(sizeof(vb_ingested) == 392 && offsetof(vb_ingested, obsolete) == 1 && offsetof(vb_ingested, pruned) == 8 && offsetof(vb_ingested, state) == 16 && offsetof(vb_ingested, newer) == 48 && offsetof(vb_ingested, token) == 328, "vb_ingested");
+VB_ASSERT(sizeof(vb_ingested) == 392 && offsetof(vb_ingested, obsolete) == 1 && offsetof(vb_ingested, pruned) == 8 &&
+              offsetof(vb_ingested, state) == 16 && offsetof(vb_ingested, newer) == 48 && offsetof(vb_ingested, token) == 328, "vb_ingested");
 VB_ASSERT(sizeof(vb_pairs_ingested) == 8584 && offsetof(vb_pairs_ingested, pairs) == 392, "vb_pairs_ingested");
 VB_ASSERT(sizeof(vb_entry_forgotten) == 40, "vb_entry_forgotten");
 VB_ASSERT(sizeof(vb_area_forgotten) == 48 && offsetof(vb_area_forgotten, forgotten) == 40, "vb_area_forgotten");
-VB_ASSERT(sizeof(vb_lengthy_entry) == 352 && offsetof(vb_lengthy_entry, token) == 280 && offsetof(vb_lengthy_entry, available) == 344, "vb_lengthy_entry");
+VB_ASSERT(sizeof(vb_lengthy_entry) == 352 && offsetof(vb_lengthy_entry, token) == 280 &&
+              offsetof(vb_lengthy_entry, available) == 344, "vb_lengthy_entry");
 VB_ASSERT(sizeof(vb_entry_found) == 360 && offsetof(vb_entry_found, lengthy) == 8, "vb_entry_found");
 VB_ASSERT(sizeof(vb_listed) == 16 && offsetof(vb_listed, place) == 8, "vb_listed");
 VB_ASSERT(sizeof(vb_part) == 16, "vb_part");
@@ -280,9 +283,11 @@ VB_ASSERT(sizeof(vb_answer) == 2, "vb_answer");
 VB_ASSERT(sizeof(vb_compared) == 3, "vb_compared");
 VB_ASSERT(sizeof(vb_above) == 208 && offsetof(vb_above, path) == 8, "vb_above");
 VB_ASSERT(sizeof(vb_encoded) == 16 && offsetof(vb_encoded, length) == 8, "vb_encoded");
-VB_ASSERT(sizeof(vb_decoded) == 232 && offsetof(vb_decoded, subspace) == 8 && offsetof(vb_decoded, path) == 24 && offsetof(vb_decoded, timestamp) == 224, "vb_decoded");
+VB_ASSERT(sizeof(vb_decoded) == 232 && offsetof(vb_decoded, subspace) == 8 && offsetof(vb_decoded, path) == 24 &&
+              offsetof(vb_decoded, timestamp) == 224, "vb_decoded");
 VB_ASSERT(sizeof(vb_path_read) == 216 && offsetof(vb_path_read, path) == 8 && offsetof(vb_path_read, next) == 208, "vb_path_read");
-VB_ASSERT(sizeof(vb_stepped) == 96 && offsetof(vb_stepped, component) == 1 && offsetof(vb_stepped, length) == 8 && offsetof(vb_stepped, bytes) == 16 && offsetof(vb_stepped, position) == 80 && offsetof(vb_stepped, left) == 88, "vb_stepped");
+VB_ASSERT(sizeof(vb_stepped) == 96 && offsetof(vb_stepped, component) == 1 && offsetof(vb_stepped, length) == 8 && offsetof(vb_stepped, bytes) == 16 &&
+              offsetof(vb_stepped, position) == 80 && offsetof(vb_stepped, left) == 88, "vb_stepped");
 
 #ifdef __cplusplus
 }

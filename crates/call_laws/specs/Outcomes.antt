@@ -1,13 +1,14 @@
 -- What our calls answer and leave, by the definitions that the contracts cite, and what is right of it: demand 1, of each call on any store, well-formed or not.
 use Prim.Native.Nat.{ℕ}
 use mathlib.Core.Path.{_≡_}
-use mathlib.Core.List.{[]}
-use mathlib.Core.Bool.{true}
+use mathlib.Core.List.{List, []}
+use mathlib.Core.Bool.{Bool, true}
 use lib.ListN.{length, replicate}
 use Rattle.laws.specs.Lists.{put}
 use Rattle.laws.specs.Sorted.{_∈_, keep}
 use Rattle.data_model.specs.Path.{Figures}
 use Rattle.data_model.specs.Entry.{entryOf, prunes}
+use Rattle.data_model.specs.declared.entry.Entry.{Entry as EntryValue}
 use Rattle.tree.specs.Stored.{Stored, lengthy}
 use Rattle.tree.specs.declared.stored.KeyOrder.{KeyOrder}
 use Rattle.tree.specs.declared.stored.KeyOrder.the-variants.{Spt}
@@ -15,6 +16,7 @@ use Rattle.store.specs.Store.{Store, storeOf, treeRoom, dirRoom, held, Lent}
 use Rattle.store.specs.Open.{opening, noState}
 use Rattle.store.specs.Ingest.{IngestOutcome, ingested, prunedPairs, noEntry}
 use Rattle.store.specs.Forget.{entryForgotten, areaForgotten}
+use Rattle.store.specs.declared.state.State.{State}
 use Rattle.pairs.specs.Pairs.{prunedCount}
 use Rattle.call_laws.specs.Calls.{Opening, Ingestion, Call, ingest, forget-entry, forget-area, counted, Verdict, obsolete, done, ingestVerdict, numberVerdict}
 use Rattle.call_laws.specs.Checks.{WellFormedStore, VerdictRight, OpeningVerdictRight}
@@ -33,6 +35,16 @@ outcome f s (forget-area a) = let r = areaForgotten f s (a .area) (a .protects) 
 
 unfoldable pub opens : Figures → Opening → Outcome Store
 opens f o = let r = opening f (o .namespace) (o .limit) (o .spt) (o .sptDir) (o .tsp) (o .tspDir) in record { verdict = numberVerdict (r .answer .refusal); number = 0; store = r .store }
+
+-- What a call answered and left: a verdict and a number, with the state in the answer and the buffers as they then are. What an opening and an ingestion are handed.
+abbrev pub outcomeOf : Verdict → ℕ → State → (spt sptDir tsp tspDir : List ℕ) → Outcome Store
+outcomeOf v n s spt sptDir tsp tspDir = record { verdict = v; number = n; store = storeOf s spt sptDir tsp tspDir }
+
+abbrev pub openingOf : (namespace : List ℕ) → (limit : ℕ) → (spt sptDir tsp tspDir : List ℕ) → Opening
+openingOf namespace limit spt sptDir tsp tspDir = record { namespace = namespace; limit = limit; spt = spt; sptDir = sptDir; tsp = tsp; tspDir = tspDir }
+
+abbrev pub ingestionOf : (prune : List ℕ) → EntryValue → (token : List ℕ) → (prevent : Bool) → Ingestion
+ingestionOf prune e token prevent = record { prune = prune; entry = e; token = token; prevent = prevent }
 
 -- Each call on any store: the verdict is right. Done, the number counts what it says it counts. Not done, the store is the one that was handed in, and the number 0.
 pub record CallRight (f : Figures) (s : Store) (c : Call) (r : Outcome Store) : Type 0 where

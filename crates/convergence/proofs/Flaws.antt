@@ -196,10 +196,10 @@ got-two w x q d =
     let f : outcome field (with-flaw w .call t0 (ingest one) .store) (ingest x) .verdict ≡ done = ap (λ (s : Store). outcome field s (ingest x) .verdict) e ∙ d in
     rw (f, done-one) refl
 
-pub plain-1 : (x : Ingestion) → Plain (map receiptOf (x ∷ []))
+plain-1 : (x : Ingestion) → Plain (map receiptOf (x ∷ []))
 plain-1 x = record { one-token = λ a b n k e. ap (λ (r : Receipt). r .token) (only n ∙ sym (only k)); no-tie = λ a b n k t. t .properly (ap (λ (r : Receipt). r .entry .path) (only n ∙ sym (only k))) }
 
-pub plain-two : Plain (map receiptOf (one ∷ two ∷ []))
+plain-two : Plain (map receiptOf (one ∷ two ∷ []))
 unfolding computing mayTie noneMayTie
 plain-two = record { one-token = tokens-one (replicate 64 0) _ refl; no-tie = ties-none _ refl }
 
@@ -220,10 +220,10 @@ module _ (w : Flaw) (v : Demand3 (throughout field) (with-flaw w)) (xs : List In
   exactly k = subst (Exactly (held field k (leaves w xs))) got (whole k .exactly)
 
   bytes : (k : KeyOrder) → treeOf field k (leaves w xs) ≡ treeBytes (treeRoom field 2) (map (recordOf k) (held field k (leaves w xs)))
-  bytes k = whole k .bytes ∙ ap (λ (n : ℕ). treeBytes (treeRoom field n) (map (recordOf k) (held field k (leaves w xs)))) (v .keeps run .limit)
+  bytes k = whole k .laid .bytes ∙ ap (λ (n : ℕ). treeBytes (treeRoom field n) (map (recordOf k) (held field k (leaves w xs)))) (v .keeps run .limit)
 
   numbers : (k : KeyOrder) → dirOf k (leaves w xs) ≡ dirNumbers (dirRoom 2) (map (recordOf k) (held field k (leaves w xs)))
-  numbers k = whole k .numbers ∙ ap (λ (n : ℕ). dirNumbers (dirRoom n) (map (recordOf k) (held field k (leaves w xs)))) (v .keeps run .limit)
+  numbers k = whole k .laid .numbers ∙ ap (λ (n : ℕ). dirNumbers (dirRoom n) (map (recordOf k) (held field k (leaves w xs)))) (v .keeps run .limit)
 
 pub having-a-flaw : (w : Flaw) → Refuted (with-flaw w)
 unfolding computing
@@ -233,4 +233,4 @@ having-a-flaw loses-token v = broken .loses-token (exactly loses-token v (other-
 having-a-flaw available-1 v = broken .available-1 (whole available-1 v (one ∷ []) refl (got-one available-1 one done-one) (plain-1 one) Spt .details)
 having-a-flaw prunes-nothing v = broken .prunes-nothing (exactly prunes-nothing v (one ∷ later ∷ []) refl (got-two prunes-nothing later next-nothing done-later) plain-later Spt)
 having-a-flaw prunes-one-tree v = broken .prunes-one-tree (numbers prunes-one-tree v (one ∷ later ∷ []) refl (got-two prunes-one-tree later next-one-tree done-later) plain-later Tsp)
-having-a-flaw in-order-of-arrival v = broken .in-order-of-arrival (whole in-order-of-arrival v (one ∷ two ∷ []) refl (got-two in-order-of-arrival two next-arrival done-two) plain-two Tsp .ascending)
+having-a-flaw in-order-of-arrival v = broken .in-order-of-arrival (whole in-order-of-arrival v (one ∷ two ∷ []) refl (got-two in-order-of-arrival two next-arrival done-two) plain-two Tsp .laid .ascending)

@@ -1,6 +1,6 @@
 -- Of runs of any store: every beginning of a run is a run; in a run of one that meets demand 3 no call gets 1 or 3, and 2 only for a buffer of its own. Assumes nothing.
 use Prim.Native.Nat.{ℕ, _<_}
-use mathlib.Core.Path.{_≡_, refl, sym, ap, subst, _∙_}
+use mathlib.Core.Path.{_≡_, refl, sym, ap, subst}
 use mathlib.Core.Logic.{_⊎_, inl, inr, ⊎-elim}
 use mathlib.Core.List.{List, [], _∷_, _++_, List·Memᴰ·head as here, List·Memᴰ·tail as there, List·Memᴰ·not-nil as none-in, List·Memᴰ·cases-cons as uncons, Memᴰ·append-left as in-left}
 use native.Mathlib.Omega.{arith}
@@ -9,10 +9,10 @@ use Rattle.data_model.specs.Path.{Figures}
 use Rattle.store.specs.Store.{Store, limitMost, treeRoom, dirRoom}
 use Rattle.call_laws.specs.Calls.{Opening, Call, Room, input, refused, done}
 use Rattle.call_laws.specs.Checks.{WellFormedStore, ShortBuffer, verdictOf, Holds, Decides, asked, OpeningVerdictRight}
-use Rattle.call_laws.specs.Outcomes.{Outcome, Keeps}
+use Rattle.call_laws.specs.Outcomes.{Keeps}
 use Rattle.call_laws.proofs.Right.{refused-done}
 use Rattle.call_laws.proofs.Kept.{caseOf, holds-for}
-use Rattle.convergence.specs.Demand.{Machine, Event, history, afterAll, Run, begin, events, end, Demand3, RunRefusals}
+use Rattle.convergence.specs.Demand.{Machine, Event, history, afterAll, Run, begin, events, Demand3, RunRefusals}
 
 -- A call in a list comes after the calls before it.
 pub record After {O S : Type 0} (m : Machine O S) (s : S) (cs : List Call) (e : Event S) : Type 0 where
@@ -53,21 +53,12 @@ module _ (f : Opening → Figures) (m : Machine Opening Store) (v : Demand3 f m)
   abbrev a : After m (begin r) (r .calls) e
   a = comes-after m (begin r) (r .calls) e n
 
-  -- The runs up to the call, and with it.
-  abbrev pub upTo : Run f m
+  -- The run up to the call.
+  abbrev upTo : Run f m
   upTo = record { opening = r .opening; accepted = r .accepted; calls = a .earlier; values = λ c k. r .values c (a .among c (in-left (e .call ∷ []) k)) }
 
-  abbrev pub through : Run f m
-  through = record { opening = r .opening; accepted = r .accepted; calls = a .earlier ++ e .call ∷ []; values = λ c k. r .values c (a .among c k) }
-
-  pub through-ends : end through ≡ e .outcome .store
-  through-ends = after-more m (begin r) (a .earlier) (e .call) ∙ ap (λ (s : Store). m .call s (e .call) .store) (a .before) ∙ ap (λ (o : Outcome Store). o .store) (a .outcome)
-
-  pub before-well : WellFormedStore g (e .before)
+  before-well : WellFormedStore g (e .before)
   before-well = subst (WellFormedStore g) (a .before) (v .sound upTo)
-
-  pub after-well : WellFormedStore g (e .outcome .store)
-  after-well = subst (WellFormedStore g) through-ends (v .sound through)
 
   before-keeps : Keeps g (r .opening) (e .before)
   before-keeps = subst (Keeps g (r .opening)) (a .before) (v .keeps upTo)

@@ -1,6 +1,6 @@
--- What demand 3 shuts out: kinds of stores, each refuted of every member, with one that there is; and stores that are as ours but for one flaw, each with the
--- clause of demand 3 that it breaks. `shut-out` proves it.
-use Prim.Native.Nat.{ℕ, suc, _+_, _<_}
+-- What demand 3 shuts out: kinds of stores, each refuted of every member that opens as 01 says (demand 1), with one that there is; and stores that are as ours
+-- but for one flaw, each with the clause of demand 3 that it breaks. `shut-out` proves it.
+use Prim.Native.Nat.{ℕ, suc, _<_}
 use mathlib.Core.Path.{_≡_}
 use mathlib.Core.List.{List, [], _∷_, map, _++_}
 use mathlib.Core.Bool.{Bool, true, false, cond}
@@ -12,6 +12,7 @@ use Rattle.layout.specs.Layout.{treeBytes, dirNumbers}
 use Rattle.data_model.specs.Path.{field}
 use Rattle.data_model.specs.Entry.{entryOf}
 use Rattle.tree.specs.Stored.{Stored, recordOf, keyBelow}
+use Rattle.tree.specs.Matching.{isForgotten}
 use Rattle.tree.specs.declared.stored.KeyOrder.{KeyOrder}
 use Rattle.tree.specs.declared.stored.KeyOrder.the-variants.{Spt, Tsp}
 use Rattle.store.specs.Store.{Store, storeOf, treeRoom, dirRoom, treeOf, dirOf, held, Held, heldBy, holding}
@@ -20,27 +21,29 @@ use Rattle.store.specs.Ingest.{filing, sptLess, tspLess, stays, filedIn, filed,
 use Rattle.call_laws.specs.Calls.{Opening, Ingestion, AreaForgetting, Call, ingest, forget-entry, forget-area, filedAs, forgets, Verdict, refused, obsolete, done}
 use Rattle.call_laws.specs.Checks.{OpeningVerdictRight}
 use Rattle.call_laws.specs.Outcomes.{Outcome, outcome, opens}
-use Rattle.convergence.specs.Demand.{Machine, Event, afterAll, receiptOf, notRefused, Run, throughout, events, end, Exactly, Demand3}
+use Rattle.convergence.specs.Demand.{Machine, Event, afterAll, receiptOf, notRefused, Run, throughout, events, end, receiptIn, Exactly, Demand3}
 use Rattle.convergence.specs.Examples.{atLimit, one, two, later, other-token}
 
+-- A store, right or wrong: whatever it answers, and leaves of a state and four buffers.
 abbrev pub AStore : Type 0
 AStore = Machine Opening Store
 
--- It opens one of limit 2; what a run of it leaves; and what happens in some run of it.
-abbrev pub OpensTwo : AStore → Type 0
-OpensTwo m = m .opening (atLimit 2) .verdict ≡ done
+-- It opens what 01 says, and refuses the rest.
+abbrev pub OpensRight : AStore → Type 0
+OpensRight m = (o : Opening) → OpeningVerdictRight field o (m .opening o .verdict)
 
+-- What a run of it leaves; and what happens in some run of it.
 abbrev pub Reached : AStore → Store → Type 0
 Reached m s = (r : Run (throughout field) m) × (end r ≡ s)
 
 abbrev pub Happens : AStore → (Event Store → Type 0) → Type 0
 Happens m P = (r : Run (throughout field) m) × (e : Event Store) × e ∈ events r × P e
 
--- Kinds of stores. Its ingestions write nothing in a tree, whatever it answers, counts or forgets.
+-- Kinds of stores. What an ingestion that is done was handed stands in neither tree afterwards.
 abbrev pub FilesNothing : AStore → Type 0
-FilesNothing m = (s : Store) → Reached m s → (i : Ingestion) (k : KeyOrder) → treeOf field k (m .call s (ingest i) .store) ≡ treeOf field k s
+FilesNothing m = (s : Store) → Reached m s → (i : Ingestion) (k : KeyOrder) → m .call s (ingest i) .verdict ≡ done → receiptOf i ∈ map receiptIn (held field k (m .call s (ingest i) .store)) → ⊥
 
--- It calls obsolete all that comes after its first entry and would not be refused.
+-- Once its count is not 0 it calls obsolete all that would not be refused.
 abbrev pub FirstOnly : AStore → Type 0
 FirstOnly m = (s : Store) → Reached m s → (i : Ingestion) → (s .state .count ≡ 0 → ⊥) → notRefused (outcome field s (ingest i) .verdict) ≡ true → m .call s (ingest i) .verdict ≡ obsolete
 
@@ -56,18 +59,17 @@ RefusesAll m = (s : Store) → Reached m s → (c : Call) → notRefused (m .cal
 abbrev pub OneVerdict : AStore → Type 0
 OneVerdict m = (v : Verdict) × ((s : Store) → Reached m s → (i : Ingestion) → m .call s (ingest i) .verdict ≡ v)
 
--- It forgets nothing, whatever it says; it forgets what the subspace-first tree holds, and not the other.
+-- It forgets nothing, whatever it says; its forgettings write nothing in the time-first tree.
 abbrev pub ForgetsNothing : AStore → Type 0
 ForgetsNothing m = (s : Store) → Reached m s → (c : Call) (p : Stored → Bool) → forgets c ≡ some p → m .call s c .store ≡ s
 
 abbrev pub ForgetsOneTree : AStore → Type 0
-ForgetsOneTree m = (s : Store) → Reached m s → (c : Call) (p : Stored → Bool) → forgets c ≡ some p
-    → (m .call s c .store .state ≡ outcome field s c .store .state) × (treeOf field Tsp (m .call s c .store) ≡ treeOf field Tsp s)
+ForgetsOneTree m = (s : Store) → Reached m s → (c : Call) (p : Stored → Bool) → forgets c ≡ some p → treeOf field Tsp (m .call s c .store) ≡ treeOf field Tsp s
 
--- An area's forgetting is done, and its number with what is then left is not what there was.
+-- An area's forgetting is done, and its number is not that of the entries that it forgets.
 abbrev pub MadeUpCount : AStore → Type 0
 MadeUpCount m = (a : AreaForgetting)
-    × Happens m λ e. (e .call ≡ forget-area a) × (e .outcome .verdict ≡ done) × (e .outcome .number + e .outcome .store .state .count ≡ e .before .state .count → ⊥)
+    × Happens m λ e. (e .call ≡ forget-area a) × (e .outcome .verdict ≡ done) × (e .outcome .number ≡ length (keep (isForgotten (a .area) (a .protects) (a .protected)) (held field Spt (e .before))) → ⊥)
 
 -- It changes the store though the call is refused; it opens a store of limit 0.
 abbrev pub ChangesRefused : AStore → Type 0
@@ -154,26 +156,26 @@ abbrev pub Refuted : AStore → Type 0
 Refuted m = Demand3 (throughout field) m → ⊥
 
 pub record ShutOut : Type 0 where
-  pub filing-nothing : (m : AStore) → OpensTwo m → FilesNothing m → Refuted m
-  pub filing-the-first : (m : AStore) → OpensTwo m → FirstOnly m → Refuted m
+  pub filing-nothing : (m : AStore) → OpensRight m → FilesNothing m → Refuted m
+  pub filing-the-first : (m : AStore) → OpensRight m → FirstOnly m → Refuted m
   pub full-below : (m : AStore) → FullBelow m → Refuted m
-  pub refusing-everybody : (m : AStore) → OpensTwo m → RefusesAll m → Refuted m
-  pub one-verdict : (m : AStore) → OpensTwo m → OneVerdict m → Refuted m
-  pub forgetting-nothing : (m : AStore) → OpensTwo m → ForgetsNothing m → Refuted m
-  pub forgetting-one-tree : (m : AStore) → OpensTwo m → ForgetsOneTree m → Refuted m
+  pub refusing-everybody : (m : AStore) → OpensRight m → RefusesAll m → Refuted m
+  pub one-verdict : (m : AStore) → OpensRight m → OneVerdict m → Refuted m
+  pub forgetting-nothing : (m : AStore) → OpensRight m → ForgetsNothing m → Refuted m
+  pub forgetting-one-tree : (m : AStore) → OpensRight m → ForgetsOneTree m → Refuted m
   pub made-up-count : (m : AStore) → MadeUpCount m → Refuted m
   pub changing-refused : (m : AStore) → ChangesRefused m → Refuted m
   pub opening-none : (m : AStore) → OpensNone m → Refuted m
   -- With demand 1: it opens nothing.
-  pub opening-nothing : (m : AStore) → ((o : Opening) → m .opening o .verdict ≡ done → ⊥) → ((o : Opening) → OpeningVerdictRight field o (m .opening o .verdict)) → ⊥
+  pub opening-nothing : (m : AStore) → ((o : Opening) → m .opening o .verdict ≡ done → ⊥) → OpensRight m → ⊥
   -- There are such, and others that are as ours but for one thing.
-  pub one-files-nothing : OpensTwo (with-flaw counts-only) × FilesNothing (with-flaw counts-only)
-  pub one-files-the-first : OpensTwo until-one × FirstOnly until-one
+  pub one-files-nothing : OpensRight (always done 0) × FilesNothing (always done 0)
+  pub one-files-the-first : OpensRight until-one × FirstOnly until-one
   pub one-is-full-below : FullBelow (always (refused 8) 0)
-  pub one-refuses-everybody : (n : ℕ) → OpensTwo (always (refused n) 0) × RefusesAll (always (refused n) 0)
-  pub one-has-one-verdict : (v : Verdict) → OpensTwo (always v 0) × OneVerdict (always v 0)
-  pub one-forgets-nothing : OpensTwo idle × ForgetsNothing idle
-  pub one-forgets-one-tree : OpensTwo haunted × ForgetsOneTree haunted
+  pub one-refuses-everybody : (n : ℕ) → OpensRight (always (refused n) 0) × RefusesAll (always (refused n) 0)
+  pub one-has-one-verdict : (v : Verdict) → OpensRight (always v 0) × OneVerdict (always v 0)
+  pub one-forgets-nothing : OpensRight idle × ForgetsNothing idle
+  pub one-forgets-one-tree : OpensRight haunted × ForgetsOneTree haunted
   pub one-makes-it-up : MadeUpCount (always done 1)
   pub one-changes-refused : ChangesRefused wiping
   pub one-opens-none : OpensNone opening-all

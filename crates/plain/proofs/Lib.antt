@@ -1,2 +1,3 @@
 mod PartLaws
 pub mod RowLaws
+mod RangeBack

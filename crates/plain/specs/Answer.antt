@@ -64,6 +64,7 @@ prunedBy (verdict.Success n) = n
 prunedBy verdict.Obsolete = 0
 prunedBy (verdict.Refused n) = 0
 
+-- The whole answer of an ingestion.
 abbrev pub plainIngested : Ingested → PlainIngested
 plainIngested i = record {
   refusal = verdictRefusal (i .verdict);
@@ -94,6 +95,7 @@ componentLength (next.Component len n) = len
 componentLength (next.PathEnd n) = 0
 componentLength (next.Refused k) = 0
 
+-- The whole answer of a step.
 abbrev pub plainStepped : Stepped → PlainStepped
 plainStepped s = record {
   refusal = stepRefusal (s .component .next);

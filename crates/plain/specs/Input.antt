@@ -30,25 +30,31 @@ isYes n = not (eqb n 0)
 abbrev pub areaSubspaceOf : ℕ → Subspace → AreaSubspace
 areaSubspaceOf any id = cond (isYes any) Any (Id id)
 
--- Times, subspaces and paths: open, or closed at the end that is named. A path range has its yes or no beside the end.
+-- A range of times: open, or closed at the end that is named.
 abbrev pub timesOf : PlainTimes → TimesRange
 timesOf t = record { start = t .start; end = cond (isYes (t .«open»)) times.Open (times.Closed (t .end)) }
 
+-- A range of subspaces: open, or closed at the end that is named.
 abbrev pub subspacesOf : PlainSubspaces → SubspaceRange
 subspacesOf s = record { start = s .start; end = cond (isYes (s .«open»)) ends.Open (ends.Closed (s .end)) }
 
+-- A range of paths, which has its yes or no beside the end.
 abbrev pub pathsOf : PlainPaths → PathRange
 pathsOf p = record { start = p .start; end = p .end; «open» = isYes (p .«open») }
 
+-- An area, with its subspace and its times read.
 abbrev pub areaOf : PlainArea → Area
 areaOf a = record { subspace = areaSubspaceOf (a .«any_subspace») (a .subspace); path = a .path; times = timesOf (a .times) }
 
+-- A 3d range: its three ranges read.
 abbrev pub rangeOf : PlainRange → Range3d
 rangeOf r = record { subspaces = subspacesOf (r .subspaces); paths = pathsOf (r .paths); times = timesOf (r .times) }
 
+-- An area of interest: the area read, the limits as they are.
 abbrev pub interestOf : PlainInterest → AreaOfInterest
 interestOf i = record { area = areaOf (i .area); «max_count» = i .«max_count»; «max_size» = i .«max_size» }
 
+-- The two flags of a query.
 abbrev pub ignoreOf : PlainIgnore → QueryIgnoreParams
 ignoreOf i = record {
   «ignore_incomplete_payloads» = isYes (i .«incomplete_payloads»);

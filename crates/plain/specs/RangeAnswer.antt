@@ -22,6 +22,7 @@ use Rattle.plain.specs.declared.«range_answer».PlainAreaRange.{PlainAr
 abbrev pub byteOf : Bool → ℕ
 byteOf b = cond b 1 0
 
+-- A range of times: whether it is open, its end, and both beside the start.
 abbrev pub openTime : RangeEnd → ℕ
 openTime (times.Closed e) = 0
 openTime times.Open = 1
@@ -33,6 +34,7 @@ endTime times.Open = 0
 abbrev pub plainTimes : TimesRange → PlainTimes
 plainTimes t = record { start = t .start; end = endTime (t .end); «open» = openTime (t .end) }
 
+-- A range of subspaces: whether it is open, its end, and both beside the start.
 abbrev pub openSubspace : SubspaceEnd → ℕ
 openSubspace (ends.Closed e) = 0
 openSubspace ends.Open = 1
@@ -44,12 +46,14 @@ endSubspace ends.Open = record { high = 0; low = 0 }
 abbrev pub plainSubspaces : SubspaceRange → PlainSubspaces
 plainSubspaces s = record { start = s .start; end = endSubspace (s .end); «open» = openSubspace (s .end) }
 
+-- A range of paths, and a 3d range of the three.
 abbrev pub plainPaths : PathRange → PlainPaths
 plainPaths p = record { start = p .start; end = p .end; «open» = byteOf (p .«open») }
 
 abbrev pub plainRange : Range3d → PlainRange
 plainRange r = record { subspaces = plainSubspaces (r .subspaces); paths = plainPaths (r .paths); times = plainTimes (r .times) }
 
+-- The answers of an area and of an area of interest: refusal and range.
 abbrev pub plainAreaRange : AreaRange → PlainAreaRange
 plainAreaRange a = record { refusal = a .refusal; range = plainRange (a .range) }
 

@@ -1,73 +1,53 @@
 //! The line language: plain values and the parsing of a line. No decision about a store is made here.
-use crate::params::*;
+use model::*;
 
 /// A longer line is of another form.
 pub const LINE: usize = 1024;
 
-pub type Comps = Vec<Vec<u8>>;
-
 #[derive(Clone, Debug, PartialEq)]
-pub struct Ent {
-    pub n: Ns,
-    pub s: Sub,
-    pub p: Comps,
-    pub t: u64,
-    pub l: u64,
-    pub d: Dig,
-    pub k: Tok,
-    pub avail: u64,
-}
-#[derive(Clone, Debug)]
-pub struct Ar {
-    pub s: Option<Sub>,
-    pub p: Comps,
-    pub t0: u64,
-    pub t1: Option<u64>,
-}
-#[derive(Clone, Debug)]
-pub struct Rg {
-    pub s0: Sub,
-    pub s1: Option<Sub>,
-    pub p0: Comps,
-    pub p1: Option<Comps>,
-    pub t0: u64,
-    pub t1: Option<u64>,
-}
-#[derive(Clone, Debug)]
 pub enum Call {
-    Open(Ns, Option<u64>),
-    Ingest(Ent, bool),
-    Forget(Sub, Comps, Option<Dig>),
-    ForgetArea(Ar, Option<Ar>),
-    Entry(Sub, Comps, bool, bool),
-    QueryArea(Ar, bool, bool),
-    IncludedIn(Ar, bool, bool),
-    QueryRange(Rg, bool, bool),
-    Count(Ar),
-    Size(Rg),
-    Aoi(Ar, u64, u64),
-    AreaRange(Ar),
+    Open(Namespace, Option<u64>),
+    /// With its token; whether pruning is prevented.
+    Ingest(Entry, Token, bool),
+    Forget(Subspace, Path, Option<Digest>),
+    ForgetArea(Area, Option<Area>),
+    Entry(Subspace, Path, Ignore),
+    QueryArea(Area, Ignore),
+    IncludedIn(Area, Ignore),
+    QueryRange(Range3d, Ignore),
+    /// The place of the first match at or after a place.
+    NextInArea(Area, Ignore, u64),
+    NextInRange(Range3d, Ignore, u64),
+    Count(Area),
+    Size(Range3d),
+    /// The most entries, the most bytes.
+    Aoi(Area, u64, u64),
+    AreaRange(Area),
     /// One of QueryArea, Aoi and AreaRange with the area's range ending as document 01 says.
     Bent(Box<Call>),
     Payloads,
-    Succ(Comps),
-    Above(Comps),
-    Order(Comps, Comps),
-    Newer(Ent, Ent),
-    Key(Sub, Comps, u64),
+    Succ(Path),
+    Above(Path),
+    Order(Path, Path),
+    Newer(Entry, Entry),
+    /// Whether the entry's triple is included.
+    InArea(Area, Entry),
+    InRange(Range3d, Entry),
+    Key(Subspace, Path, u64),
     /// Decoding of a raw key, time-first or not; and the same by document 01.
     Decode(bool, Vec<u8>),
     Decode01(bool, Vec<u8>),
     Dump,
     Put(bool, Vec<u8>, Vec<u8>),
-    Avail(Sub, Comps, u64),
-    Append(Sub, Comps, u64),
-    ForgetPayload(Sub, Comps, Option<Dig>),
-    ForgetAreaPayloads(Ar, Option<Ar>),
+    Avail(Subspace, Path, u64),
+    Append(Subspace, Path, u64),
+    ForgetPayload(Subspace, Path, Option<Digest>),
+    ForgetAreaPayloads(Area, Option<Area>),
     Clear,
-    Again(Ns),
+    Again(Namespace),
     Existing,
-    Deny(u64, Ent),
+    /// An entry whose token says yes so many times, and then no.
+    Deny(u64, Entry, Token),
 }
 
 // Fields
@@ -87,7 +67,7 @@ fn number(t: &str) -> Option<u64> {
     let plain = t.bytes().all(|b| b.is_ascii_digit()) && (t == "0" || !t.starts_with('0'));
     if plain { t.parse().ok() } else { None }
 }
-fn path(t: &str) -> Option<Comps> {
+fn path(t: &str) -> Option<Path> {
     if t == "-" {
         return Some(vec![]);
     }
@@ -123,48 +103,49 @@ fn flag(t: &str) -> Option<bool> {
 fn open<T>(t: &str, f: impl Fn(&str) -> Option<T>) -> Option<Option<T>> {
     if t == "*" { Some(None) } else { f(t).map(Some) }
 }
-fn sub(t: &str) -> Option<Sub> {
-    last(t).map(Sub)
+fn sub(t: &str) -> Option<Subspace> {
+    last(t)
 }
-fn area(f: &[&str]) -> Option<Ar> {
+fn area(f: &[&str]) -> Option<Area> {
     let [s, p, a, b] = f else { return None };
-    Some(Ar { s: open(s, sub)?, p: path(p)?, t0: number(a)?, t1: open(b, number)? })
+    Some(Area { subspace: open(s, sub)?, path: path(p)?, times: Range { start: number(a)?, end: open(b, number)? } })
 }
-fn areas(f: &[&str]) -> Option<(Ar, Option<Ar>)> {
+fn areas(f: &[&str]) -> Option<(Area, Option<Area>)> {
     match f.len() {
         4 => Some((area(f)?, None)),
         8 => Some((area(&f[..4])?, Some(area(&f[4..])?))),
         _ => None,
     }
 }
-fn range(f: &[&str]) -> Option<Rg> {
+fn range(f: &[&str]) -> Option<Range3d> {
     let [a, b, c, d, e, g] = f else { return None };
-    Some(Rg {
-        s0: sub(a)?,
-        s1: open(b, sub)?,
-        p0: path(c)?,
-        p1: open(d, path)?,
-        t0: number(e)?,
-        t1: open(g, number)?,
+    Some(Range3d {
+        subspaces: Range { start: sub(a)?, end: open(b, sub)? },
+        paths: Range { start: path(c)?, end: open(d, path)? },
+        times: Range { start: number(e)?, end: open(g, number)? },
     })
 }
-fn entry(f: &[&str]) -> Option<Ent> {
+fn entry(f: &[&str]) -> Option<(Entry, Token)> {
     let (n, s, p, t, l, d, k) = match f {
         [s, p, t, l, d] => ("00", s, p, t, l, d, &"00"),
         [s, p, t, l, d, k] => ("00", s, p, t, l, d, k),
         [s, p, t, l, d, k, n] => (*n, s, p, t, l, d, k),
         _ => return None,
     };
-    Some(Ent {
-        n: Ns(last(n)?),
-        s: sub(s)?,
-        p: path(p)?,
-        t: number(t)?,
-        l: number(l)?,
-        d: Dig(fill(d)?),
-        k: Tok(fill(k)?),
-        avail: 0,
-    })
+    let e = Entry {
+        namespace: last(n)?,
+        subspace: sub(s)?,
+        path: path(p)?,
+        timestamp: number(t)?,
+        payload_length: number(l)?,
+        payload_digest: fill(d)?,
+    };
+    Some((e, fill(k)?))
+}
+/// A subspace, path and timestamp; the rest 0.
+fn triple(f: &[&str]) -> Option<Entry> {
+    let [s, p, t] = f else { return None };
+    Some(entry(&[s, p, t, "0", "00"])?.0)
 }
 
 /// A key: pairs of hex digits, or - for no byte at all.
@@ -189,30 +170,23 @@ pub fn call(line: &str) -> Option<Call> {
     if let Some(plain @ ("qarea" | "aoi" | "arange")) = name.strip_suffix("01") {
         return Some(Call::Bent(Box::new(call(&[&[plain], f].concat().join(" "))?)));
     }
-    let flags = |f: &[&str]| Some((flag(f[f.len() - 2])?, flag(f[f.len() - 1])?));
+    let flags = |f: &[&str]| Some(Ignore { incomplete: flag(f[0])?, empty: flag(f[1])? });
     Some(match (*name, f.len()) {
-        ("open", 2) => Call::Open(Ns(last(f[0])?), open(f[1], number)?),
-        ("in", 5) => Call::Ingest(entry(f)?, false),
-        ("ingest", 7 | 8) => Call::Ingest(entry(&f[1..])?, flag(f[0])?),
+        ("open", 2) => Call::Open(last(f[0])?, open(f[1], number)?),
+        ("in", 5) => entry(f).map(|(e, k)| Call::Ingest(e, k, false))?,
+        ("ingest", 7 | 8) => {
+            let (e, k) = entry(&f[1..])?;
+            Call::Ingest(e, k, flag(f[0])?)
+        }
         ("forget", 2) => Call::Forget(sub(f[0])?, path(f[1])?, None),
-        ("forget", 3) => Call::Forget(sub(f[0])?, path(f[1])?, Some(Dig(fill(f[2])?))),
+        ("forget", 3) => Call::Forget(sub(f[0])?, path(f[1])?, Some(fill(f[2])?)),
         ("farea", _) => areas(f).map(|(a, p)| Call::ForgetArea(a, p))?,
-        ("entry", 4) => {
-            let (i, e) = flags(f)?;
-            Call::Entry(sub(f[0])?, path(f[1])?, i, e)
-        }
-        ("qarea", 6) => {
-            let (i, e) = flags(f)?;
-            Call::QueryArea(area(&f[..4])?, i, e)
-        }
-        ("iarea", 6) => {
-            let (i, e) = flags(f)?;
-            Call::IncludedIn(area(&f[..4])?, i, e)
-        }
-        ("qrange", 8) => {
-            let (i, e) = flags(f)?;
-            Call::QueryRange(range(&f[..6])?, i, e)
-        }
+        ("entry", 4) => Call::Entry(sub(f[0])?, path(f[1])?, flags(&f[2..])?),
+        ("qarea", 6) => Call::QueryArea(area(&f[..4])?, flags(&f[4..])?),
+        ("iarea", 6) => Call::IncludedIn(area(&f[..4])?, flags(&f[4..])?),
+        ("qrange", 8) => Call::QueryRange(range(&f[..6])?, flags(&f[6..])?),
+        ("narea", 7) => Call::NextInArea(area(&f[..4])?, flags(&f[4..])?, number(f[6])?),
+        ("nrange", 9) => Call::NextInRange(range(&f[..6])?, flags(&f[6..])?, number(f[8])?),
         ("count", 4) => Call::Count(area(f)?),
         ("size", 6) => Call::Size(range(f)?),
         ("aoi", 6) => Call::Aoi(area(&f[..4])?, number(f[4])?, number(f[5])?),
@@ -220,7 +194,9 @@ pub fn call(line: &str) -> Option<Call> {
         ("succ", 1) => Call::Succ(path(f[0])?),
         ("above", 1) => Call::Above(path(f[0])?),
         ("order", 2) => Call::Order(path(f[0])?, path(f[1])?),
-        ("newer", 10) => Call::Newer(entry(&f[..5])?, entry(&f[5..])?),
+        ("newer", 10) => Call::Newer(entry(&f[..5])?.0, entry(&f[5..])?.0),
+        ("inarea", 7) => Call::InArea(area(&f[..4])?, triple(&f[4..])?),
+        ("inrange", 9) => Call::InRange(range(&f[..6])?, triple(&f[6..])?),
         ("key", 3) => Call::Key(sub(f[0])?, path(f[1])?, number(f[2])?),
         ("spt" | "tsp", 1) => Call::Decode(*name == "tsp", raw(f[0])?),
         ("spt01" | "tsp01", 1) => Call::Decode01(*name == "tsp01", raw(f[0])?),
@@ -229,13 +205,16 @@ pub fn call(line: &str) -> Option<Call> {
         ("avail", 3) => Call::Avail(sub(f[0])?, path(f[1])?, number(f[2])?),
         ("append", 3) => Call::Append(sub(f[0])?, path(f[1])?, number(f[2])?),
         ("fpayload", 2) => Call::ForgetPayload(sub(f[0])?, path(f[1])?, None),
-        ("fpayload", 3) => Call::ForgetPayload(sub(f[0])?, path(f[1])?, Some(Dig(fill(f[2])?))),
+        ("fpayload", 3) => Call::ForgetPayload(sub(f[0])?, path(f[1])?, Some(fill(f[2])?)),
         ("fareapayloads", _) => areas(f).map(|(a, p)| Call::ForgetAreaPayloads(a, p))?,
         ("clear", 0) => Call::Clear,
         ("payloads", 0) => Call::Payloads,
-        ("again", 1) => Call::Again(Ns(last(f[0])?)),
+        ("again", 1) => Call::Again(last(f[0])?),
         ("existing", 0) => Call::Existing,
-        ("deny", 6) => Call::Deny(number(f[0])?, entry(&f[1..])?),
+        ("deny", 6) => {
+            let (e, k) = entry(&f[1..])?;
+            Call::Deny(number(f[0])?, e, k)
+        }
         _ => return None,
     })
 }

@@ -2,11 +2,9 @@
 //! bad lines; `raw` the keys, sound and damaged, for the Rust's own decoders (spt, tsp), with key.
 //! Paths lie at, below and over every bound, over the bytes 00 01 02 fe ff and 61, and come with their relatives, so that
 //! equal paths, prefixes and near-prefixes are common. Lines are at most 1,024 bytes long, but for a bad one.
-use crate::call::Comps;
-use crate::model_keys::{spt, tsp, FIELD};
-use crate::params::Sub;
 use crate::rng::Rng;
 use crate::show::*;
+use model::{spt, tsp, Path as Comps, Subspace, FIELD};
 use std::io::Write;
 
 const BYTES: [u8; 6] = [0, 1, 2, 0x61, 0xfe, 0xff];
@@ -103,7 +101,7 @@ impl Gen {
             }
         }
     }
-    fn sub(&mut self) -> Sub {
+    fn sub(&mut self) -> Subspace {
         let mut s = [0; 16];
         match self.r.below(6) {
             0 => s = [255; 16],
@@ -111,7 +109,7 @@ impl Gen {
             2 => s[self.r.at(16)] = self.r.of(&BYTES),
             _ => s[15] = self.r.of(&BYTES),
         }
-        Sub(s)
+        s
     }
     fn num(&mut self) -> u64 {
         let at = [0, 1, 2, 5, 5, 5, 255, 256, 1 << 32, (1 << 63) - 1, 1 << 63, u64::MAX - 1, u64::MAX];
@@ -129,7 +127,7 @@ impl Gen {
     }
     fn fields(&mut self) -> [String; 5] {
         let (s, p) = (self.sub(), self.path());
-        [show_last(&s.0), show_path(&p), self.num().to_string(), self.num().to_string(), self.digest()]
+        [show_last(&s), show_path(&p), self.num().to_string(), self.num().to_string(), self.digest()]
     }
     /// Two entries; the second is often the first with a field or two changed.
     fn entries(&mut self) -> String {
@@ -145,7 +143,7 @@ impl Gen {
         format!("{} {}", a.join(" "), b.join(" "))
     }
     fn area(&mut self) -> String {
-        let s = if self.r.one_in(3) { "*".into() } else { show_last(&self.sub().0) };
+        let s = if self.r.one_in(3) { "*".into() } else { show_last(&self.sub()) };
         let t = if self.r.one_in(2) { "*".into() } else { self.num().to_string() };
         let p = self.path();
         format!("{s} {} {} {t}", show_path(&p), self.num())
@@ -221,7 +219,7 @@ impl Gen {
             84..=85 => self.r.pick(&BAD).into(),
             _ => {
                 let (s, p) = (self.sub(), self.path());
-                format!("key {} {} {}", show_last(&s.0), show_path(&p), self.num())
+                format!("key {} {} {}", show_last(&s), show_path(&p), self.num())
             }
         }
     }

@@ -1,46 +1,19 @@
 //! oracle calls [hall]       the call language (README.md) from standard input, answered by the Rust
 //! oracle list               document 01's listing program, likewise
-//! oracle model [hall]       the call language, answered by the model of document 01 (model.rs); not the Rust
+//! oracle model [hall]       the call language, answered by the model of document 01; not the Rust
 //! oracle list model         the listing program over the model; not the Rust
 //! oracle like [hall]        the calls themselves, without those that the Rust answers `unlike` (for vectors/)
 //! oracle gen SEED N KIND    N random calls; KIND: in, shared, hall, wide, refusals, calls, keys, raw
 //! oracle bench              the Rust's speed
 //! oracle exhaust            all short sequences of a small set of ingests, the Rust beside the model
 //! oracle paths              successor and greater_but_not_prefixed against a walk over all short paths
-mod bench;
-mod call;
-mod convert;
-mod extras;
-mod gen;
-mod gen_keys;
-mod gen_values;
-mod model;
-mod model_keys;
-mod oracle;
-mod params;
-mod probe;
-mod rng;
-mod show;
-mod walks;
-use call::*;
-use model_keys::{FIELD, HALL};
-use std::cell::RefCell;
+use driver::answer::Answer;
+use driver::call::*;
+use driver::judge::Judge;
+use driver::show::{short, show};
+use driver::{bench, gen, oracle, walks};
+use model::{FIELD, HALL};
 use std::io::{Read, Write};
-
-thread_local! { static PANIC: RefCell<String> = const { RefCell::new(String::new()) }; }
-/// Panics of the Rust are answers here: their message is kept and not printed.
-pub fn quiet() {
-    static ONCE: std::sync::Once = std::sync::Once::new();
-    ONCE.call_once(|| {
-        std::panic::set_hook(Box::new(|i| {
-            let m = i.payload_as_str().unwrap_or("?").replace('\n', " ");
-            PANIC.with(|p| *p.borrow_mut() = m);
-        }))
-    });
-}
-pub fn last_panic() -> String {
-    PANIC.with(|p| p.take())
-}
 
 /// A line ends at a newline; the last may lack one.
 fn lines(input: &[u8]) -> Vec<&[u8]> {
@@ -51,7 +24,7 @@ fn lines(input: &[u8]) -> Vec<&[u8]> {
     l
 }
 
-fn list(input: &[u8], out: &mut impl Write, mut exec: impl FnMut(&Call) -> String) {
+fn list(input: &[u8], out: &mut impl Write, mut exec: impl FnMut(&Call) -> Answer) {
     for line in lines(input) {
         // Here S and D have two digits, always.
         let short = |l: &&str| {
@@ -59,7 +32,7 @@ fn list(input: &[u8], out: &mut impl Write, mut exec: impl FnMut(&Call) -> Strin
             f.len() == 6 && f[0] == "in" && f[1].len() == 2 && f[5].len() == 2
         };
         let answer = match std::str::from_utf8(line).ok().filter(short).and_then(call) {
-            Some(c) => exec(&c),
+            Some(c) => show(&exec(&c)),
             None => "bad".into(),
         };
         let word = answer.split(' ').next().unwrap();
@@ -68,20 +41,20 @@ fn list(input: &[u8], out: &mut impl Write, mut exec: impl FnMut(&Call) -> Strin
     }
 }
 
-fn at_end(all: Vec<Ent>, out: &mut impl Write) {
+fn at_end(all: &[model::Stored], out: &mut impl Write) {
     writeln!(out, "list {}", all.len()).unwrap();
-    for e in all {
-        writeln!(out, "{}", e.short()).unwrap();
+    for x in all {
+        writeln!(out, "{}", short(&x.entry)).unwrap();
     }
 }
 
 /// The answers; or, for `like`, the calls themselves without those answered `unlike`.
-fn calls(input: &[u8], like: bool, out: &mut impl Write, mut exec: impl FnMut(&Call) -> String) {
+fn calls(input: &[u8], like: bool, out: &mut impl Write, mut exec: impl FnMut(&Call) -> Answer) {
     for line in lines(input) {
         if line.is_empty() || line.starts_with(b"#") {
             continue;
         }
-        let answer = std::str::from_utf8(line).ok().and_then(call).map_or("bad".into(), |c| exec(&c));
+        let answer = std::str::from_utf8(line).ok().and_then(call).map_or("bad".into(), |c| show(&exec(&c)));
         if !like {
             writeln!(out, "{answer}").unwrap();
         } else if answer != "unlike" {
@@ -115,17 +88,17 @@ fn main() {
         ["list"] => {
             let mut o = oracle::Oracle::<64, 8, 128>::open(Default::default(), Some(64));
             list(&input, &mut out, |c| o.exec(c));
-            at_end(o.list(), &mut out)
+            at_end(&o.list(), &mut out)
         }
         ["model"] | ["model", "hall"] => {
             let bounds = if args.len() == 2 { HALL } else { FIELD };
-            let mut m = model::Model::open(Default::default(), None, bounds);
+            let mut m = Judge::unlimited(bounds);
             calls(&input, false, &mut out, |c| m.exec(c))
         }
         ["list", "model"] => {
-            let mut m = model::Model::open(Default::default(), Some(64), FIELD);
+            let mut m = Judge::limited(64, FIELD);
             list(&input, &mut out, |c| m.exec(c));
-            at_end(m.all(), &mut out)
+            at_end(m.store.entries(), &mut out)
         }
         ["gen", seed, n, kind] => match (seed.parse(), n.parse()) {
             (Ok(seed), Ok(n)) if gen::KINDS.contains(&kind) => gen::write(seed, n, kind, &mut out),

@@ -5,11 +5,11 @@
 //! - `decode_tsp_entry_key`: `area_of_interest_to_range` of everything decodes the time-first keys that lie in its range.
 //! What a decoder made is seen at three windows: the subspace where it is made (params.rs), the path where it is built
 //! (missing/path/builder.rs), the time in what the call then writes or answers.
-use crate::call::*;
+use crate::answer::Answer;
 use crate::convert::*;
 use crate::oracle::*;
 use crate::params::*;
-use crate::show::*;
+use model::{Path as Comps, Subspace};
 use ufotofu_codec::block_on;
 use wgps::RbsrStore;
 use willow_data_model::{grouping as g, *};
@@ -22,16 +22,23 @@ impl<const MCL: usize, const MCC: usize, const MPL: usize> Oracle<MCL, MCC, MPL>
         o
     }
 
-    pub fn keys(s: Sub, p: &Comps, t: u64) -> Out<String> {
+    pub fn keys(s: &Subspace, p: &Comps, t: u64) -> Out<Answer> {
         let o = Self::open(Ns::default(), None);
-        let d = Dig::default();
-        o.ingest(&Ent { n: Ns::default(), s, p: p.clone(), t, l: 0, d, k: Tok::default(), avail: 0 }, false)?;
-        let key = |time_first| show_hex(&o.raw(time_first)[0].0);
-        Ok(format!("key {} {}", key(false), key(true)))
+        let e = model::Entry {
+            namespace: [0; 16],
+            subspace: *s,
+            path: p.clone(),
+            timestamp: t,
+            payload_length: 0,
+            payload_digest: [0; 32],
+        };
+        o.ingest(&e, &[0; 64], false)?;
+        let key = |time_first| o.raw(time_first)[0].0.to_vec();
+        Ok(Answer::Keys(key(false), key(true)))
     }
 
     /// What the Rust's decoder makes of a key; `unreached` if no public call ever hands the key to it.
-    pub fn decode(time_first: bool, key: &[u8]) -> Out<String> {
+    pub fn decode(time_first: bool, key: &[u8]) -> Out<Answer> {
         let o = Self::of_key(time_first, key);
         let all: g::Area<MCL, MCC, MPL, Sub> = g::Area::new_full();
         SEEN.with(|s| s.take());
@@ -49,8 +56,8 @@ impl<const MCL: usize, const MCC: usize, const MPL: usize> Oracle<MCL, MCC, MPL>
             u64::from_be_bytes(written[..8].try_into().unwrap())
         };
         Ok(match SEEN.with(|s| s.take()) {
-            Some(s) => show_triple(&s, &comps(&PathBuilder::<MCL, MCC, MPL>::last_built().unwrap()), time),
-            None => "unreached".into(),
+            Some(s) => Answer::Triple(s.0, comps(&PathBuilder::<MCL, MCC, MPL>::last_built().unwrap()), time),
+            None => Answer::Said("unreached".into()),
         })
     }
 }

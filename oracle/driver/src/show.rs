@@ -1,6 +1,7 @@
 //! The line language's printing: each value in the shortest form that the language has for it.
-use crate::call::*;
-use crate::params::*;
+use crate::answer::{Answer, Records};
+use crate::call::Call;
+use model::*;
 
 pub fn show_hex(b: &[u8]) -> String {
     use std::fmt::Write;
@@ -18,7 +19,7 @@ pub fn show_last(b: &[u8]) -> String {
 pub fn show_fill(b: &[u8]) -> String {
     if b.iter().all(|x| *x == b[0]) { show_hex(&b[..1]) } else { show_hex(b) }
 }
-pub fn show_path(p: &Comps) -> String {
+pub fn show_path(p: &Path) -> String {
     if p.is_empty() {
         return "-".into();
     }
@@ -28,48 +29,120 @@ pub fn show_path(p: &Comps) -> String {
 pub fn show_open<T>(x: &Option<T>, f: impl Fn(&T) -> String) -> String {
     x.as_ref().map_or("*".into(), f)
 }
-pub fn show_triple(s: &Sub, p: &Comps, t: u64) -> String {
-    format!("triple {} {} {t}", show_last(&s.0), show_path(p))
+/// As the listing program prints it.
+pub fn short(e: &Entry) -> String {
+    let (s, p, d) = (show_last(&e.subspace), show_path(&e.path), show_fill(&e.payload_digest));
+    format!("{s} {p} {} {} {d}", e.timestamp, e.payload_length)
 }
-impl Ent {
-    /// As the listing program prints it.
-    pub fn short(&self) -> String {
-        let (s, d) = (show_last(&self.s.0), show_fill(&self.d.0));
-        format!("{s} {} {} {} {d}", show_path(&self.p), self.t, self.l)
-    }
-    /// And the token and the available length.
-    pub fn full(&self) -> String {
-        format!("{} {} {}", self.short(), show_fill(&self.k.0), self.avail)
-    }
+/// And the token and the available length.
+fn full(x: &Stored) -> String {
+    format!("{} {} {}", short(&x.entry), show_fill(&x.token), x.available)
 }
-impl Rg {
-    pub fn show(&self) -> String {
-        let sub = |s: &Sub| show_last(&s.0);
-        format!(
-            "{} {} {} {} {} {}",
-            sub(&self.s0),
-            show_open(&self.s1, sub),
-            show_path(&self.p0),
-            show_open(&self.p1, show_path),
-            self.t0,
-            show_open(&self.t1, u64::to_string)
-        )
-    }
+fn range<T>(r: &Range<T>, f: impl Fn(&T) -> String) -> String {
+    format!("{} {}", f(&r.start), show_open(&r.end, f))
 }
-pub fn show_list(l: &[Ent]) -> String {
-    let mut out = format!("list {}", l.len());
-    for e in l {
-        out += "\n";
-        out += &e.full();
-    }
-    out
+fn range3d(r: &Range3d) -> String {
+    format!("{} {} {}", range(&r.subspaces, |s| show_last(s)), range(&r.paths, show_path), range(&r.times, u64::to_string))
+}
+fn area(a: &Area) -> String {
+    format!("{} {} {}", show_open(&a.subspace, |s| show_last(s)), show_path(&a.path), range(&a.times, u64::to_string))
 }
 /// Both trees, a record a line.
-pub fn show_dump(spt: &[(Vec<u8>, Vec<u8>)], tsp: &[(Vec<u8>, Vec<u8>)]) -> String {
+fn trees(spt: &Records, tsp: &Records) -> String {
     let mut out = vec![];
     for (name, records) in [("spt", spt), ("tsp", tsp)] {
         out.push(format!("{name} {}", records.len()));
         out.extend(records.iter().map(|(k, v)| format!("{} {}", show_hex(k), show_hex(v))));
     }
     out.join("\n")
+}
+
+/// An answer as the call language prints it: shortened, so never what is compared in one process.
+pub fn show(a: &Answer) -> String {
+    match a {
+        Answer::Refused(n) => format!("refused {n}"),
+        Answer::Opened => "ok".into(),
+        Answer::Taken(pairs) => {
+            let shown: String = pairs.iter().map(|(at, len)| format!(" {at}:{len}")).collect();
+            format!("ok {}{shown}", pairs.len())
+        }
+        Answer::Obsolete(e, _) => format!("obsolete {}", short(e)),
+        Answer::Done => "done".into(),
+        Answer::Absent => "none".into(),
+        Answer::Forgot(n) => format!("forgot {n}"),
+        Answer::Found(x) => x.as_ref().map_or("none".into(), |x| format!("entry {}", full(x))),
+        Answer::List(l) => {
+            let lines: String = l.iter().map(|x| format!("\n{}", full(x))).collect();
+            format!("list {}{lines}", l.len())
+        }
+        Answer::Next(place) => place.map_or("finished".into(), |n| format!("next {n}")),
+        Answer::Count(n) => format!("count {n}"),
+        Answer::Size(n) => format!("size {n}"),
+        Answer::Range(r) => format!("range {}", range3d(r)),
+        Answer::Above(p) => format!("path {}", show_open(p, show_path)),
+        Answer::Order(order, prefix) => format!("{order:?}{}", if *prefix { " prefix" } else { "" }).to_lowercase(),
+        Answer::Newer(newer, prunes) => format!("newer {} prunes {}", *newer as u8, *prunes as u8),
+        Answer::Included(yes) => format!("included {}", *yes as u8),
+        Answer::Keys(a, b) => format!("key {} {}", show_hex(a), show_hex(b)),
+        Answer::Triple(s, p, t) => format!("triple {} {} {t}", show_last(s), show_path(p)),
+        Answer::Trees(a, b) => trees(a, b),
+        Answer::Unlike => "unlike".into(),
+        Answer::Said(words) => words.clone(),
+    }
+}
+
+fn flags(i: &Ignore) -> String {
+    format!("{} {}", i.incomplete as u8, i.empty as u8)
+}
+fn raw(k: &[u8]) -> String {
+    if k.is_empty() { "-".into() } else { show_hex(k) }
+}
+fn key_kind(time_first: bool) -> &'static str {
+    if time_first { "tsp" } else { "spt" }
+}
+/// A call as a line, which `call::call` reads as the same call.
+pub fn show_call(c: &Call) -> String {
+    let triple = |s: &Subspace, p: &Path| format!("{} {}", show_last(s), show_path(p));
+    let digest = |d: &Option<Digest>| d.map_or(String::new(), |d| format!(" {}", show_fill(&d)));
+    let areas = |a: &Area, p: &Option<Area>| format!("{}{}", area(a), p.as_ref().map_or(String::new(), |p| format!(" {}", area(p))));
+    match c {
+        Call::Open(n, l) => format!("open {} {}", show_last(n), show_open(l, u64::to_string)),
+        Call::Ingest(e, k, prevent) => {
+            let n = if e.namespace == [0; 16] { String::new() } else { format!(" {}", show_last(&e.namespace)) };
+            format!("ingest {} {} {}{n}", *prevent as u8, short(e), show_fill(k))
+        }
+        Call::Forget(s, p, d) => format!("forget {}{}", triple(s, p), digest(d)),
+        Call::ForgetArea(a, p) => format!("farea {}", areas(a, p)),
+        Call::Entry(s, p, i) => format!("entry {} {}", triple(s, p), flags(i)),
+        Call::QueryArea(a, i) => format!("qarea {} {}", area(a), flags(i)),
+        Call::IncludedIn(a, i) => format!("iarea {} {}", area(a), flags(i)),
+        Call::QueryRange(r, i) => format!("qrange {} {}", range3d(r), flags(i)),
+        Call::NextInArea(a, i, n) => format!("narea {} {} {n}", area(a), flags(i)),
+        Call::NextInRange(r, i, n) => format!("nrange {} {} {n}", range3d(r), flags(i)),
+        Call::Count(a) => format!("count {}", area(a)),
+        Call::Size(r) => format!("size {}", range3d(r)),
+        Call::Aoi(a, c, z) => format!("aoi {} {c} {z}", area(a)),
+        Call::AreaRange(a) => format!("arange {}", area(a)),
+        Call::Bent(c) => show_call(c).replacen(' ', "01 ", 1),
+        Call::Payloads => "payloads".into(),
+        Call::Succ(p) => format!("succ {}", show_path(p)),
+        Call::Above(p) => format!("above {}", show_path(p)),
+        Call::Order(p, q) => format!("order {} {}", show_path(p), show_path(q)),
+        Call::Newer(a, b) => format!("newer {} {}", short(a), short(b)),
+        Call::InArea(a, e) => format!("inarea {} {} {}", area(a), triple(&e.subspace, &e.path), e.timestamp),
+        Call::InRange(r, e) => format!("inrange {} {} {}", range3d(r), triple(&e.subspace, &e.path), e.timestamp),
+        Call::Key(s, p, t) => format!("key {} {t}", triple(s, p)),
+        Call::Decode(time_first, k) => format!("{} {}", key_kind(*time_first), raw(k)),
+        Call::Decode01(time_first, k) => format!("{}01 {}", key_kind(*time_first), raw(k)),
+        Call::Dump => "dump".into(),
+        Call::Put(time_first, k, v) => format!("put {} {} {}", key_kind(*time_first), raw(k), raw(v)),
+        Call::Avail(s, p, n) => format!("avail {} {n}", triple(s, p)),
+        Call::Append(s, p, n) => format!("append {} {n}", triple(s, p)),
+        Call::ForgetPayload(s, p, d) => format!("fpayload {}{}", triple(s, p), digest(d)),
+        Call::ForgetAreaPayloads(a, p) => format!("fareapayloads {}", areas(a, p)),
+        Call::Clear => "clear".into(),
+        Call::Again(n) => format!("again {}", show_last(n)),
+        Call::Existing => "existing".into(),
+        Call::Deny(times, e, _) => format!("deny {times} {}", short(e)),
+    }
 }

@@ -1,11 +1,11 @@
 //! Walks over everything small: the path laws over all paths of tiny instances, the Rust beside the model over all short
 //! sequences of ingests.
 use crate::call::{call, Call};
-use crate::model::Model;
-use crate::model_keys::FIELD;
+use crate::judge::Judge;
 use crate::oracle::Oracle;
 use crate::params::*;
-use willow_data_model::*;
+use model::FIELD;
+use willow_data_model::Path;
 
 type O = Oracle<64, 8, 128>;
 
@@ -90,7 +90,7 @@ pub fn paths() {
     walk::<2, 4, 2>();
 }
 
-/// Every sequence of up to three ingests over a small set of entries, the Rust beside model.rs.
+/// Every sequence of up to three ingests over a small set of entries, the Rust beside the model.
 pub fn exhaust() {
     let mut set = vec![];
     for p in ["-", ".", "00", "61", "6162", "61/.", "61/62", "61/62/00"] {
@@ -102,13 +102,13 @@ pub fn exhaust() {
     let (mut n, mut bad) = (0, 0);
     let mut run = |calls: &[&Call]| {
         let mut o = O::open(Ns([0; 16]), Some(2));
-        let mut m = Model::open(Ns([0; 16]), Some(2), FIELD);
+        let mut m = Judge::limited(2, FIELD);
         n += 1;
         for c in calls.iter().copied().chain([&dump]) {
             let (a, b) = (o.exec(c), m.exec(c));
             if a != b {
                 bad += 1;
-                println!("{calls:?}\n  Rust {a}\n  01   {b}");
+                println!("{calls:?}\n  Rust {a:?}\n  01   {b:?}");
             }
         }
     };

@@ -1,0 +1,30 @@
+//! Opens a store, files five readings, lists what it then holds, keeps it and takes it back, and drops an area.
+use virebony::{Area, AreaSubspace, AuthorisedEntry, Entry, EntryIngestionSuccess, Path, Range, Refusal, Store, SubspaceId};
+
+const NAMESPACE: [u8; 16] = [1; 16];
+
+fn path_of(text: &str) -> Result<Path, Refusal> {
+    Path::from_slices(&text.split('/').collect::<Vec<_>>())
+}
+
+fn main() -> Result<(), Refusal> {
+    let mut store = Store::open(NAMESPACE, 16)?;
+    for (i, text) in ["ward/3/ann", "ward/3/bob", "ward/4", "ward/3", "ward/3/ann"].into_iter().enumerate() {
+        let entry = Entry::new(NAMESPACE, SubspaceId::default(), path_of(text)?, 100 + i as u64, 0, [0; 32]);
+        match store.ingest_entry(AuthorisedEntry::new(entry, [7; 64]), false)? {
+            EntryIngestionSuccess::Success { pruned } => println!("{text}: taken, {pruned} pruned"), // the fourth prunes the first two
+            EntryIngestionSuccess::Obsolete { newer, .. } => println!("{text}: obsolete since {}", newer.entry().timestamp()),
+        }
+    }
+    let (state, kept) = store.as_parts();
+    let mut store = Store::from_parts(state, kept.spt.into(), kept.spt_dir.into(), kept.tsp.into(), kept.tsp_dir.into())?;
+    for stored in store.query_area(&Area::new_full(), Default::default())? {
+        let entry = stored.entry().entry();
+        let text: Vec<_> = entry.path().components().map(String::from_utf8_lossy).collect();
+        println!("/{} at {}", text.join("/"), entry.timestamp());
+    }
+    let bed = Area::new(AreaSubspace::Any, path_of("ward/3")?, Range::new_open(0));
+    println!("{} forgotten", store.forget_area(&bed, None)?);
+    println!("a limit of 0: {}", Store::open(NAMESPACE, 0).unwrap_err());
+    Ok(())
+}

@@ -1,0 +1,38 @@
+//! Virebony: an entry store for field notebooks whose behaviour is proved, linked as `libvirebony.a`. The names are those of willow-rs, whose
+//! `store_simple_sled` it carries over (entries without payloads).
+//!
+//! - [`Store`] owns its buffers and takes values that are legal by their types: [`Path`], [`Entry`], [`Area`], [`Range3d`].
+//! - [`raw`] has every export of the archive as one safe function, over buffers of any length and values of any kind.
+//!
+//! What is proved is what the archive's calls answer and leave; the Rust around them is tested. The archive is found by the variable
+//! `VIREBONY_LIB_DIR`; where there is none, the build calls `rt staticlib virebony`. It links into x86-64 Linux programs.
+//!
+//! ```
+//! use virebony::{Area, AuthorisedEntry, Entry, Path, Store, SubspaceId};
+//! let mut store = Store::open([1; 16], 16)?; // namespace, and how many entries at most
+//! let path = Path::from_slices(&["ward", "3"])?;
+//! let entry = Entry::new([1; 16], SubspaceId { high: 0, low: 9 }, path, 100, 5, [0; 32]);
+//! store.ingest_entry(AuthorisedEntry::new(entry, [7; 64]), false)?;
+//! for stored in store.query_area(&Area::new_full(), Default::default())? {
+//!     println!("{} at {}", stored.entry().entry().path(), stored.entry().entry().timestamp());
+//! }
+//! assert_eq!(store.len(), 1);
+//! # Ok::<(), virebony::Refusal>(())
+//! ```
+#![deny(unsafe_code, missing_docs)]
+
+mod entry;
+mod grouping;
+mod listing;
+mod path;
+pub mod raw;
+mod refusal;
+mod store;
+mod sys;
+
+pub use entry::{AuthorisationToken, AuthorisedEntry, Entry, LengthyAuthorisedEntry, NamespaceId, PayloadDigest, SubspaceId, Timestamp};
+pub use grouping::{Area, AreaOfInterest, AreaSubspace, Range, Range3d, RangeEnd};
+pub use listing::Listing;
+pub use path::Path;
+pub use refusal::Refusal;
+pub use store::{EntryIngestionSuccess, QueryIgnoreParams, Store};

@@ -1,0 +1,74 @@
+//! Why a call was refused.
+use std::fmt;
+
+/// Why a call was refused. A call answers the first reason that applies, in the order of these numbers, and a refused call has changed nothing.
+///
+/// ```
+/// use virebony::{Refusal, Store};
+/// let refused = Store::open([0; 16], 1025).unwrap_err();
+/// assert_eq!(refused, Refusal::BadLimit);
+/// assert_eq!(refused.number(), 1);
+/// assert_eq!(refused.to_string(), "the limit is not 1 to 1024");
+/// ```
+#[derive(Clone, Copy, Debug, PartialEq, Eq, PartialOrd, Ord, Hash)]
+#[repr(u8)]
+pub enum Refusal {
+    /// The limit is not 1 to 1,024.
+    BadLimit = 1,
+    /// A lent buffer is shorter than the limit asks, or a key's buffer than 298 bytes.
+    ShortBuffer = 2,
+    /// The state and the buffers are not a well-formed store.
+    NotWellFormed = 3,
+    /// A path has over 8 components, a component over 64 bytes, over 128 bytes in all, or ends that descend.
+    IllegalPath = 4,
+    /// The bytes are a key that no encoder writes.
+    NoKey = 5,
+    /// The entry names another namespace than the store's.
+    OtherNamespace = 6,
+    /// Pruning is prevented, and an entry would be removed.
+    PruningPrevented = 7,
+    /// The entries that would be left already number the limit.
+    Full = 8,
+    /// The stored entry's digest is not the one expected.
+    OtherDigest = 9,
+}
+
+use Refusal::*;
+
+impl Refusal {
+    /// All nine, by number.
+    pub const ALL: [Refusal; 9] = [BadLimit, ShortBuffer, NotWellFormed, IllegalPath, NoKey, OtherNamespace, PruningPrevented, Full, OtherDigest];
+
+    /// The number that [`crate::raw`] answers.
+    pub fn number(self) -> u8 {
+        self as u8
+    }
+
+    /// The refusal of a number; none for 0, which says that a call was not refused, and for numbers from 10 on, which no call answers.
+    pub fn from_number(number: u8) -> Option<Refusal> {
+        Refusal::ALL.into_iter().find(|refusal| refusal.number() == number)
+    }
+
+    /// Passes an answer on, unless its number says that the call was refused.
+    pub(crate) fn check<T>(number: u8, answer: T) -> Result<T, Refusal> {
+        Refusal::from_number(number).map_or(Ok(answer), Err)
+    }
+}
+
+impl fmt::Display for Refusal {
+    fn fmt(&self, f: &mut fmt::Formatter<'_>) -> fmt::Result {
+        f.write_str(match self {
+            BadLimit => "the limit is not 1 to 1024",
+            ShortBuffer => "a lent buffer is too short",
+            NotWellFormed => "the state and the buffers are not a well-formed store",
+            IllegalPath => "a path is illegal",
+            NoKey => "the bytes are a key that no encoder writes",
+            OtherNamespace => "the entry names another namespace",
+            PruningPrevented => "pruning is prevented, and an entry would be removed",
+            Full => "the store is full",
+            OtherDigest => "the stored entry's digest is not the one expected",
+        })
+    }
+}
+
+impl std::error::Error for Refusal {}

@@ -1,0 +1,212 @@
+//! The store, in buffers of its own.
+use crate::listing::{Listing, Query};
+use crate::{
+    raw, Area, AreaOfInterest, AuthorisedEntry, Entry, LengthyAuthorisedEntry, NamespaceId, Path, PayloadDigest, Range3d, Refusal, SubspaceId,
+};
+use raw::{Buffers, BuffersMut, Pair, State};
+
+/// What an ingestion that was not refused did.
+#[derive(Clone, Copy, Debug, PartialEq, Eq)]
+#[allow(clippy::large_enum_variant)] // as in willow-rs; a verdict is looked at and dropped
+pub enum EntryIngestionSuccess {
+    /// The entry is stored.
+    Success {
+        /// How many entries it pruned.
+        pruned: usize,
+    },
+    /// A stored entry is newer, and nothing changed.
+    Obsolete {
+        /// The entry that was handed in.
+        obsolete: AuthorisedEntry,
+        /// A stored entry of its subspace, at its path or a prefix of it, that is newer.
+        newer: AuthorisedEntry,
+    },
+}
+
+/// Which entries a lookup or a listing passes over; the default passes over none.
+#[derive(Clone, Copy, Debug, Default, PartialEq, Eq, Hash)]
+pub struct QueryIgnoreParams {
+    /// Those whose payload is not all there.
+    pub ignore_incomplete_payloads: bool,
+    /// Those of an empty payload.
+    pub ignore_empty_payloads: bool,
+}
+
+impl QueryIgnoreParams {
+    fn to_raw(self) -> raw::Ignore {
+        raw::Ignore { incomplete_payloads: u8::from(self.ignore_incomplete_payloads), empty_payloads: u8::from(self.ignore_empty_payloads) }
+    }
+}
+
+/// A store of one namespace's entries, at most 1,024 of them, that owns its buffers.
+///
+/// ```
+/// use virebony::{Area, AuthorisedEntry, Entry, EntryIngestionSuccess, Path, Refusal, Store, SubspaceId};
+/// let (namespace, subspace) = ([1; 16], SubspaceId { high: 0, low: 9 });
+/// let mut store = Store::open(namespace, 16)?;
+/// let mut file = |path: &[&str], timestamp| {
+///     let entry = Entry::new(namespace, subspace, Path::from_slices(path)?, timestamp, 5, [0; 32]);
+///     store.ingest_entry(AuthorisedEntry::new(entry, [7; 64]), false)
+/// };
+/// file(&["ward", "3"], 100)?;
+/// assert_eq!(file(&["ward", "4"], 100)?, EntryIngestionSuccess::Success { pruned: 0 });
+/// assert_eq!(file(&["ward"], 101)?, EntryIngestionSuccess::Success { pruned: 2 });
+/// assert!(matches!(file(&["ward", "4"], 100)?, EntryIngestionSuccess::Obsolete { newer, .. } if newer.entry().timestamp() == 101));
+///
+/// let stored: Vec<_> = store.query_area(&Area::new_full(), Default::default())?.collect();
+/// assert_eq!(stored.len(), 1);
+/// assert_eq!(stored[0].entry().entry().path(), &Path::from_slices(&["ward"])?);
+/// assert_eq!(store.forget_entry(&subspace, stored[0].entry().entry().path(), Some([8; 32])), Err(Refusal::OtherDigest));
+/// assert_eq!(store.forget_area(&Area::new_subspace(subspace), None), Ok(1));
+/// assert!(store.is_empty());
+/// # Ok::<(), Refusal>(())
+/// ```
+#[derive(Clone, Debug)]
+pub struct Store {
+    state: State,
+    spt: Vec<u8>,
+    spt_dir: Vec<u32>,
+    tsp: Vec<u8>,
+    tsp_dir: Vec<u32>,
+    prune: Vec<Pair>, // room for an ingestion's answer
+}
+
+impl Store {
+    /// A store of no entries, for at most `limit` of them. Refused: 1.
+    pub fn open(namespace_id: NamespaceId, limit: usize) -> Result<Store, Refusal> {
+        let room = if limit <= raw::LIMIT_MOST { limit } else { 0 };
+        let mut store = Store {
+            state: State::default(),
+            spt: vec![0; raw::RECORD_MOST * room],
+            spt_dir: vec![0; 2 * room],
+            tsp: vec![0; raw::RECORD_MOST * room],
+            tsp_dir: vec![0; 2 * room],
+            prune: vec![Pair::default(); room],
+        };
+        let opened = raw::open(&namespace_id, limit, &mut store.buffers_mut());
+        store.state = Refusal::check(opened.refusal, opened.state)?;
+        Ok(store)
+    }
+
+    /// The namespace of every entry here.
+    pub fn namespace_id(&self) -> &NamespaceId {
+        &self.state.namespace_id
+    }
+
+    /// How many entries there are.
+    pub fn len(&self) -> usize {
+        self.state.count
+    }
+
+    /// Whether there are none.
+    pub fn is_empty(&self) -> bool {
+        self.state.count == 0
+    }
+
+    /// How many entries there may be.
+    pub fn limit(&self) -> usize {
+        self.state.limit
+    }
+
+    /// Files an entry with available length 0. It is obsolete, and nothing changes, if a stored entry of its subspace at its path or a prefix of it is
+    /// newer. Else what it outdates is removed: entries at its path or below that are not newer. Refused: 6; if it is not obsolete 7 (with
+    /// `prevent_pruning`), 8.
+    pub fn ingest_entry(&mut self, authorised_entry: AuthorisedEntry, prevent_pruning: bool) -> Result<EntryIngestionSuccess, Refusal> {
+        let (entry, token) = authorised_entry.into_parts();
+        let mut store = BuffersMut { spt: &mut self.spt, spt_dir: &mut self.spt_dir, tsp: &mut self.tsp, tsp_dir: &mut self.tsp_dir };
+        let answer = raw::ingest_entry(self.state, &mut store, &mut self.prune, entry.to_raw(), &token, u8::from(prevent_pruning));
+        self.state = Refusal::check(answer.refusal, answer.state)?;
+        Ok(if answer.obsolete == 0 {
+            EntryIngestionSuccess::Success { pruned: answer.pruned }
+        } else {
+            let newer = AuthorisedEntry::new(Entry::of_answer(answer.newer), answer.token);
+            EntryIngestionSuccess::Obsolete { obsolete: authorised_entry, newer }
+        })
+    }
+
+    /// Drops the entry at a subspace and path. With a digest expected, only if it is the stored entry's. An absent entry answers done. Refused: 9.
+    pub fn forget_entry(&mut self, subspace_id: &SubspaceId, path: &Path, expected_digest: Option<PayloadDigest>) -> Result<(), Refusal> {
+        let (expects, digest) = (u8::from(expected_digest.is_some()), expected_digest.unwrap_or_default());
+        let answer = raw::forget_entry(self.state, &mut self.buffers_mut(), *subspace_id, *path.as_raw(), expects, &digest);
+        self.state = Refusal::check(answer.refusal, answer.state)?;
+        Ok(())
+    }
+
+    /// Drops every entry that `area` includes and `protected`, if there is one, does not; answers how many.
+    pub fn forget_area(&mut self, area: &Area, protected: Option<&Area>) -> Result<usize, Refusal> {
+        let protected_area = protected.unwrap_or(area).to_raw();
+        let answer = raw::forget_area(self.state, &mut self.buffers_mut(), area.to_raw(), u8::from(protected.is_some()), protected_area);
+        self.state = Refusal::check(answer.refusal, answer.state)?;
+        Ok(answer.forgotten)
+    }
+
+    /// The entry at a subspace and path, unless `ignore` passes over it.
+    pub fn entry(&self, subspace_id: &SubspaceId, path: &Path, ignore: QueryIgnoreParams) -> Result<Option<LengthyAuthorisedEntry>, Refusal> {
+        let answer = raw::find_entry(self.state, self.buffers(), *subspace_id, *path.as_raw(), ignore.to_raw());
+        let raw::LengthyEntry { entry, token, available } = Refusal::check(answer.refusal, answer.lengthy)?;
+        Ok((answer.found != 0).then(|| LengthyAuthorisedEntry::new(AuthorisedEntry::new(Entry::of_answer(entry), token), available)))
+    }
+
+    /// The entries that an area includes, in key order: by subspace, then path.
+    pub fn query_area(&self, area: &Area, ignore: QueryIgnoreParams) -> Result<Listing<'_>, Refusal> {
+        Listing::new(self, Query::Area(area.to_raw()), ignore.to_raw())
+    }
+
+    /// The entries that a 3d range includes, in key order: by subspace, then path.
+    pub fn query_range(&self, range: &Range3d, ignore: QueryIgnoreParams) -> Result<Listing<'_>, Refusal> {
+        Listing::new(self, Query::Range(range.to_raw()), ignore.to_raw())
+    }
+
+    /// How many entries an area includes.
+    pub fn count_area(&self, area: &Area) -> Result<usize, Refusal> {
+        let answer = raw::count_area(self.state, self.buffers(), area.to_raw());
+        Refusal::check(answer.refusal, answer.count)
+    }
+
+    /// How many entries a 3d range includes: the size part of willow-rs's `summarise`.
+    pub fn summarise(&self, range: &Range3d) -> Result<usize, Refusal> {
+        let answer = raw::summarise(self.state, self.buffers(), range.to_raw());
+        Refusal::check(answer.refusal, answer.count)
+    }
+
+    /// The 3d range of an area of interest: the area's own, its times starting at that of the first entry, walking its matches from the newest, that
+    /// breaks a limit; else of the oldest match; else as given.
+    pub fn area_of_interest_to_range(&self, aoi: &AreaOfInterest) -> Result<Range3d, Refusal> {
+        let interest = raw::Interest { area: aoi.area.to_raw(), max_count: aoi.max_count, max_size: aoi.max_size };
+        let answer = raw::area_of_interest_to_range(self.state, self.buffers(), interest);
+        Refusal::check(answer.refusal, Range3d::of_answer(answer.range))
+    }
+
+    /// The state and the buffers, to be kept in a file: `docs/FORMAT.md` shows how they lie in memory. [`Store::from_parts`] takes them back.
+    ///
+    /// ```
+    /// # use virebony::Store;
+    /// let store = Store::open([1; 16], 2)?;
+    /// let (state, buffers) = store.as_parts();
+    /// let mut file = state.namespace_id.to_vec();
+    /// file.extend([state.count, state.limit].iter().flat_map(|number| number.to_le_bytes()));
+    /// file.extend(buffers.spt.iter().chain(buffers.tsp));
+    /// file.extend(buffers.spt_dir.iter().chain(buffers.tsp_dir).flat_map(|number| number.to_le_bytes()));
+    /// assert_eq!(file.len(), 32 + 2 * 410 * 2 + 2 * 8 * 2);
+    /// # Ok::<(), virebony::Refusal>(())
+    /// ```
+    pub fn as_parts(&self) -> (State, Buffers<'_>) {
+        (self.state, self.buffers())
+    }
+
+    /// The store of a state and buffers, if they are a well-formed one. Buffers may be longer than the limit asks. Refused: 1, 2, 3.
+    pub fn from_parts(state: State, spt: Vec<u8>, spt_dir: Vec<u32>, tsp: Vec<u8>, tsp_dir: Vec<u32>) -> Result<Store, Refusal> {
+        let mut store = Store { state, spt, spt_dir, tsp, tsp_dir, prune: Vec::new() };
+        store.count_area(&Area::new_full())?;
+        store.prune = vec![Pair::default(); state.limit];
+        Ok(store)
+    }
+
+    fn buffers(&self) -> Buffers<'_> {
+        Buffers { spt: &self.spt, spt_dir: &self.spt_dir, tsp: &self.tsp, tsp_dir: &self.tsp_dir }
+    }
+
+    fn buffers_mut(&mut self) -> BuffersMut<'_> {
+        BuffersMut { spt: &mut self.spt, spt_dir: &mut self.spt_dir, tsp: &mut self.tsp, tsp_dir: &mut self.tsp_dir }
+    }
+}

@@ -1,0 +1,82 @@
+//! This crate beside `bindings/c/virebony.h`: the same edition, sizes, names and sentences, and no export without a test.
+use virebony::{raw, Refusal};
+
+const HEADER: &str = include_str!("../../c/virebony.h");
+const CALLS: &str = include_str!("../src/sys/calls.rs");
+const TESTS: [&str; 3] = [include_str!("raw_values.rs"), include_str!("raw_keys.rs"), include_str!("raw_store.rs")];
+
+/// The names `vb_..` of a text that stand before a parenthesis.
+fn names(text: &str) -> Vec<&str> {
+    let mut names: Vec<_> = text
+        .match_indices("vb_")
+        .map(|(at, _)| &text[at..])
+        .filter_map(|rest| rest.find(|c: char| !c.is_ascii_alphanumeric() && c != '_').map(|end| rest.split_at(end)))
+        .filter(|(name, behind)| behind.starts_with('(') && *name != "vb_refusal_text")
+        .map(|(name, _)| name)
+        .collect();
+    names.sort_unstable();
+    names.dedup();
+    names
+}
+
+#[test]
+fn every_export_is_declared_and_tested() {
+    let exports = names(HEADER);
+    assert_eq!(exports.len(), 34);
+    assert_eq!(names(CALLS), exports);
+    for name in exports.iter().map(|name| name.replace("vb_", "raw::") + "(") {
+        assert!(name == "raw::edition(" || TESTS.iter().any(|test| test.contains(&name)), "{name} is not called");
+    }
+}
+
+#[test]
+fn edition() {
+    assert_eq!(raw::edition(), raw::EDITION);
+    assert!(HEADER.contains(&format!("#define VB_EDITION {}\n", raw::EDITION)));
+}
+
+#[test]
+fn numbers() {
+    let named = [("LIMIT_MOST", raw::LIMIT_MOST), ("RECORD_MOST", raw::RECORD_MOST), ("KEY_MOST", raw::KEY_MOST), ("VALUE", raw::VALUE)];
+    for (name, number) in named.into_iter().chain([("MCL", raw::MCL), ("MCC", raw::MCC), ("MPL", raw::MPL)]) {
+        let said = HEADER.lines().any(|line| {
+            let line = line.trim();
+            line == format!("VB_{name} = {number}")
+                || line.starts_with(&format!("VB_{name} = {number},"))
+                || line.starts_with(&format!("VB_{name} = {number} "))
+        });
+        assert!(said, "VB_{name}");
+    }
+}
+
+#[test]
+fn sentences_of_refusals() {
+    for refusal in Refusal::ALL {
+        let name: String =
+            format!("{refusal:?}").chars().flat_map(|c| if c.is_uppercase() { vec!['_', c] } else { vec![c.to_ascii_uppercase()] }).collect();
+        assert!(HEADER.contains(&format!("VB{name} = {}", refusal.number())), "{name}");
+        assert!(HEADER.contains(&format!("case VB{name}: return \"{refusal}\";")), "{name}");
+        assert_eq!(Refusal::from_number(refusal.number()), Some(refusal));
+    }
+    assert_eq!((Refusal::from_number(0), Refusal::from_number(10)), (None, None));
+}
+
+/// The header's asserts name a struct, its size and offsets; the crate's own asserts (src/sys) have the same.
+#[test]
+fn sizes_and_offsets() {
+    let ours = [include_str!("../src/sys/values.rs"), include_str!("../src/sys/answers.rs")].concat();
+    let mut compared = 0;
+    for line in HEADER.lines().filter(|line| line.starts_with("VB_ASSERT(sizeof(vb_")) {
+        let name = &line["VB_ASSERT(sizeof(vb_".len()..line.find(')').unwrap()];
+        let name: String = name.split('_').map(|word| word[..1].to_uppercase() + &word[1..]).collect();
+        let layout = ours.lines().find(|line| line.trim().starts_with(&format!("{name}: ")) && line.ends_with(';')).expect(&name);
+        let numbers: Vec<&str> = line.split(" == ").skip(1).map(|rest| rest.split([' ', ',']).next().unwrap()).collect();
+        assert!(layout.contains(&format!("{name}: {}", numbers[0])), "{name}");
+        for (part, number) in line.split("offsetof(").skip(1).zip(&numbers[1..]) {
+            let field = part.split([' ', ')']).nth(1).unwrap();
+            assert!(layout.contains(&format!(", {field} {number}")), "{name}.{field}");
+        }
+        compared += numbers.len();
+    }
+    assert_eq!(compared, HEADER.matches("sizeof(vb_").count() + HEADER.matches("offsetof(").count());
+}

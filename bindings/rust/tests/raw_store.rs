@@ -1,0 +1,232 @@
+//! `raw` over a store, in buffers that are as long as asked and no longer. The answers are written by hand from document 01.
+mod common;
+use common::*;
+use virebony::raw;
+
+#[test]
+fn opening_writes_zeros_up_to_the_limit() {
+    let mut kept = Kept::lent(3);
+    let before = kept.clone();
+    for limit in [0, 1025, usize::MAX] {
+        let refused = raw::Opened { refusal: 1, state: raw::State::default() };
+        assert_eq!(raw::open(&[0xaa; 16], limit, &mut kept.buffers_mut()), refused);
+    }
+    assert_eq!(raw::open(&[0xaa; 16], 4, &mut kept.buffers_mut()), raw::Opened { refusal: 2, state: raw::State::default() });
+    assert_eq!(kept, before);
+    let opened = raw::open(&[0xaa; 16], 2, &mut kept.buffers_mut());
+    assert_eq!(opened, raw::Opened { refusal: 0, state: raw::State { namespace_id: [0xaa; 16], count: 0, limit: 2 } });
+    assert!(kept.spt[..820].iter().chain(&kept.tsp[..820]).all(|byte| *byte == 0));
+    assert_eq!([&kept.spt_dir[..4], &kept.tsp_dir[..4]], [[0; 4]; 2]);
+    assert_eq!((&kept.spt[820..], &kept.spt_dir[4..]), (&before.spt[820..], &before.spt_dir[4..])); // what lies beyond stays
+    assert_eq!((&kept.tsp[820..], &kept.tsp_dir[4..]), (&before.tsp[820..], &before.tsp_dir[4..]));
+}
+
+/// Each of the four buffers one element too short, and all of them empty.
+#[test]
+fn short_buffers() {
+    for which in 0..5 {
+        let mut kept = Kept::lent(1);
+        let mut lent = kept.buffers_mut();
+        match which {
+            0 => lent.spt = &mut lent.spt[1..],
+            1 => lent.spt_dir = &mut lent.spt_dir[1..],
+            2 => lent.tsp = &mut lent.tsp[1..],
+            3 => lent.tsp_dir = &mut lent.tsp_dir[1..],
+            _ => lent = raw::BuffersMut { spt: &mut [], spt_dir: &mut [], tsp: &mut [], tsp_dir: &mut [] },
+        }
+        assert_eq!(raw::open(&[0; 16], 1, &mut lent).refusal, 2);
+        let state = raw::State { limit: 1, ..Default::default() };
+        assert_eq!(raw::count_area(state, lent.as_buffers(), everything()), raw::Counted { refusal: 2, count: 0 });
+    }
+}
+
+/// Refusals 1, 2 and 3 of every call, before any other.
+#[test]
+fn what_no_call_takes() {
+    let mut kept = Kept::open(2);
+    kept.ingest(entry(1, "61", 5, 3, 9), 0);
+    let good = kept.clone();
+    let (bad_path, whole) = (illegal()[1], range(path(""), path(""), 1));
+    let all = raw::Area { path: bad_path, ..everything() };
+    let bad_entry = raw::Entry { path: bad_path, ..entry(1, "", 5, 3, 9) };
+    let bad_range = raw::Range { paths: raw::Paths { start: bad_path, ..whole.paths }, ..whole };
+    let interest = raw::Interest { area: all, max_count: 0, max_size: 0 };
+    for want in 1..=4 {
+        let mut state = kept.state;
+        match want {
+            1 => state.limit = 0,
+            2 => state.limit = 3,
+            3 => state.count = 2,
+            _ => (),
+        }
+        let unchanged = raw::Ingested { refusal: want, obsolete: 0, pruned: 0, state, newer: raw::Entry::default(), token: [0; 64] };
+        let mut pairs = [UNTOUCHED; 3];
+        let mut numbers = [0xeeee_eeee; 6];
+        let mut lent = kept.buffers_mut();
+        assert_eq!(raw::ingest_entry(state, &mut lent, &mut pairs, bad_entry, &TOKEN, 0), unchanged);
+        assert_eq!(raw::ingest_entry_numbers(state, &mut lent, &mut numbers, bad_entry, &TOKEN, 0), unchanged);
+        let by_value = raw::ingest_entry_by_value(state, &mut lent, raw::Pairs { pairs: [UNTOUCHED; 1024] }, bad_entry, &TOKEN, 0);
+        assert_eq!(by_value, raw::PairsIngested { ingested: unchanged, pairs: [UNTOUCHED; 1024] });
+        assert_eq!((pairs, numbers), ([UNTOUCHED; 3], [0xeeee_eeee; 6]));
+        assert_eq!(raw::forget_entry(state, &mut lent, subspace(1), bad_path, 0, &[0; 32]), raw::EntryForgotten { refusal: want, state });
+        assert_eq!(raw::forget_area(state, &mut lent, all, 0, all), raw::AreaForgotten { refusal: want, state, forgotten: 0 });
+        let lent = lent.as_buffers();
+        let found = raw::find_entry(state, lent, subspace(1), bad_path, ignore(0, 0));
+        assert_eq!((found.refusal, found.found, found.lengthy.entry, found.lengthy.token), (want, 0, unchanged.newer, [0; 64]));
+        let listed = raw::Listed { refusal: want, found: 0, place: 0 };
+        assert_eq!(raw::query_area_place(state, lent, all, ignore(0, 0), 0), listed);
+        assert_eq!(raw::query_range_place(state, lent, bad_range, ignore(0, 0), usize::MAX), listed);
+        assert_eq!(raw::query_area(state, lent, all, ignore(0, 0), 0), raw::Part { offset: 0, length: 0 });
+        assert_eq!(raw::query_range(state, lent, bad_range, ignore(0, 0), 0), raw::Part { offset: 0, length: 0 });
+        assert_eq!(raw::count_area(state, lent, all), raw::Counted { refusal: want, count: 0 });
+        assert_eq!(raw::summarise(state, lent, bad_range), raw::Counted { refusal: want, count: 0 });
+        assert_eq!(raw::area_of_interest_to_range(state, lent, interest), raw::AreaRange { refusal: want, range: raw::Range::default() });
+    }
+    assert_eq!(kept, good);
+}
+
+#[test]
+fn ingestion_one_after_another() {
+    let mut kept = Kept::open(4);
+    let taken = kept.ingest(entry(1, "61/62", 5, 3, 9), 0);
+    assert_eq!((taken.refusal, taken.obsolete, taken.pruned, taken.state.count), (0, 0, 0, 1));
+    assert_eq!(kept.spt_dir[..4], [0, 144, 0, 0]); // key 16 + 8 + 8, value 112
+    assert_eq!(kept.prune, [UNTOUCHED; 4]);
+    assert_eq!(kept.ingest(entry(1, "61", 5, 3, 9), 1).refusal, 7); // it would prune
+    let obsolete = kept.ingest(entry(1, "61/62", 4, 3, 9), 2); // obsolete goes before 7
+    assert_eq!((obsolete.refusal, obsolete.obsolete, obsolete.state.count, obsolete.token), (0, 1, 1, TOKEN));
+    assert_eq!(obsolete.newer, raw::Entry { path: answered("61/62"), ..entry(1, "", 5, 3, 9) });
+    let tied = kept.ingest(entry(1, "61", 5, 3, 9), 0); // a tie is removed
+    assert_eq!((tied.refusal, tied.obsolete, tied.pruned, tied.state.count), (0, 0, 1, 1));
+    assert_eq!(kept.prune, [raw::Pair { offset: 0, length: 144 }, UNTOUCHED, UNTOUCHED, UNTOUCHED]);
+    let below = kept.ingest(entry(1, "61/62", 5, 3, 9), 255); // the other way round: two
+    assert_eq!((below.refusal, below.obsolete, below.pruned, below.state.count, below.token), (0, 0, 0, 2, [0; 64]));
+    let elsewhere = raw::Entry { namespace_id: [1; 16], ..entry(1, "61", 9, 3, 9) };
+    assert_eq!(kept.ingest(elsewhere, 0).refusal, 6);
+}
+
+#[test]
+fn a_full_store_takes_what_prunes() {
+    let mut kept = Kept::open(1);
+    assert_eq!(kept.ingest(entry(1, "61", 5, 3, 9), 0).refusal, 0);
+    assert_eq!(kept.ingest(entry(1, "62", 5, 3, 9), 0).refusal, 8);
+    assert_eq!(kept.ingest(entry(1, "", 6, 3, 9), 0).pruned, 1);
+    assert_eq!(kept.prune, [raw::Pair { offset: 0, length: 16 + 5 + 8 + 112 }]);
+}
+
+#[test]
+fn short_prune_lists() {
+    let mut kept = Kept::open(3);
+    let (state, e) = (kept.state, entry(1, "61", 5, 3, 9));
+    assert_eq!(raw::ingest_entry(state, &mut kept.buffers_mut(), &mut [UNTOUCHED; 2], e, &TOKEN, 0).refusal, 2);
+    assert_eq!(raw::ingest_entry(state, &mut kept.buffers_mut(), &mut [], e, &TOKEN, 0).refusal, 2);
+    assert_eq!(raw::ingest_entry_numbers(state, &mut kept.buffers_mut(), &mut [0; 5], e, &TOKEN, 0).refusal, 2);
+}
+
+#[test]
+fn ingestion_over_numbers_and_by_value() {
+    let mut kept = Kept::open(3);
+    kept.ingest(entry(1, "61/62", 5, 3, 9), 0);
+    kept.ingest(entry(1, "61/63", 5, 3, 9), 0);
+    let (mut other, state, above) = (kept.clone(), kept.state, entry(1, "61", 6, 3, 9));
+    let mut numbers = [0xeeee_eeee; 6];
+    let first = raw::ingest_entry_numbers(state, &mut kept.buffers_mut(), &mut numbers, above, &TOKEN, 0);
+    assert_eq!((first.refusal, first.obsolete, first.pruned, first.state.count), (0, 0, 2, 1));
+    assert_eq!(numbers, [0, 144, 144, 144, 0xeeee_eeee, 0xeeee_eeee]);
+    let second = raw::ingest_entry_by_value(state, &mut other.buffers_mut(), raw::Pairs { pairs: [UNTOUCHED; 1024] }, above, &TOKEN, 0);
+    assert_eq!(second.ingested, first);
+    assert_eq!(second.pairs[..2], [raw::Pair { offset: 0, length: 144 }, raw::Pair { offset: 144, length: 144 }]);
+    assert_eq!(second.pairs[2..], [UNTOUCHED; 1022]);
+    assert_eq!(other, kept);
+}
+
+/// Subspace 1: [61] at 40, [61][62] at 50, [63] at 20; subspace 2: [64] at 10. Payloads 0, 1, 2, 3 bytes long.
+fn four() -> Kept {
+    let mut kept = Kept::open(5);
+    for (low, text, timestamp, length) in [(1, "61", 40, 0), (1, "63", 20, 2), (2, "64", 10, 3), (1, "61/62", 50, 1)] {
+        assert_eq!(kept.ingest(entry(low, text, timestamp, length, 9), 0).refusal, 0);
+    }
+    assert_eq!(kept.state.count, 4);
+    kept
+}
+
+#[test]
+fn lookups() {
+    let kept = four();
+    let find = |low, text, i| raw::find_entry(kept.state, kept.buffers(), subspace(low), path(text), i);
+    let found = find(1, "61/62", ignore(0, 0));
+    let stored = raw::Entry { path: answered("61/62"), ..entry(1, "", 50, 1, 9) };
+    assert_eq!(found, raw::EntryFound { refusal: 0, found: 1, lengthy: raw::LengthyEntry { entry: stored, token: TOKEN, available: 0 } });
+    assert_eq!(find(1, "61/62", ignore(128, 0)).found, 0); // its payload is not all there
+    assert_eq!(find(1, "61", ignore(1, 0)).found, 1);
+    assert_eq!(find(1, "61", ignore(0, 1)).found, 0); // its payload is empty
+    assert_eq!(find(2, "61", ignore(0, 0)).found, 0);
+}
+
+#[test]
+fn listings_and_counts() {
+    let kept = four();
+    let (state, lent, all, whole, none) = (kept.state, kept.buffers(), everything(), range(path(""), path(""), 1), ignore(0, 0));
+    for (i, (low, text, timestamp)) in [(1, "61", 40), (1, "61/62", 50), (1, "63", 20), (2, "64", 10)].into_iter().enumerate() {
+        let listed = raw::Listed { refusal: 0, found: 1, place: i };
+        assert_eq!([raw::query_area_place(state, lent, all, none, i), raw::query_range_place(state, lent, whole, none, i)], [listed; 2]);
+        let part = raw::Part { offset: kept.spt_dir[2 * i] as usize, length: kept.spt_dir[2 * i + 1] as usize };
+        assert_eq!([raw::query_area(state, lent, all, none, i), raw::query_range(state, lent, whole, none, i)], [part; 2]);
+        let key = &kept.spt[part.offset..part.offset + part.length - raw::VALUE];
+        let triple = raw::Decoded { refusal: 0, subspace: subspace(low), path: answered(text), timestamp };
+        assert_eq!(raw::decode_spt_entry_key(key), triple);
+    }
+    let finished = raw::Listed { refusal: 0, found: 0, place: 0 };
+    for place in [4, usize::MAX] {
+        assert_eq!([raw::query_area_place(state, lent, all, none, place), raw::query_range_place(state, lent, whole, none, place)], [finished; 2]);
+        let empty = raw::Part { offset: 0, length: 0 };
+        assert_eq!([raw::query_area(state, lent, all, none, place), raw::query_range(state, lent, whole, none, place)], [empty; 2]);
+    }
+    let (some, from) = (area(0, 1, "61", times(0, 50, 0)), range(path("61/62"), path("64"), 0));
+    assert_eq!(raw::query_area_place(state, lent, some, none, 1), finished); // at 50 it is outside
+    assert_eq!(raw::query_range_place(state, lent, from, none, 0).place, 1);
+    assert_eq!(raw::query_range_place(state, lent, from, ignore(7, 0), 0), finished);
+    assert_eq!([raw::count_area(state, lent, all), raw::count_area(state, lent, some)].map(|c| (c.refusal, c.count)), [(0, 4), (0, 1)]);
+    assert_eq!([raw::summarise(state, lent, whole), raw::summarise(state, lent, from)].map(|c| (c.refusal, c.count)), [(0, 4), (0, 2)]);
+}
+
+/// Met from the newest: 50, 40, 20, 10, with payloads of 1, 0, 2, 3 bytes.
+#[test]
+fn areas_of_interest() {
+    let kept = four();
+    let to_range = |area, max_count, max_size| {
+        let answer = raw::area_of_interest_to_range(kept.state, kept.buffers(), raw::Interest { area, max_count, max_size });
+        assert_eq!(answer.refusal, 0);
+        answer.range
+    };
+    let all = raw::area_to_range(everything()).range;
+    for (max_count, max_size, start) in [(u64::MAX, u64::MAX, 10), (1, u64::MAX, 40), (u64::MAX, 2, 20), (0, 0, 50), (4, 6, 10)] {
+        assert_eq!(to_range(everything(), max_count, max_size), raw::Range { times: times(start, 0, 1), ..all });
+    }
+    let nothing = area(0, 9, "61", times(3, 0, 1)); // no match: as given
+    assert_eq!(to_range(nothing, 1, 1), raw::area_to_range(nothing).range);
+}
+
+#[test]
+fn forgetting() {
+    let mut kept = four();
+    let state = kept.state;
+    let refused = raw::forget_entry(state, &mut kept.buffers_mut(), subspace(1), path("63"), 1, &[8; 32]);
+    assert_eq!(refused, raw::EntryForgotten { refusal: 9, state });
+    let absent = raw::forget_entry(state, &mut kept.buffers_mut(), subspace(9), path("63"), 1, &[8; 32]);
+    assert_eq!(absent, raw::EntryForgotten { refusal: 0, state });
+    assert_eq!(kept, four());
+    let done = raw::forget_entry(state, &mut kept.buffers_mut(), subspace(1), path("63"), 0, &[8; 32]); // the digest is not looked at
+    assert_eq!((done.refusal, done.state.count), (0, 3));
+    let done = raw::forget_entry(done.state, &mut kept.buffers_mut(), subspace(2), path("64"), 2, &[9; 32]);
+    assert_eq!((done.refusal, done.state.count), (0, 2));
+    let below = area(0, 1, "61/62", times(0, 0, 1));
+    let done = raw::forget_area(done.state, &mut kept.buffers_mut(), everything(), 4, below); // [61]; below it is protected
+    assert_eq!((done.refusal, done.forgotten, done.state.count), (0, 1, 1));
+    let bad = raw::Area { path: illegal()[0], ..everything() };
+    assert_eq!(raw::forget_area(done.state, &mut kept.buffers_mut(), everything(), 1, bad).refusal, 4);
+    let done = raw::forget_area(done.state, &mut kept.buffers_mut(), everything(), 0, bad); // an absent protected area is not looked at
+    assert_eq!((done.refusal, done.forgotten, done.state.count), (0, 1, 0));
+    let empty = Kept::open(5);
+    assert_eq!((kept.spt, kept.spt_dir, kept.tsp, kept.tsp_dir), (empty.spt, empty.spt_dir, empty.tsp, empty.tsp_dir));
+}

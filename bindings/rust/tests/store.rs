@@ -1,0 +1,208 @@
+//! Document 01's examples through `Store` and its values; the answers are written by hand.
+use std::cmp::Ordering;
+use virebony::*;
+
+const NAMESPACE: NamespaceId = [3; 16];
+const TOKEN: AuthorisationToken = [0x42; 64];
+const NONE: QueryIgnoreParams = QueryIgnoreParams { ignore_incomplete_payloads: false, ignore_empty_payloads: false };
+
+fn path(components: &[&[u8]]) -> Path {
+    Path::from_slices(components).unwrap()
+}
+
+fn subspace(low: u64) -> SubspaceId {
+    SubspaceId { high: 0, low }
+}
+
+fn entry(low: u64, components: &[&[u8]], timestamp: u64, payload_length: u64, digest: u8) -> AuthorisedEntry {
+    AuthorisedEntry::new(Entry::new(NAMESPACE, subspace(low), path(components), timestamp, payload_length, [digest; 32]), TOKEN)
+}
+
+fn success(pruned: usize) -> Result<EntryIngestionSuccess, Refusal> {
+    Ok(EntryIngestionSuccess::Success { pruned })
+}
+
+#[test]
+fn paths_ascend() {
+    let ascending: [&[&[u8]]; 5] = [&[], &[b""], &[b"\0"], &[b"\x01"], &[b"a"]];
+    for pair in ascending.map(path).windows(2) {
+        assert_eq!((pair[0].cmp(&pair[1]), pair[1].cmp(&pair[0])), (Ordering::Less, Ordering::Greater));
+    }
+}
+
+#[test]
+fn prefixes_are_of_whole_components() {
+    let a = path(&[b"a"]);
+    assert!(a.is_prefix_of(&path(&[b"a", b"b"])) && path(&[b"a", b"b"]).is_prefixed_by(&a) && a.is_prefix_of(&a));
+    assert!(!a.is_prefix_of(&path(&[b"ab"])));
+}
+
+#[test]
+fn bounds_of_a_path() {
+    assert!(Path::from_slices(&[[0; 64]]).is_ok());
+    assert_eq!(Path::from_slices(&[[0; 65]]), Err(Refusal::IllegalPath));
+    assert!(Path::from_slices(&[b"a"; 8]).is_ok());
+    assert_eq!(Path::from_slices(&[b"a"; 9]), Err(Refusal::IllegalPath));
+    assert_eq!(Path::from_slices(&[[0; 64], [0; 64]]).unwrap().path_length(), 128);
+    assert_eq!(Path::from_slices(&[[0; 43]; 3]), Err(Refusal::IllegalPath)); // 129
+    assert_eq!(Path::from_slices(&[vec![0; 1000]]), Err(Refusal::IllegalPath));
+}
+
+#[test]
+fn a_path_by_its_components() {
+    let p = path(&[b"ab", b"", b"c"]);
+    assert_eq!(p.components().collect::<Vec<_>>(), [&b"ab"[..], b"", b"c"]);
+    assert_eq!((p.component_count(), p.path_length(), p.component(2), p.component(3)), (3, 3, Some(&b"c"[..]), None));
+    assert_eq!((p.to_string(), Path::new_empty().to_string(), format!("{p:?}")), ("6162/./63".into(), "-".into(), "Path(6162/./63)".into()));
+    let behind = raw::Path { bytes: [7; 128], ends: [1, 9, 9, 9, 9, 9, 9, 9], count: 1 }; // what is not looked at does not count
+    assert_eq!(Path::try_from(behind), Ok(path(&[b"\x07"])));
+    assert_eq!(Path::try_from(raw::Path { count: 9, ..behind }), Err(Refusal::IllegalPath));
+}
+
+#[test]
+fn a_tie_is_newer_on_neither_side() {
+    let (a, b) = (entry(1, &[b"a"], 5, 3, 9), entry(1, &[b"a", b"b"], 5, 3, 9));
+    assert!(!a.entry().is_newer_than(b.entry()) && !b.entry().is_newer_than(a.entry()));
+    let later = entry(1, &[b"a"], 6, 0, 0);
+    assert!(later.entry().is_newer_than(b.entry()) && later.entry().prunes(b.entry()) && b.entry().is_pruned_by(later.entry()));
+    assert!(!later.entry().is_pruned_by(b.entry()));
+}
+
+#[test]
+fn times_of_an_area() {
+    let at = |times, timestamp| Area::new(AreaSubspace::Any, Path::new_empty(), times).includes_triplet(&subspace(0), &path(&[b"a"]), timestamp);
+    let closed = Range::new_closed(5, 10).unwrap();
+    assert!(at(closed, 5) && at(closed, 9) && !at(closed, 10) && !at(closed, 4));
+    assert!(at(Range::new_open(0), u64::MAX));
+    assert_eq!((Range::new_closed(5, 5), closed.get_end(), Range::new_open(0).get_end()), (None, Some(&10), None));
+}
+
+#[test]
+fn areas_as_3d_ranges() {
+    let range = Range3d::from(Area::new(AreaSubspace::Id(subspace(u64::MAX)), path(&[b"a"]), Range::new_open(7)));
+    assert_eq!(range.paths(), &Range::new(path(&[b"a"]), RangeEnd::Closed(path(&[b"a\0"]))));
+    assert_eq!(range.subspaces(), &Range::new(subspace(u64::MAX), RangeEnd::Closed(SubspaceId { high: 1, low: 0 })));
+    assert_eq!(range.times(), &Range::new_open(7));
+    assert_eq!(Range3d::from(Area::new_full()), Range3d::new_full());
+    assert!(range.includes_entry(entry(u64::MAX, &[b"a", b"b"], 7, 0, 0).entry()) && !range.includes_entry(entry(0, &[b"a"], 7, 0, 0).entry()));
+    assert_eq!((path(&[b"a"]).greater_but_not_prefixed(), Path::new_empty().greater_but_not_prefixed()), (Some(path(&[b"a\0"])), None));
+}
+
+#[test]
+fn subspaces_as_bytes() {
+    let bytes = [1, 2, 3, 4, 5, 6, 7, 8, 9, 10, 11, 12, 13, 14, 15, 16];
+    let subspace = SubspaceId::from(bytes);
+    assert_eq!((subspace.high, subspace.low), (0x0102030405060708, 0x090a0b0c0d0e0f10));
+    assert_eq!(<[u8; 16]>::from(subspace), bytes);
+}
+
+#[test]
+fn a_tie_above_removes_and_below_stays() {
+    let (above, below) = (entry(1, &[b"a"], 5, 3, 9), entry(1, &[b"a", b"b"], 5, 3, 9));
+    let mut store = Store::open(NAMESPACE, 4).unwrap();
+    assert_eq!((store.ingest_entry(below, false), store.ingest_entry(above, false), store.len()), (success(0), success(1), 1));
+    let mut store = Store::open(NAMESPACE, 4).unwrap();
+    assert_eq!((store.ingest_entry(above, false), store.ingest_entry(below, false), store.len()), (success(0), success(0), 2));
+}
+
+#[test]
+fn limit_one() {
+    let mut store = Store::open(NAMESPACE, 1).unwrap();
+    assert_eq!(store.ingest_entry(entry(1, &[b"a"], 5, 3, 9), false), success(0));
+    assert_eq!(store.ingest_entry(entry(1, &[b"b"], 5, 3, 9), false), Err(Refusal::Full));
+    assert_eq!(store.ingest_entry(entry(1, &[b"a"], 6, 3, 9), true), Err(Refusal::PruningPrevented));
+    assert_eq!(store.ingest_entry(entry(1, &[b"a"], 6, 3, 9), false), success(1));
+    assert_eq!((store.len(), store.limit(), store.is_empty(), store.namespace_id()), (1, 1, false, &NAMESPACE));
+}
+
+/// The four lines of document 01's listing program, and what it then lists.
+#[test]
+fn four_lines() {
+    let lines = [entry(1, &[b"b"], 5, 3, 10), entry(1, &[b"b", b"\0"], 4, 3, 10), entry(1, &[b"a", b"b"], 7, 1, 11), entry(1, &[], 6, 0, 12)];
+    let mut store = Store::open(NAMESPACE, 64).unwrap();
+    let answers = lines.map(|line| store.ingest_entry(line, false));
+    let obsolete = Ok(EntryIngestionSuccess::Obsolete { obsolete: lines[1], newer: lines[0] });
+    assert_eq!(answers, [success(0), obsolete, success(0), success(1)]);
+    let left = [lines[3], lines[2]].map(|entry| LengthyAuthorisedEntry::new(entry, 0));
+    assert_eq!(store.query_area(&Area::new_full(), NONE).unwrap().collect::<Vec<_>>(), left);
+    assert_eq!(store.query_range(&Range3d::new_full(), NONE).unwrap().collect::<Vec<_>>(), left);
+}
+
+/// Subspace 1: [61] at 40, [61][62] at 50, [63] at 20; subspace 2: [64] at 10. Payloads 0, 1, 2, 3 bytes long.
+fn four() -> (Store, [AuthorisedEntry; 4]) {
+    let entries = [entry(1, &[b"a"], 40, 0, 9), entry(1, &[b"a", b"b"], 50, 1, 9), entry(1, &[b"c"], 20, 2, 9), entry(2, &[b"d"], 10, 3, 9)];
+    let mut store = Store::open(NAMESPACE, 5).unwrap();
+    for entry in entries {
+        assert_eq!(store.ingest_entry(entry, true), success(0));
+    }
+    (store, entries)
+}
+
+#[test]
+fn lookups_listings_and_counts() {
+    let (store, entries) = four();
+    let (incomplete, empty) =
+        (QueryIgnoreParams { ignore_incomplete_payloads: true, ..NONE }, QueryIgnoreParams { ignore_empty_payloads: true, ..NONE });
+    let found = |entry: &AuthorisedEntry, ignore| store.entry(entry.entry().subspace_id(), entry.entry().path(), ignore).unwrap();
+    for entry in &entries {
+        assert_eq!(found(entry, NONE).map(|found| (found.available(), found.into_authorised_entry())), Some((0, *entry)));
+    }
+    assert_eq!(entries.each_ref().map(|entry| found(entry, incomplete).is_some()), [true, false, false, false]);
+    assert_eq!(entries.each_ref().map(|entry| found(entry, empty).is_some()), [false, true, true, true]);
+    assert_eq!(store.entry(&subspace(2), &path(&[b"a"]), NONE), Ok(None));
+
+    let listed = |area: &Area, ignore| store.query_area(area, ignore).unwrap().map(|found| *found.entry()).collect::<Vec<_>>();
+    assert_eq!(listed(&Area::new_full(), NONE), entries);
+    assert_eq!(listed(&Area::new_full(), incomplete), entries[..1]);
+    assert_eq!(listed(&Area::new_full(), empty), entries[1..]);
+    assert_eq!(listed(&Area::new_subspace(subspace(2)), NONE), entries[3..]);
+    let range = Range3d::new(Range::new_open(subspace(0)), Range::new_closed(path(&[b"a", b"b"]), path(&[b"d"])).unwrap(), Range::new_open(0));
+    assert_eq!(store.query_range(&range, NONE).unwrap().map(|found| *found.entry()).collect::<Vec<_>>(), entries[1..3]);
+    let below = Area::new(AreaSubspace::Any, path(&[b"a"]), Range::new_closed(0, 50).unwrap());
+    assert_eq!((store.count_area(&Area::new_full()), store.count_area(&below), store.summarise(&range)), (Ok(4), Ok(1), Ok(2)));
+}
+
+#[test]
+fn records_are_the_parts_that_the_second_call_answers() {
+    let (store, _) = four();
+    let (state, buffers) = store.as_parts();
+    let mut listing = store.query_area(&Area::new_full(), NONE).unwrap();
+    for place in 0..4 {
+        let part = raw::query_area(state, buffers, Area::new_full().to_raw(), raw::Ignore::default(), place);
+        assert_eq!(listing.next_record(), Some(&buffers.spt[part.offset..part.offset + part.length]));
+    }
+    assert_eq!((listing.next_record(), listing.next()), (None, None));
+}
+
+#[test]
+fn areas_of_interest() {
+    let (store, _) = four();
+    let start =
+        |max_count, max_size| store.area_of_interest_to_range(&AreaOfInterest::new(Area::new_full(), max_count, max_size)).unwrap().times().start;
+    assert_eq!([start(u64::MAX, u64::MAX), start(1, u64::MAX), start(u64::MAX, 2), start(0, 0)], [10, 40, 20, 50]);
+    let nothing = Area::new(AreaSubspace::Id(subspace(9)), path(&[b"a"]), Range::new_open(3));
+    assert_eq!(store.area_of_interest_to_range(&AreaOfInterest::new(nothing, 1, 1)), Ok(Range3d::from(nothing)));
+}
+
+#[test]
+fn forgetting() {
+    let (mut store, _) = four();
+    assert_eq!(store.forget_entry(&subspace(1), &path(&[b"c"]), Some([8; 32])), Err(Refusal::OtherDigest));
+    assert_eq!((store.forget_entry(&subspace(9), &path(&[b"c"]), Some([8; 32])), store.len()), (Ok(()), 4)); // absent: done
+    assert_eq!((store.forget_entry(&subspace(1), &path(&[b"c"]), Some([9; 32])), store.len()), (Ok(()), 3));
+    assert_eq!((store.forget_entry(&subspace(2), &path(&[b"d"]), None), store.len()), (Ok(()), 2));
+    let below = Area::new(AreaSubspace::Any, path(&[b"a", b"b"]), Range::new_open(0));
+    assert_eq!((store.forget_area(&Area::new_full(), Some(&below)), store.len()), (Ok(1), 1));
+    assert_eq!((store.forget_area(&Area::new_full(), None), store.is_empty()), (Ok(1), true));
+}
+
+#[test]
+fn what_a_store_refuses() {
+    for limit in [0, 1025, usize::MAX] {
+        assert_eq!(Store::open(NAMESPACE, limit).unwrap_err(), Refusal::BadLimit);
+    }
+    let mut store = Store::open([4; 16], 1024).unwrap();
+    assert_eq!(store.ingest_entry(entry(1, &[], 1, 0, 0), false), Err(Refusal::OtherNamespace));
+    let error: Box<dyn std::error::Error> = Refusal::OtherNamespace.into();
+    assert_eq!(error.to_string(), "the entry names another namespace");
+}

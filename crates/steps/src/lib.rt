@@ -1,0 +1,183 @@
+// Each public call that opens or changes a store is a step of demand 3's lists, and whatever a program can hand to it is a value there. The functions here call
+// the real ones, or are handed what these are handed; they have no `requires`, and ensure it. Nothing calls them.
+use data_model::area::Area;
+use data_model::entry::Entry;
+use data_model::parameters::Subspace;
+use data_model::path::Path;
+use pairs::NumbersIngested;
+use pairs::Pair;
+use pairs::ingest_entry_by_value;
+use store::forget::AreaForgotten;
+use store::forget::EntryForgotten;
+use store::forget::forget_area;
+use store::forget::forget_entry;
+use store::ingest::Ingested;
+use store::ingest::ingest_entry_numbers;
+use store::open::open;
+use store::state::LIMIT_MOST;
+use store::state::Opened;
+use store::state::State;
+ghost use Prim.Native.Nat.{ℕ};
+ghost use mathlib.Core.Bool.{Bool};
+ghost use mathlib.Core.List.{List};
+ghost use mathlib.Core.Path.{_≡_};
+ghost use Rattle.data_model.specs.Path.{field};
+ghost use Rattle.key_laws.specs.Bytes.{Bytes};
+ghost use Rattle.store.specs.Store.{storeOf};
+ghost use Rattle.pairs.specs.Pairs.{numbersOf, prunedCount};
+ghost use Rattle.call_laws.specs.Calls.{IsValue, ingest, forget-entry, forget-area, ingestVerdict, numberVerdict};
+ghost use Rattle.call_laws.specs.Outcomes.{outcome, opens, outcomeOf, openingOf, ingestionOf};
+
+// `open` is what opens a list.
+pub fn open_listed(
+    namespace: [u8; 16],
+    limit: usize,
+    spt: &mut [u8],
+    spt_dir: &mut [u32],
+    tsp: &mut [u8],
+    tsp_dir: &mut [u32],
+) -> Opened
+    ensures { λ r. ⌜ outcomeOf (numberVerdict (r .refusal)) 0 (r .state) (now (spt .exit)) (now («spt_dir» .exit)) (now (tsp .exit)) (now («tsp_dir» .exit)) ≡ opens field (openingOf namespace limit (now (spt .entry)) (now («spt_dir» .entry)) (now (tsp .entry)) (now («tsp_dir» .entry))) ⌝ }
+{
+    open(namespace, limit, spt, spt_dir, tsp, tsp_dir)
+}
+
+// `ingest_entry_numbers` is an ingestion of a list.
+pub fn numbers_listed(
+    state: State,
+    spt: &mut [u8],
+    spt_dir: &mut [u32],
+    tsp: &mut [u8],
+    tsp_dir: &mut [u32],
+    prune: &mut [u32],
+    entry: Entry,
+    token: [u8; 64],
+    prevent_pruning: bool,
+) -> Ingested
+    ensures { λ r. ⌜ outcomeOf (ingestVerdict (r .verdict)) (prunedCount (r .verdict)) (r .state) (now (spt .exit)) (now («spt_dir» .exit)) (now (tsp .exit)) (now («tsp_dir» .exit)) ≡ outcome field (storeOf state (now (spt .entry)) (now («spt_dir» .entry)) (now (tsp .entry)) (now («tsp_dir» .entry))) (ingest (ingestionOf (now (prune .entry)) entry token «prevent_pruning»)) ⌝ }
+{
+    ingest_entry_numbers(
+        state,
+        spt,
+        spt_dir,
+        tsp,
+        tsp_dir,
+        prune,
+        entry,
+        token,
+        prevent_pruning,
+    )
+}
+
+// `pairs::ingest_entry`, as `ingest_entry_by_value` calls it, is an ingestion of a list: the prune list is the pairs' numbers.
+pub fn pairs_listed(
+    state: State,
+    spt: &mut [u8],
+    spt_dir: &mut [u32],
+    tsp: &mut [u8],
+    tsp_dir: &mut [u32],
+    pairs: [Pair; LIMIT_MOST],
+    entry: Entry,
+    token: [u8; 64],
+    prevent_pruning: bool,
+) -> NumbersIngested
+    ensures { λ r. ⌜ outcomeOf (ingestVerdict (r .ingested .verdict)) (prunedCount (r .ingested .verdict)) (r .ingested .state) (now (spt .exit)) (now («spt_dir» .exit)) (now (tsp .exit)) (now («tsp_dir» .exit)) ≡ outcome field (storeOf state (now (spt .entry)) (now («spt_dir» .entry)) (now (tsp .entry)) (now («tsp_dir» .entry))) (ingest (ingestionOf (numbersOf pairs) entry token «prevent_pruning»)) ⌝ }
+{
+    ingest_entry_by_value(
+        state,
+        spt,
+        spt_dir,
+        tsp,
+        tsp_dir,
+        pairs,
+        entry,
+        token,
+        prevent_pruning,
+    )
+}
+
+// `forget_entry` is a forgetting of a list.
+pub fn entry_listed(
+    state: State,
+    spt: &mut [u8],
+    spt_dir: &mut [u32],
+    tsp: &mut [u8],
+    tsp_dir: &mut [u32],
+    subspace: Subspace,
+    path: Path,
+    expects: bool,
+    expected_digest: [u8; 32],
+) -> EntryForgotten
+    ensures { λ r. ⌜ outcomeOf (numberVerdict (r .refusal)) 0 (r .state) (now (spt .exit)) (now («spt_dir» .exit)) (now (tsp .exit)) (now («tsp_dir» .exit)) ≡ outcome field (storeOf state (now (spt .entry)) (now («spt_dir» .entry)) (now (tsp .entry)) (now («tsp_dir» .entry))) (forget-entry (record { subspace = subspace; path = path; expects = expects; digest = «expected_digest» })) ⌝ }
+{
+    forget_entry(
+        state,
+        spt,
+        spt_dir,
+        tsp,
+        tsp_dir,
+        subspace,
+        path,
+        expects,
+        expected_digest,
+    )
+}
+
+// `forget_area` is a forgetting of a list.
+pub fn area_listed(
+    state: State,
+    spt: &mut [u8],
+    spt_dir: &mut [u32],
+    tsp: &mut [u8],
+    tsp_dir: &mut [u32],
+    area: Area,
+    protects: bool,
+    protected: Area,
+) -> AreaForgotten
+    ensures { λ r. ⌜ outcomeOf (numberVerdict (r .refusal)) (r .forgotten) (r .state) (now (spt .exit)) (now («spt_dir» .exit)) (now (tsp .exit)) (now («tsp_dir» .exit)) ≡ outcome field (storeOf state (now (spt .entry)) (now («spt_dir» .entry)) (now (tsp .entry)) (now («tsp_dir» .entry))) (forget-area (record { area = area; protects = protects; protected = protected })) ⌝ }
+{
+    forget_area(state, spt, spt_dir, tsp, tsp_dir, area, protects, protected)
+}
+
+fn yes() -> bool {
+    true
+}
+
+// Whether a slice's numbers are below 256: they are.
+fn is_bytes(s: &[u8]) -> bool
+    ensures { λ r. ⌜ Bytes (now (s .entry)) ⌝ }
+{
+    yes()
+}
+
+// Whether what an ingestion is handed is a value: it is, whatever the prune list and the flag that prevents pruning.
+pub fn ingestion_is_value(entry: Entry, token: [u8; 64]) -> bool
+    ensures { λ r. ⌜ ((prune : List ℕ) → (prevent : Bool) → IsValue field (ingest (record { prune = prune; entry = entry; token = token; prevent = prevent }))) ⌝ }
+{
+    let path = entry.path;
+    let bytes = path.bytes;
+    let digest = entry.payload_digest;
+    let a = is_bytes(&bytes);
+    let b = is_bytes(&digest);
+    let c = is_bytes(&token);
+    a & b & c
+}
+
+// Whether what the forgetting of an entry is handed is a value: it is.
+pub fn entry_forgetting_is_value(
+    subspace: Subspace,
+    path: Path,
+    expects: bool,
+    digest: [u8; 32],
+) -> bool
+    ensures { λ r. ⌜ IsValue field (forget-entry (record { subspace = subspace; path = path; expects = expects; digest = digest })) ⌝ }
+{
+    true
+}
+
+// Whether what the forgetting of an area is handed is a value: it is.
+pub fn area_forgetting_is_value(area: Area, protects: bool, protected: Area) -> bool
+    ensures { λ r. ⌜ IsValue field (forget-area (record { area = area; protects = protects; protected = protected })) ⌝ }
+{
+    true
+}

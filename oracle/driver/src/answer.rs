@@ -1,0 +1,57 @@
+//! What a call answers, as values: the customer's Rust, the model and the port are compared by these, before anything is
+//! printed.
+use model::*;
+use std::cmp::Ordering;
+
+/// A tree's records, key and value.
+pub type Records = Vec<(Vec<u8>, Vec<u8>)>;
+
+#[derive(Clone, Debug, PartialEq)]
+pub enum Answer {
+    Refused(u8),
+    Opened,
+    /// Taken, with the pruned records' places.
+    Taken(Vec<Pair>),
+    /// A newer stored entry, with its token.
+    Obsolete(Entry, Token),
+    Done,
+    /// There is no such entry to poke.
+    Absent,
+    Forgot(u64),
+    Found(Option<Stored>),
+    List(Vec<Stored>),
+    /// The place of the next match, or finished.
+    Next(Option<u64>),
+    Count(u64),
+    Size(u64),
+    Range(Range3d),
+    Above(Option<Path>),
+    /// How two paths compare, and whether the first prefixes the second.
+    Order(Ordering, bool),
+    /// Whether the first of two entries is newer, and whether it prunes the second.
+    Newer(bool, bool),
+    Included(bool),
+    /// Subspace-first and time-first.
+    Keys(Vec<u8>, Vec<u8>),
+    Triple(Subspace, Path, u64),
+    Trees(Records, Records),
+    /// The Rust would answer for another area or sum than 01's, and is not asked.
+    Unlike,
+    /// Anything else, in words: a panic, an error, what the port does not have.
+    Said(String),
+}
+
+impl From<Result<Verdict, Refusal>> for Answer {
+    fn from(r: Result<Verdict, Refusal>) -> Answer {
+        match r {
+            Ok(Verdict::Taken(pairs)) => Answer::Taken(pairs),
+            Ok(Verdict::Obsolete(e, k)) => Answer::Obsolete(e, k),
+            Err(n) => Answer::Refused(n),
+        }
+    }
+}
+
+/// An answer made of what a call that was not refused gave.
+pub fn either<T>(r: Result<T, Refusal>, f: impl Fn(T) -> Answer) -> Answer {
+    r.map_or_else(Answer::Refused, f)
+}

@@ -1,0 +1,75 @@
+//! The model, asked in the call language. Nothing is decided here.
+use crate::answer::{either, Answer};
+use crate::call::Call;
+use model::*;
+
+pub struct Judge {
+    pub store: Store,
+}
+
+impl Judge {
+    pub fn unlimited(bounds: Bounds) -> Judge {
+        Judge { store: Store::unlimited([0; 16], bounds) }
+    }
+    pub fn limited(limit: u64, bounds: Bounds) -> Judge {
+        Judge { store: Store::open([0; 16], limit, bounds).unwrap() }
+    }
+    fn list(&self, places: Vec<u64>) -> Answer {
+        Answer::List(places.into_iter().map(|i| self.store.entries()[i as usize].clone()).collect())
+    }
+    /// Of calls that need no store: 4 if one of the paths is illegal.
+    fn legal(&self, paths: &[&Path], f: impl Fn() -> Answer) -> Answer {
+        if paths.iter().all(|p| self.store.bounds.legal(p)) { f() } else { Answer::Refused(4) }
+    }
+    pub fn exec(&mut self, c: &Call) -> Answer {
+        let b = self.store.bounds;
+        match c {
+            Call::Bent(c) => self.exec(c),
+            Call::Open(n, limit) => {
+                let opened = limit.map_or(Ok(Store::unlimited(*n, b)), |l| Store::open(*n, l, b));
+                let answer = either(opened.clone().map(|_| ()), |_| Answer::Opened);
+                self.store = opened.unwrap_or(Store::closed(b));
+                answer
+            }
+            Call::Ingest(e, token, prevent) => self.store.ingest(e, token, *prevent).into(),
+            Call::Forget(s, p, d) => either(self.store.forget_entry(s, p, d.as_ref()), |_| Answer::Done),
+            Call::ForgetArea(a, protected) => either(self.store.forget_area(a, protected.as_ref()), Answer::Forgot),
+            Call::Entry(s, p, ignore) => either(self.store.entry(s, p, *ignore), Answer::Found),
+            Call::QueryArea(a, ignore) | Call::IncludedIn(a, ignore) => {
+                either(self.store.query_area(a, *ignore), |l| self.list(l))
+            }
+            Call::QueryRange(r, ignore) => either(self.store.query_range(r, *ignore), |l| self.list(l)),
+            Call::NextInArea(a, ignore, from) => {
+                either(self.store.query_area(a, *ignore), |l| Answer::Next(l.into_iter().find(|i| i >= from)))
+            }
+            Call::NextInRange(r, ignore, from) => {
+                either(self.store.query_range(r, *ignore), |l| Answer::Next(l.into_iter().find(|i| i >= from)))
+            }
+            Call::Count(a) => either(self.store.count_area(a), Answer::Count),
+            Call::Size(r) => either(self.store.summarise(r), Answer::Size),
+            Call::Aoi(a, count, size) => either(self.store.area_of_interest_to_range(a, *count, *size), Answer::Range),
+            Call::AreaRange(a) => self.legal(&[&a.path], || Answer::Range(b.area_range(a))),
+            Call::Above(p) => self.legal(&[p], || Answer::Above(b.above(p))),
+            Call::Order(p, q) => self.legal(&[p, q], || Answer::Order(p.cmp(q), is_prefix(p, q))),
+            Call::Newer(x, y) => self.legal(&[&x.path, &y.path], || Answer::Newer(x.is_newer_than(y), x.prunes(y))),
+            Call::InArea(a, e) => self.legal(&[&a.path, &e.path], || Answer::Included(a.includes(e))),
+            Call::InRange(r, e) => {
+                let paths: Vec<&Path> = [Some(&r.paths.start), r.paths.end.as_ref(), Some(&e.path)].into_iter().flatten().collect();
+                self.legal(&paths, || Answer::Included(r.includes(e)))
+            }
+            Call::Key(s, p, t) => self.legal(&[p], || Answer::Keys(spt(s, p, *t), tsp(s, p, *t))),
+            Call::Decode(time_first, k) | Call::Decode01(time_first, k) => decode(b, *time_first, k),
+            Call::Dump => Answer::Trees(records(self.store.entries(), false), records(self.store.entries(), true)),
+            Call::Avail(s, p, n) if b.legal(p) => {
+                if self.store.poke_available(s, p, *n) { Answer::Done } else { Answer::Absent }
+            }
+            Call::Avail(..) => Answer::Refused(4),
+            Call::Succ(p) if !b.legal(p) => Answer::Refused(4),
+            _ => Answer::Said("not in document 01".into()),
+        }
+    }
+}
+
+pub fn decode(b: Bounds, time_first: bool, k: &[u8]) -> Answer {
+    b.decode(time_first, k).map_or(Answer::Refused(5), |(s, p, t)| Answer::Triple(s, p, t))
+}

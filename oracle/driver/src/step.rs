@@ -1,0 +1,35 @@
+//! A call, and how it is made.
+use crate::call::Call;
+
+#[derive(Clone, Debug)]
+pub struct Step {
+    pub call: Call,
+    pub front: Front,
+    /// Junk wherever a value is not looked at, how long buffers are, which export is taken; 0: none.
+    pub salt: u64,
+}
+
+/// What is wrong with what is handed in beside the call's own values. The Rust knows nothing of it: the model judges.
+/// Where it is no fault after all, the call is made without it.
+#[derive(Clone, Copy, Debug, PartialEq)]
+pub enum Front {
+    Plain,
+    /// Another limit in the state.
+    Limit(u64),
+    /// Another count in the state.
+    Count(u64),
+    /// One of the five buffers (two trees with their directories, a prune list), or a key's, shorter than it should be.
+    Short(usize, usize),
+    /// A byte of a tree (0, 2), or a number of a directory (1, 3), at a place modulo its room, is changed by so much.
+    Changed(usize, u64, u32),
+}
+
+/// Whether the call is made on a store that is handed in.
+pub fn on_store(c: &Call) -> bool {
+    match c {
+        Call::Bent(c) => on_store(c),
+        Call::Ingest(..) | Call::Forget(..) | Call::ForgetArea(..) | Call::Entry(..) | Call::QueryArea(..) | Call::IncludedIn(..) => true,
+        Call::QueryRange(..) | Call::NextInArea(..) | Call::NextInRange(..) | Call::Count(..) | Call::Size(..) | Call::Aoi(..) => true,
+        _ => false,
+    }
+}

@@ -1,0 +1,271 @@
+//! The customer's Rust, the model and the port in one process, call by call. Answers are compared as values; after every
+//! call the port's state, both trees, both directories, the prune list and what lies beyond the bounds are compared byte
+//! for byte with what the model says, and the Rust's trees record by record.
+pub mod run;
+pub mod table;
+use crate::answer::{Answer, Records};
+use crate::call::Call;
+use crate::judge::Judge;
+use crate::oracle::Oracle;
+use crate::params::Ns;
+use crate::port::{Buffers, Handed, Port};
+use crate::rng::Rng;
+use crate::step::{on_store, Front, Step};
+use model::*;
+use virebony::raw;
+
+/// By whom an answer of the port's was judged.
+#[derive(Clone, Copy, Debug, PartialEq, Eq, PartialOrd, Ord)]
+pub enum Judged {
+    ByBoth,
+    /// The Rust has not this: refusals 1, 2, 3; a store that was not opened; decoding by 01.
+    ByModel,
+    /// The Rust's answer differs and is meant to: docs/DIFFERENCES.md 1.2 (`successor` carries) or 5 (the sum).
+    SkippedArea,
+    /// docs/DIFFERENCES.md 2: a key that no encoder writes is read, panics, is reached by no call.
+    SkippedRead,
+    SkippedPanic,
+    SkippedUnreached,
+}
+
+pub struct Three {
+    rust: Oracle<64, 8, 128>,
+    pub judge: Judge,
+    port: Port,
+    /// What the port's buffers must be.
+    shadow: Buffers,
+    records: [Records; 2],
+    /// No store is open: the Rust, which has no such thing, is not asked.
+    closed: bool,
+}
+
+fn pattern(r: &mut Rng, needed: usize) -> Vec<u8> {
+    let mut v = vec![0; needed + r.at(40)];
+    let (a, b) = (r.next() as u8 | 1, r.next() as u8);
+    v.iter_mut().enumerate().for_each(|(i, x)| *x = (i as u8).wrapping_mul(a) ^ b);
+    v
+}
+fn numbers(r: &mut Rng, needed: usize) -> Vec<u32> {
+    (0..needed + r.at(10)).map(|_| r.next() as u32).collect()
+}
+/// Buffers for a limit, full of something, each longer by something.
+fn buffers(r: &mut Rng, limit: u64) -> Buffers {
+    let (room, pairs) = ((RECORD_MOST * limit) as usize, 2 * limit as usize);
+    // Often enough of them for a prune list by value.
+    let prune = if r.one_in(2) { limit as usize } else { 1024 } + r.at(5);
+    Buffers {
+        spt: pattern(r, room),
+        spt_dir: numbers(r, pairs),
+        tsp: pattern(r, room),
+        tsp_dir: numbers(r, pairs),
+        prune: numbers(r, 2 * prune).chunks_exact(2).map(|n| raw::Pair { offset: n[0], length: n[1] }).collect(),
+    }
+}
+
+impl Three {
+    /// With no store open yet.
+    pub fn new() -> Three {
+        let shadow = buffers(&mut Rng(0), 2);
+        Three {
+            rust: Oracle::open(Ns::default(), Some(0)),
+            judge: Judge { store: Store::closed(FIELD) },
+            port: Port { state: raw::State::default(), buffers: shadow.clone() },
+            shadow,
+            records: Default::default(),
+            closed: true,
+        }
+    }
+    fn state(&self) -> raw::State {
+        let s = &self.judge.store;
+        raw::State { namespace_id: s.namespace, count: s.entries().len(), limit: s.limit.unwrap_or(1024) as usize }
+    }
+    /// The model's view of what is handed in: the first of refusals 1, 2, 3.
+    fn refused(&self, call: &Call, h: &Handed, limit: u64) -> Option<u8> {
+        let (lent, prune) = (self.port.buffers.lent(h.lengths), matches!(call, Call::Ingest(..)).then_some(h.lengths[4]));
+        match call {
+            Call::Key(..) => (h.key < 298).then_some(2),
+            Call::Open(..) => rooms(limit, lent, None),
+            _ if !on_store(call) => None,
+            _ => rooms(limit, lent, prune).or_else(|| {
+                let state = State { namespace: h.state.namespace_id, count: h.state.count as u64, limit };
+                well_formed(&state, lent).is_none().then_some(3)
+            }),
+        }
+    }
+    /// Makes the call faulty: what is handed in, the refusal, and what to undo afterwards.
+    fn front(&mut self, step: &Step, plain: Handed) -> (Handed, Option<u8>, Option<(usize, usize, u32)>) {
+        let (mut h, mut undo) = (plain, None);
+        let mut limit = h.state.limit as u64;
+        let room = |which: usize| [RECORD_MOST * limit, 2 * limit, RECORD_MOST * limit, 2 * limit, limit][which] as usize;
+        match step.front {
+            Front::Plain => return (plain, None, None),
+            Front::Limit(n) => h.state.limit = n as usize,
+            Front::Count(n) => h.state.count = n as usize,
+            Front::Short(which, by) if which < 5 => {
+                if let Call::Open(_, l) = step.call {
+                    limit = l.unwrap_or(1024);
+                }
+                let needed = [RECORD_MOST, 2, RECORD_MOST, 2, 1][which].saturating_mul(limit) as usize;
+                h.lengths[which] = needed.saturating_sub(by).min(h.lengths[which]);
+            }
+            Front::Short(_, by) => h.key = 298usize.saturating_sub(by),
+            Front::Changed(which, at, by) => {
+                if room(which) > 0 && on_store(&step.call) {
+                    let at = at as usize % room(which);
+                    undo = Some((which, at, self.change(which, at, by)));
+                }
+            }
+        }
+        if on_store(&step.call) {
+            limit = h.state.limit as u64;
+        }
+        let refusal = self.refused(&step.call, &h, limit);
+        if refusal.is_none() {
+            self.undo(undo);
+            return (plain, None, None);
+        }
+        (h, refusal, undo)
+    }
+    /// Changes a byte or a number of the port's, and answers what it was; or takes the change back.
+    fn change(&mut self, which: usize, at: usize, by: u32) -> u32 {
+        let old = self.port.buffers.at(which, at);
+        let new = old.wrapping_add(by | 1);
+        self.port.buffers.set(which, at, new);
+        old
+    }
+    fn undo(&mut self, undo: Option<(usize, usize, u32)>) {
+        if let Some((which, at, old)) = undo {
+            self.port.buffers.set(which, at, old);
+        }
+    }
+    /// An opening gets new buffers, or those that are there if they are long enough: then an old store lies in them.
+    fn lend(&mut self, step: &Step, limit: u64) {
+        let mut r = Rng(step.salt);
+        let b = &self.port.buffers;
+        let room = b.spt.len().min(b.tsp.len()) as u64 >= RECORD_MOST * limit && b.spt_dir.len().min(b.tsp_dir.len()) as u64 >= 2 * limit;
+        if !(room && b.prune.len() as u64 >= limit && r.one_in(2)) {
+            self.port.buffers = buffers(&mut r, limit);
+            self.shadow = self.port.buffers.clone();
+        }
+    }
+    /// Writes what the model holds into the shadow.
+    fn draw(&mut self) {
+        let (s, limit) = (&self.judge.store, self.judge.store.limit.unwrap_or(1024));
+        self.records = [records(s.entries(), false), records(s.entries(), true)];
+        let ((a, ad), (b, bd)) = (layout(&self.records[0], limit), layout(&self.records[1], limit));
+        self.shadow.spt[..a.len()].copy_from_slice(&a);
+        self.shadow.spt_dir[..ad.len()].copy_from_slice(&ad);
+        self.shadow.tsp[..b.len()].copy_from_slice(&b);
+        self.shadow.tsp_dir[..bd.len()].copy_from_slice(&bd);
+    }
+    /// Makes a call in all three. The model's answer and who judged the port's; or the difference, in words.
+    pub fn step(&mut self, step: &Step) -> Result<(Answer, Judged), String> {
+        // Without a limit is with the greatest.
+        let call = &match &step.call {
+            Call::Open(n, None) => Call::Open(*n, Some(1024)),
+            c => c.clone(),
+        };
+        if let (Call::Open(_, Some(l @ 1..=1024)), Front::Plain) = (call, step.front) {
+            self.lend(step, *l);
+        }
+        let plain = Handed { state: self.port.state, lengths: self.port.buffers.lengths(), key: 298 + step.salt as usize % 9 };
+        let (h, refusal, undo) = self.front(step, plain);
+        let model = refusal.map_or_else(|| self.judge.exec(call), Answer::Refused);
+        if let Call::Avail(..) = call {
+            return self.poke(call, model);
+        }
+        if let Call::Dump = call {
+            let rust = if self.closed { model.clone() } else { self.rust.exec(call) };
+            return if rust == model { Ok((model, Judged::ByBoth)) } else { Err(format!("trees: Rust {rust:?}\n  model {model:?}")) };
+        }
+        let changed = undo.map_or(0, |(which, at, _)| self.port.buffers.at(which, at));
+        let port = self.port.exec(call, h, step.salt);
+        if let Some((which, at, old)) = undo {
+            // The change must stand as it was made; it is then taken back.
+            let now = self.port.buffers.at(which, at);
+            if now != changed {
+                return Err(format!("a refused call wrote {which} at {at}"));
+            }
+            self.undo(undo);
+        }
+        if port != model {
+            return Err(format!("answers:\n  model {model:?}\n  port  {port:?}"));
+        }
+        let judged = self.by_the_rust(call, refusal, &model)?;
+        if refusal.is_none() && matches!(call, Call::Open(..)) {
+            self.closed = model != Answer::Opened;
+            if self.closed {
+                self.port.state = raw::State::default();
+            }
+        }
+        match &model {
+            Answer::Taken(pairs) => {
+                for (to, (offset, length)) in self.shadow.prune.iter_mut().zip(pairs) {
+                    *to = raw::Pair { offset: *offset, length: *length };
+                }
+                self.draw()
+            }
+            Answer::Opened | Answer::Done => self.draw(),
+            Answer::Forgot(n) if *n > 0 => self.draw(),
+            _ => {}
+        }
+        self.same()?;
+        Ok((model, judged))
+    }
+    /// The available length, written from outside into all three.
+    fn poke(&mut self, call: &Call, model: Answer) -> Result<(Answer, Judged), String> {
+        let rust = if self.closed { model.clone() } else { self.rust.exec(call) };
+        if rust != model {
+            return Err(format!("poke: Rust {rust:?}, model {model:?}"));
+        }
+        if model == Answer::Done {
+            self.draw();
+            self.port.buffers = self.shadow.clone();
+        }
+        self.same()?;
+        Ok((model, Judged::ByBoth))
+    }
+    fn by_the_rust(&mut self, call: &Call, refusal: Option<u8>, model: &Answer) -> Result<Judged, String> {
+        let opens = matches!(call, Call::Open(..)) && *model == Answer::Opened;
+        let alone = refusal.is_some() || matches!(call, Call::Decode01(..)) || (!opens && (matches!(call, Call::Open(..)) || self.closed && on_store(call)));
+        if alone {
+            return Ok(Judged::ByModel);
+        }
+        let rust = self.rust.exec(call);
+        if rust == *model {
+            return Ok(Judged::ByBoth);
+        }
+        match (call, &rust, model) {
+            (Call::Bent(_), Answer::Unlike, _) => Ok(Judged::SkippedArea),
+            (Call::Decode(..), Answer::Triple(..), Answer::Refused(5)) => Ok(Judged::SkippedRead),
+            (Call::Decode(true, _), Answer::Said(w), Answer::Refused(5)) if w == "unreached" => Ok(Judged::SkippedUnreached),
+            (Call::Decode(..), Answer::Said(w), Answer::Refused(5)) if w.starts_with("panic") && !w.contains("stand-in") => Ok(Judged::SkippedPanic),
+            _ => Err(format!("answers:\n  Rust  {rust:?}\n  model {model:?} (and the port)")),
+        }
+    }
+    /// Everything that is kept between calls.
+    fn same(&mut self) -> Result<(), String> {
+        let (port, shadow, state) = (&self.port.buffers, &self.shadow, self.state());
+        let at = |a: &[u8], b: &[u8]| a.iter().zip(b).position(|(x, y)| x != y);
+        let n_at = |a: &[u32], b: &[u32]| a.iter().zip(b).position(|(x, y)| x != y);
+        if self.port.state != state {
+            return Err(format!("state: port {:?}, model {state:?}", self.port.state));
+        }
+        if port != shadow {
+            let trees = [at(&port.spt, &shadow.spt), at(&port.tsp, &shadow.tsp)];
+            let directories = [n_at(&port.spt_dir, &shadow.spt_dir), n_at(&port.tsp_dir, &shadow.tsp_dir)];
+            let prune = port.prune.iter().zip(&shadow.prune).position(|(x, y)| x != y);
+            return Err(format!("buffers differ first at: trees {trees:?}, directories {directories:?}, prune list {prune:?}"));
+        }
+        if self.closed {
+            return Ok(());
+        }
+        for time_first in [false, true] {
+            let (rust, model) = (self.rust.raw(time_first), &self.records[time_first as usize]);
+            if rust.len() != model.len() || rust.iter().zip(model).any(|((k, v), (l, w))| k[..] != l[..] || v[..] != w[..]) {
+                return Err(format!("the Rust's tree and the model's differ, time-first {time_first}"));
+            }
+        }
+        Ok(())
+    }
+}

@@ -1,0 +1,81 @@
+//! together KIND FROM TO N ..: for each seed from FROM to TO, N random calls of that KIND go through the customer's Rust, the
+//! model and the port in one process (three/mod.rs). KIND: keys, raw, shared, wide, refusals (the call language's), untied,
+//! tied, full, values (gen_steps.rs). Prints for each run how many calls were judged by whom and what was skipped, and then
+//! how often each thing occurred in all of them. Ends with 1 at the first difference, with the fewest steps that show one.
+//!
+//! together least M KIND FROM TO N ..: the same, and ends with 1 if any row of the table is below M.
+use driver::call::call;
+use driver::rng::Rng;
+use driver::step::{Front, Step};
+use driver::three::run::{run, show, smallest};
+use driver::three::table::Table;
+use driver::three::Judged;
+use driver::{gen, gen_steps};
+use std::collections::BTreeMap;
+
+const LINES: [&str; 5] = ["keys", "raw", "shared", "wide", "refusals"];
+
+/// The steps of a seed, and how many lines were no call.
+fn steps(seed: u64, n: u64, kind: &str) -> (Vec<Step>, u64) {
+    if gen_steps::KINDS.contains(&kind) {
+        return (gen_steps::steps(seed, n, kind), 0);
+    }
+    let (mut text, mut r) = (vec![], Rng(!seed));
+    gen::write(seed, n, kind, &mut text);
+    let lines: Vec<_> = String::from_utf8(text).unwrap().lines().map(call).collect();
+    let all = lines.len();
+    let steps: Vec<Step> = lines.into_iter().flatten().map(|call| Step { call, front: Front::Plain, salt: r.next() }).collect();
+    let bad = all - steps.len();
+    (steps, bad as u64)
+}
+
+fn usage() -> ! {
+    eprintln!("together [least M] KIND FROM TO N ..");
+    std::process::exit(2)
+}
+
+fn main() {
+    let args: Vec<String> = std::env::args().skip(1).collect();
+    let mut args: Vec<&str> = args.iter().map(|a| a.as_str()).collect();
+    let number = |t: &str| t.parse::<u64>().unwrap_or_else(|_| usage());
+    let mut least = 0;
+    if args.first() == Some(&"least") && args.len() > 2 {
+        least = number(args[1]);
+        args.drain(..2);
+    }
+    if args.is_empty() || args.len() % 4 != 0 {
+        usage()
+    }
+    let mut table = Table::default();
+    for job in args.chunks(4) {
+        let (kind, from, to, n) = (job[0], number(job[1]), number(job[2]), number(job[3]));
+        if !LINES.contains(&kind) && !gen_steps::KINDS.contains(&kind) {
+            usage()
+        }
+        let (mut judged, mut bad) = (BTreeMap::new(), 0);
+        for seed in from..=to {
+            let (steps, no_call) = steps(seed, n, kind);
+            bad += no_call;
+            if let Err((at, _)) = run(&steps, &mut table, &mut judged) {
+                println!("{kind}, seed {seed}, step {at}:");
+                let (few, words) = smallest(&steps);
+                println!("{}differs: {words}", show(&few));
+                std::process::exit(1);
+            }
+        }
+        let by = |j: Judged| judged.get(&j).copied().unwrap_or(0);
+        print!("{kind} {from} {to} {n}: {} by the Rust and the model, {} by the model", by(Judged::ByBoth), by(Judged::ByModel));
+        print!("; the Rust differs in {} (1.2, 5), {} (2, read)", by(Judged::SkippedArea), by(Judged::SkippedRead));
+        println!(", {} (2, panics), {} (2, unreached); {bad} lines are no call", by(Judged::SkippedPanic), by(Judged::SkippedUnreached));
+    }
+    let mut low = 0;
+    for (row, n) in table.all() {
+        let rare = n < least;
+        low += rare as u64;
+        println!("{n:>9}  {row}{}", if rare { "    HARDLY REACHED" } else { "" });
+    }
+    if low > 0 {
+        println!("{low} rows below {least}");
+        std::process::exit(1);
+    }
+}

@@ -1,0 +1,147 @@
+//! A store as a list of entries in order of subspace, path and time, and document 01's calls on it. A call that is refused
+//! answers its number.
+use crate::*;
+
+pub type Refusal = u8;
+/// Offset and length of a record in the subspace-first tree.
+pub type Pair = (u32, u32);
+
+#[derive(Clone, Debug, PartialEq, Eq)]
+pub enum Verdict {
+    /// The pairs of the records that were removed, as they stood before the call.
+    Taken(Vec<Pair>),
+    /// A stored entry that is newer, with its token.
+    Obsolete(Entry, Token),
+}
+
+#[derive(Clone, Debug, PartialEq, Eq)]
+pub struct Store {
+    pub namespace: Namespace,
+    /// None is no limit at all, which 01 does not have; 0 is what a refused opening leaves.
+    pub limit: Option<u64>,
+    pub bounds: Bounds,
+    list: Vec<Stored>,
+}
+
+impl Store {
+    pub fn unlimited(namespace: Namespace, bounds: Bounds) -> Store {
+        Store { namespace, limit: None, bounds, list: vec![] }
+    }
+    /// What a refused opening leaves: a state that is all 0, so that every call on the store is refused with 1.
+    pub fn closed(bounds: Bounds) -> Store {
+        Store { namespace: [0; 16], limit: Some(0), bounds, list: vec![] }
+    }
+    pub fn open(namespace: Namespace, limit: u64, bounds: Bounds) -> Result<Store, Refusal> {
+        if (1..=1024).contains(&limit) { Ok(Store { namespace, limit: Some(limit), bounds, list: vec![] }) } else { Err(1) }
+    }
+    pub fn entries(&self) -> &[Stored] {
+        &self.list
+    }
+    /// 1 if the store is none; 4 if one of the paths is illegal.
+    pub fn refusal(&self, paths: &[&Path]) -> Result<(), Refusal> {
+        if self.limit == Some(0) {
+            return Err(1);
+        }
+        if paths.iter().all(|p| self.bounds.legal(p)) { Ok(()) } else { Err(4) }
+    }
+    pub fn ingest(&mut self, e: &Entry, token: &Token, prevent_pruning: bool) -> Result<Verdict, Refusal> {
+        self.refusal(&[&e.path])?;
+        if e.namespace != self.namespace {
+            return Err(6);
+        }
+        if let Some(x) = self.list.iter().find(|x| x.entry.covers(e) && x.entry.is_newer_than(e)) {
+            return Ok(Verdict::Obsolete(x.entry.clone(), x.token));
+        }
+        let outdated = |x: &Stored| e.covers(&x.entry) && !x.entry.is_newer_than(e);
+        let (mut at, mut pruned) = (0, vec![]);
+        for x in &self.list {
+            let length = record(x, false).len() as u32;
+            if outdated(x) {
+                pruned.push((at, length));
+            }
+            at += length;
+        }
+        if prevent_pruning && !pruned.is_empty() {
+            return Err(7);
+        }
+        if self.limit.is_some_and(|limit| (self.list.len() - pruned.len()) as u64 >= limit) {
+            return Err(8);
+        }
+        self.list.retain(|x| !outdated(x));
+        let triple = |e: &Entry| (e.subspace, e.path.clone(), e.timestamp);
+        let place = self.list.partition_point(|x| triple(&x.entry) < triple(e));
+        self.list.insert(place, Stored { entry: e.clone(), token: *token, available: 0 });
+        Ok(Verdict::Taken(pruned))
+    }
+    fn place_of(&self, s: &Subspace, p: &Path) -> Option<usize> {
+        self.list.iter().position(|x| x.entry.subspace == *s && x.entry.path == *p)
+    }
+    /// An absent entry answers done, whatever digest was expected.
+    pub fn forget_entry(&mut self, s: &Subspace, p: &Path, expected: Option<&Digest>) -> Result<(), Refusal> {
+        self.refusal(&[p])?;
+        if let Some(i) = self.place_of(s, p) {
+            if expected.is_some_and(|d| *d != self.list[i].entry.payload_digest) {
+                return Err(9);
+            }
+            self.list.remove(i);
+        }
+        Ok(())
+    }
+    pub fn forget_area(&mut self, area: &Area, protected: Option<&Area>) -> Result<u64, Refusal> {
+        self.refusal(&[Some(&area.path), protected.map(|a| &a.path)].into_iter().flatten().collect::<Vec<_>>())?;
+        let before = self.list.len();
+        self.list.retain(|x| !area.includes(&x.entry) || protected.is_some_and(|a| a.includes(&x.entry)));
+        Ok((before - self.list.len()) as u64)
+    }
+    pub fn entry(&self, s: &Subspace, p: &Path, ignore: Ignore) -> Result<Option<Stored>, Refusal> {
+        self.refusal(&[p])?;
+        Ok(self.place_of(s, p).map(|i| self.list[i].clone()).filter(|x| !ignore.passes_over(x)))
+    }
+    fn matches(&self, ignore: Ignore, includes: impl Fn(&Entry) -> bool) -> Vec<u64> {
+        let shown = |i: &usize| includes(&self.list[*i].entry) && !ignore.passes_over(&self.list[*i]);
+        (0..self.list.len()).filter(shown).map(|i| i as u64).collect()
+    }
+    /// The places of an area's matches, in key order.
+    pub fn query_area(&self, area: &Area, ignore: Ignore) -> Result<Vec<u64>, Refusal> {
+        self.refusal(&[&area.path])?;
+        Ok(self.matches(ignore, |e| area.includes(e)))
+    }
+    /// The places of a 3d range's matches, in key order.
+    pub fn query_range(&self, r: &Range3d, ignore: Ignore) -> Result<Vec<u64>, Refusal> {
+        self.refusal(&[Some(&r.paths.start), r.paths.end.as_ref()].into_iter().flatten().collect::<Vec<_>>())?;
+        Ok(self.matches(ignore, |e| r.includes(e)))
+    }
+    pub fn count_area(&self, area: &Area) -> Result<u64, Refusal> {
+        let all = Ignore { incomplete: false, empty: false };
+        Ok(self.query_area(area, all)?.len() as u64)
+    }
+    pub fn summarise(&self, r: &Range3d) -> Result<u64, Refusal> {
+        let all = Ignore { incomplete: false, empty: false };
+        Ok(self.query_range(r, all)?.len() as u64)
+    }
+    /// The matches in time-first order from the last: the times start at that of the first entry met that breaks a
+    /// limit, else of the least match, else as given. A limit of 2^64 - 1 means none; a sum past it counts as over.
+    pub fn area_of_interest_to_range(&self, area: &Area, max_count: u64, max_size: u64) -> Result<Range3d, Refusal> {
+        self.refusal(&[&area.path])?;
+        let mut r = self.bounds.area_range(area);
+        let mut met: Vec<&Entry> = self.list.iter().map(|x| &x.entry).filter(|e| area.includes(e)).collect();
+        met.sort_by_key(|e| tsp(&e.subspace, &e.path, e.timestamp));
+        let (mut count, mut size) = (0u64, 0u128);
+        for e in met.into_iter().rev() {
+            r.times.start = e.timestamp;
+            count += 1;
+            size += e.payload_length as u128;
+            if max_count != u64::MAX && count > max_count || max_size != u64::MAX && size > max_size as u128 {
+                break;
+            }
+        }
+        Ok(r)
+    }
+    /// From outside, as no call of the store does: sets the available length, at most the payload length.
+    pub fn poke_available(&mut self, s: &Subspace, p: &Path, n: u64) -> bool {
+        let Some(i) = self.place_of(s, p) else { return false };
+        let x = &mut self.list[i];
+        x.available = n.min(x.entry.payload_length);
+        true
+    }
+}

@@ -1,0 +1,107 @@
+//! Document 01's values: plain bytes, numbers and lists. Orders are those of bytes and numbers.
+
+pub type Namespace = [u8; 16];
+pub type Subspace = [u8; 16];
+pub type Digest = [u8; 32];
+pub type Token = [u8; 64];
+/// A path's components. Their order as lists of lists of bytes is the order of paths.
+pub type Path = Vec<Vec<u8>>;
+
+#[derive(Clone, Debug, PartialEq, Eq)]
+pub struct Entry {
+    pub namespace: Namespace,
+    pub subspace: Subspace,
+    pub path: Path,
+    pub timestamp: u64,
+    pub payload_length: u64,
+    pub payload_digest: Digest,
+}
+
+/// An entry as it is stored.
+#[derive(Clone, Debug, PartialEq, Eq)]
+pub struct Stored {
+    pub entry: Entry,
+    pub token: Token,
+    pub available: u64,
+}
+
+/// A closed end shuts out its own value; none is open.
+#[derive(Clone, Debug, PartialEq, Eq)]
+pub struct Range<T> {
+    pub start: T,
+    pub end: Option<T>,
+}
+
+/// One subspace or any; all paths that `path` prefixes; a range of times.
+#[derive(Clone, Debug, PartialEq, Eq)]
+pub struct Area {
+    pub subspace: Option<Subspace>,
+    pub path: Path,
+    pub times: Range<u64>,
+}
+
+#[derive(Clone, Debug, PartialEq, Eq)]
+pub struct Range3d {
+    pub subspaces: Range<Subspace>,
+    pub paths: Range<Path>,
+    pub times: Range<u64>,
+}
+
+/// The two flags of a query.
+#[derive(Clone, Copy, Debug, PartialEq, Eq)]
+pub struct Ignore {
+    pub incomplete: bool,
+    pub empty: bool,
+}
+
+impl<T: Ord> Range<T> {
+    pub fn includes(&self, value: &T) -> bool {
+        self.start <= *value && self.end.as_ref().is_none_or(|end| value < end)
+    }
+}
+
+impl Area {
+    pub fn includes(&self, e: &Entry) -> bool {
+        self.subspace.is_none_or(|s| s == e.subspace) && is_prefix(&self.path, &e.path) && self.times.includes(&e.timestamp)
+    }
+}
+
+impl Range3d {
+    pub fn includes(&self, e: &Entry) -> bool {
+        self.subspaces.includes(&e.subspace) && self.paths.includes(&e.path) && self.times.includes(&e.timestamp)
+    }
+}
+
+impl Ignore {
+    /// Whether a query with these flags passes over the entry.
+    pub fn passes_over(&self, x: &Stored) -> bool {
+        self.incomplete && x.available < x.entry.payload_length || self.empty && x.entry.payload_length == 0
+    }
+}
+
+/// By whole components.
+pub fn is_prefix(a: &Path, b: &Path) -> bool {
+    b.starts_with(a)
+}
+
+impl Entry {
+    /// By timestamp, then digest as bytes, then payload length, each strictly.
+    pub fn is_newer_than(&self, other: &Entry) -> bool {
+        self.recency() > other.recency()
+    }
+    /// Of one namespace and subspace, the path being the other's or prefixing it, and newer.
+    pub fn prunes(&self, other: &Entry) -> bool {
+        self.namespace == other.namespace && self.covers(other) && self.is_newer_than(other)
+    }
+    /// Of one subspace, the path being the other's or prefixing it.
+    pub fn covers(&self, other: &Entry) -> bool {
+        self.subspace == other.subspace && is_prefix(&self.path, &other.path)
+    }
+    /// Of one subspace, one path extending the other, and neither newer.
+    pub fn ties(&self, other: &Entry) -> bool {
+        self.path != other.path && (self.covers(other) || other.covers(self)) && self.recency() == other.recency()
+    }
+    fn recency(&self) -> (u64, Digest, u64) {
+        (self.timestamp, self.payload_digest, self.payload_length)
+    }
+}

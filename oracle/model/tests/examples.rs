@@ -1,0 +1,145 @@
+//! Document 01's examples, with answers as it states them.
+use model::*;
+
+fn p(comps: &[&[u8]]) -> Path {
+    comps.iter().map(|c| c.to_vec()).collect()
+}
+fn sub(n: u8) -> Subspace {
+    let mut s = [0; 16];
+    s[15] = n;
+    s
+}
+fn entry(path: Path, timestamp: u64, payload_length: u64, digest: u8) -> Entry {
+    Entry { namespace: [0; 16], subspace: sub(1), path, timestamp, payload_length, payload_digest: [digest; 32] }
+}
+const ALL: Ignore = Ignore { incomplete: false, empty: false };
+const TOKEN: Token = [0; 64];
+
+#[test]
+fn keys() {
+    let path = |p: Path| spt(&sub(0), &p, 0)[16..].to_vec();
+    assert_eq!(path(p(&[])), [&[0, 0][..], &[0; 8]].concat());
+    assert_eq!(path(p(&[&[]])), [&[0, 1, 0, 0][..], &[0; 8]].concat());
+    assert_eq!(path(p(&[&[0x62], &[0]])), [&[0x62, 0, 1, 0, 2, 0, 1, 0, 0][..], &[0; 8]].concat());
+    let longest = p(&[&[0; 64], &[0; 64], &[], &[], &[], &[], &[], &[]]);
+    assert_eq!((spt(&sub(1), &p(&[]), 5).len(), tsp(&sub(1), &longest, 5).len()), (26, 298));
+    assert_eq!(FIELD.decode(true, &tsp(&sub(1), &longest, 5)), Some((sub(1), longest, 5)));
+    // 00 before 03 or more, an unfinished component, a byte left over, a cut key.
+    for path in [&[0, 3, 0, 1, 0, 0][..], &[0x61, 0, 0], &[0, 0, 0], &[0]] {
+        assert_eq!(FIELD.decode(true, &[&[0; 24], path].concat()), None);
+    }
+}
+
+#[test]
+fn paths() {
+    let up = [p(&[]), p(&[&[]]), p(&[&[0]]), p(&[&[1]])];
+    assert!(up.windows(2).all(|w| w[0] < w[1]));
+    assert!(is_prefix(&p(&[&[0x61]]), &p(&[&[0x61], &[0x62]])) && !is_prefix(&p(&[&[0x61]]), &p(&[&[0x61, 0x62]])));
+    assert!(FIELD.legal(&p(&[&[0; 64]])) && !FIELD.legal(&p(&[&[0; 65]])));
+    assert!(FIELD.legal(&vec![vec![]; 8]) && !FIELD.legal(&vec![vec![]; 9]));
+    assert!(FIELD.legal(&p(&[&[0; 64], &[0; 64]])) && !FIELD.legal(&p(&[&[0; 64], &[0; 64], &[0]])));
+    assert_eq!(FIELD.above(&p(&[&[0x61]])), Some(p(&[&[0x61, 0]])));
+    assert_eq!(FIELD.above(&p(&[])), None);
+    assert_eq!(FIELD.above(&p(&[&[7], &[255; 64]])), Some(p(&[&[7, 0]])));
+    assert_eq!(FIELD.above(&p(&[&[255; 64], &[255; 64]])), None);
+}
+
+#[test]
+fn path_values() {
+    let (mut bytes, mut ends) = ([0xee; 128], [7; 8]);
+    (bytes[0], ends[0], ends[1]) = (0x61, 1, 1);
+    assert_eq!(path_of_value(&bytes, &ends, 2), Some(p(&[&[0x61], &[]])));
+    assert_eq!(path_of_value(&bytes, &ends, 9), None);
+    assert_eq!(path_of_value(&bytes, &ends, u64::MAX), None);
+    ends[1] = 0;
+    assert_eq!(path_of_value(&bytes, &ends, 2), None);
+    assert_eq!(path_of_value(&bytes, &ends, 1), Some(p(&[&[0x61]])));
+    ends[0] = 65;
+    assert_eq!(path_of_value(&bytes, &ends, 1), None);
+    (ends[0], ends[1], ends[2]) = (64, 128, 129);
+    assert!(path_of_value(&bytes, &ends, 2).is_some() && path_of_value(&bytes, &ends, 3).is_none());
+}
+
+#[test]
+fn newer_and_times() {
+    let (a, b) = (entry(p(&[&[0x61]]), 5, 3, 10), entry(p(&[&[0x61], &[0x62]]), 5, 3, 10));
+    assert!(!a.is_newer_than(&b) && !b.is_newer_than(&a) && a.ties(&b) && !a.ties(&a));
+    assert!(entry(p(&[]), 5, 0, 11).prunes(&a) && entry(p(&[]), 5, 4, 10).prunes(&b) && !entry(p(&[]), 4, 9, 99).prunes(&a));
+    let times = Range { start: 5, end: Some(10) };
+    assert!(times.includes(&9) && !times.includes(&10) && !times.includes(&4));
+    assert!(Range { start: 0, end: None }.includes(&u64::MAX));
+}
+
+#[test]
+fn ties_and_limit() {
+    let (short, long) = (entry(p(&[&[0x61]]), 5, 3, 10), entry(p(&[&[0x61], &[0x62]]), 5, 3, 10));
+    let mut s = Store::open([0; 16], 64, FIELD).unwrap();
+    s.ingest(&long, &TOKEN, false).unwrap();
+    assert_eq!(s.ingest(&short, &TOKEN, true), Err(7));
+    assert_eq!(s.ingest(&short, &TOKEN, false), Ok(Verdict::Taken(vec![(0, 144)])));
+    assert_eq!(s.entries().len(), 1);
+    assert_eq!(s.ingest(&long, &TOKEN, false), Ok(Verdict::Taken(vec![])));
+    assert_eq!(s.entries().len(), 2);
+    let mut s = Store::open([0; 16], 1, FIELD).unwrap();
+    s.ingest(&short, &TOKEN, false).unwrap();
+    assert_eq!(s.ingest(&entry(p(&[&[0x62]]), 9, 0, 0), &TOKEN, false), Err(8));
+    assert_eq!(s.ingest(&entry(p(&[]), 6, 0, 0), &TOKEN, false), Ok(Verdict::Taken(vec![(0, 141)])));
+    assert_eq!(s.ingest(&short, &TOKEN, true), Ok(Verdict::Obsolete(entry(p(&[]), 6, 0, 0), TOKEN)));
+    let other = Entry { namespace: [1; 16], ..short.clone() };
+    assert_eq!(s.ingest(&other, &TOKEN, false), Err(6));
+    assert_eq!(s.ingest(&Entry { path: vec![vec![]; 9], ..other }, &TOKEN, false), Err(4));
+    assert_eq!((Store::open([0; 16], 0, FIELD), Store::open([0; 16], 1025, FIELD)), (Err(1), Err(1)));
+}
+
+/// The four lines of the listing program.
+#[test]
+fn listing() {
+    let mut s = Store::open([0; 16], 64, FIELD).unwrap();
+    let root = entry(p(&[]), 6, 0, 12);
+    let deep = entry(p(&[&[0x61], &[0x62]]), 7, 1, 11);
+    assert_eq!(s.ingest(&entry(p(&[&[0x62]]), 5, 3, 10), &TOKEN, false), Ok(Verdict::Taken(vec![])));
+    assert!(matches!(s.ingest(&entry(p(&[&[0x62], &[0]]), 4, 3, 10), &TOKEN, false), Ok(Verdict::Obsolete(..))));
+    assert_eq!(s.ingest(&deep, &TOKEN, false), Ok(Verdict::Taken(vec![])));
+    assert!(matches!(s.ingest(&root, &TOKEN, false), Ok(Verdict::Taken(pruned)) if pruned.len() == 1));
+    assert_eq!(s.entries().iter().map(|x| x.entry.clone()).collect::<Vec<_>>(), [root, deep]);
+    let all = Area { subspace: None, path: p(&[]), times: Range { start: 0, end: None } };
+    assert_eq!(s.query_area(&all, ALL), Ok(vec![0, 1]));
+    assert_eq!(s.query_area(&all, Ignore { empty: true, ..ALL }), Ok(vec![1]));
+    assert_eq!(s.area_of_interest_to_range(&all, u64::MAX, 0).unwrap().times.start, 7);
+    assert_eq!(s.area_of_interest_to_range(&all, u64::MAX, 1).unwrap().times.start, 6);
+    assert_eq!(s.forget_area(&all, Some(&Area { path: p(&[&[0x61]]), ..all.clone() })), Ok(1));
+    assert_eq!(s.forget_entry(&sub(1), &p(&[&[0x61], &[0x62]]), Some(&[0; 32])), Err(9));
+    assert_eq!(s.forget_entry(&sub(1), &p(&[&[0x61]]), Some(&[0; 32])), Ok(()));
+}
+
+/// docs/FORMAT.md's worked store, and a byte changed anywhere in it.
+#[test]
+fn buffers() {
+    let mut s = Store::open([0; 16], 2, FIELD).unwrap();
+    s.ingest(&entry(p(&[&[0x62], &[0]]), 5, 3, 10), &[0x42; 64], false).unwrap();
+    s.ingest(&entry(p(&[&[0x61]]), 7, 1, 11), &[0x42; 64], false).unwrap();
+    let ((mut a, mut ad), (mut b, mut bd)) = (image(s.entries(), false, 2), image(s.entries(), true, 2));
+    assert_eq!((&ad, &bd), (&vec![0, 141, 141, 145], &vec![0, 145, 145, 141]));
+    assert_eq!(a[141 + 16..141 + 25], [0x62, 0, 1, 0, 2, 0, 1, 0, 0]);
+    let state = State { namespace: [0; 16], count: 2, limit: 2 };
+    let judged = |a: &[u8], ad: &[u32], b: &[u8], bd: &[u32]| well_formed(&state, Lent { spt: a, spt_dir: ad, tsp: b, tsp_dir: bd });
+    assert_eq!(judged(&a, &ad, &b, &bd), Some(s.entries().to_vec()));
+    for i in 0..820 {
+        a[i] ^= 1;
+        assert_eq!(judged(&a, &ad, &b, &bd), None, "byte {i} of the subspace-first tree");
+        a[i] ^= 1;
+        b[i] ^= 0x80;
+        assert_eq!(judged(&a, &ad, &b, &bd), None, "byte {i} of the time-first tree");
+        b[i] ^= 0x80;
+    }
+    for i in 0..4 {
+        ad[i] += 1;
+        assert_eq!(judged(&a, &ad, &b, &bd), None);
+        ad[i] -= 1;
+        bd[i] = !bd[i];
+        assert_eq!(judged(&a, &ad, &b, &bd), None);
+        bd[i] = !bd[i];
+    }
+    let lent = Lent { spt: &a, spt_dir: &ad, tsp: &b, tsp_dir: &bd };
+    assert_eq!((rooms(2, lent, Some(2)), rooms(0, lent, None), rooms(3, lent, None), rooms(2, lent, Some(1))), (None, Some(1), Some(2), Some(2)));
+}
