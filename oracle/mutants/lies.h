@@ -94,6 +94,49 @@ MAY static vb_ingested lie_ingest_entry(vb_state state, VB_BUFFERS, vb_pair *pru
     return r;
 }
 
+/* The keys' layer */
+
+MAY static vb_compared lie_path_cmp(vb_path p, vb_path q) {
+    vb_compared c = vb_path_cmp(p, q);
+    if (LIE == FOUR_OF_ONE_PATH && c.refusal && vb_path_is_legal(p)) c.refusal = 0, c.less = 1;
+    return c;
+}
+
+MAY static vb_answer lie_is_newer_than(vb_entry a, vb_entry b) {
+    vb_answer n = vb_entry_is_newer_than(a, b);
+    if (LIE == FOUR_IF_NEEDED && n.refusal && a.timestamp != b.timestamp) n.refusal = 0, n.yes = a.timestamp > b.timestamp;
+    return n;
+}
+
+MAY static vb_answer lie_prunes(vb_entry a, vb_entry b) {
+    vb_answer n = vb_entry_prunes(a, b);
+    if (LIE == FOUR_IF_NEEDED && n.refusal && memcmp(a.namespace_id, b.namespace_id, 16)) n.refusal = 0;
+    return n;
+}
+
+MAY static vb_answer lie_range_includes(vb_range range, vb_subspace subspace, vb_path path, uint64_t timestamp) {
+    vb_answer n = vb_range_includes_triplet(range, subspace, path, timestamp);
+    if (LIE == OPEN_END_LOOKED_AT && range.paths.open && !vb_path_is_legal(range.paths.end)) n.refusal = 4, n.yes = 0;
+    return n;
+}
+
+MAY static vb_encoded lie_encode(vb_subspace subspace, vb_path path, uint64_t timestamp, uint8_t *out, size_t out_len) {
+    uint8_t room[VB_KEY_MOST];
+    vb_encoded e = vb_encode_spt_entry_key(subspace, path, timestamp, out, out_len);
+    if (LIE == SHORT_KEY_BUFFER && e.refusal == 2 && vb_path_is_legal(path)) {
+        e = vb_encode_spt_entry_key(subspace, path, timestamp, room, VB_KEY_MOST);
+        if (e.length <= out_len) memcpy(out, room, e.length);
+        else e.length = 0, e.refusal = 2;
+    }
+    if (LIE == BEHIND_THE_KEY && !e.refusal && e.length < out_len) out[e.length] = 0;
+    return e;
+}
+
+#define vb_path_cmp lie_path_cmp
+#define vb_entry_is_newer_than lie_is_newer_than
+#define vb_entry_prunes lie_prunes
+#define vb_range_includes_triplet lie_range_includes
+#define vb_encode_spt_entry_key lie_encode
 #define vb_count_area lie_count_area
 #define vb_summarise lie_summarise
 #define vb_find_entry lie_find_entry
