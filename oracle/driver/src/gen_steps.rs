@@ -2,6 +2,7 @@
 //! what is stored. KIND: `untied`, without ties among the entries that are handed in, so that the Rust stays a judge when
 //! ties change; `tied`, with many; `full`, stores of up to 1,024 entries, filled and kept full; `values`, calls that need no
 //! store. The same seed gives the same steps.
+use crate::answer::Answer;
 use crate::call::Call;
 use crate::gen_any::Any;
 use crate::judge::Judge;
@@ -14,7 +15,7 @@ struct Gen {
     a: Any,
     kind: String,
     judge: Judge,
-    /// Handed in since the last opening.
+    /// Handed in since the last opening that was not refused.
     sent: Vec<Entry>,
 }
 
@@ -22,7 +23,6 @@ impl Gen {
     fn open(&mut self) -> Call {
         let limits: &[u64] = if self.kind == "full" { &[1024, 1024, 1024, 1024, 1023, 700] } else { &[1, 2, 4, 8, 16, 24, 32, 48, 64, 64, 64, 64, 100, 200] };
         let namespace = if self.a.r.one_in(4) { [0; 16] } else { self.a.subspace() };
-        self.sent.clear();
         Call::Open(namespace, Some(self.a.r.of(limits)))
     }
     fn namespace(&mut self) -> Namespace {
@@ -308,14 +308,36 @@ pub fn steps(seed: u64, n: u64, kind: &str) -> Vec<Step> {
         let call = if i == 0 && kind != "values" { g.open() } else { g.call() };
         let front = if i == 0 { Front::Plain } else { g.front(&call) };
         let salt = if g.a.r.one_in(12) { 0 } else { g.a.r.next() };
+        if let Call::Ingest(e, ..) = &call {
+            g.sent.push(e.clone());
+        }
         // What the generator knows is what the call does where nothing is wrong with what it is handed.
-        if front == Front::Plain {
-            if let Call::Ingest(e, ..) = &call {
-                g.sent.push(e.clone());
-            }
-            g.judge.exec(&call);
+        if front == Front::Plain && g.judge.exec(&call) == Answer::Opened {
+            g.sent.clear();
         }
         out.push(Step { call, front, salt });
     }
     out
+}
+
+#[cfg(test)]
+mod tests {
+    use super::*;
+    use crate::call::call;
+    use crate::show::show_call;
+
+    /// A call that a line can say whole is read back from it as it was.
+    #[test]
+    fn lines() {
+        for kind in KINDS {
+            for step in steps(7, 3000, kind) {
+                let read = call(&show_call(&step.call));
+                match step.call {
+                    // A line names no namespace for these, nor what is no part of a triple.
+                    Call::Newer(..) | Call::InArea(..) | Call::InRange(..) => assert!(read.is_some()),
+                    c => assert_eq!(read, Some(c)),
+                }
+            }
+        }
+    }
 }

@@ -3,15 +3,16 @@
 //! oracle model [hall]       the call language, answered by the model of document 01; not the Rust
 //! oracle list model         the listing program over the model; not the Rust
 //! oracle like [hall]        the calls themselves, without those that the Rust answers `unlike` (for vectors/)
-//! oracle gen SEED N KIND    N random calls; KIND: in, shared, hall, wide, refusals, calls, keys, raw
+//! oracle gen SEED N KIND    N random calls; KIND: in, shared, hall, wide, refusals, calls, keys, raw, untied, tied, full, values
 //! oracle bench              the Rust's speed
 //! oracle exhaust            all short sequences of a small set of ingests, the Rust beside the model
 //! oracle paths              successor and greater_but_not_prefixed against a walk over all short paths
 use driver::answer::Answer;
 use driver::call::*;
 use driver::judge::Judge;
-use driver::show::{short, show};
-use driver::{bench, gen, oracle, walks};
+use driver::show::{short, show, show_call};
+use driver::step::Front;
+use driver::{bench, gen, gen_steps, oracle, walks};
 use model::{FIELD, HALL};
 use std::io::{Read, Write};
 
@@ -102,6 +103,12 @@ fn main() {
         }
         ["gen", seed, n, kind] => match (seed.parse(), n.parse()) {
             (Ok(seed), Ok(n)) if gen::KINDS.contains(&kind) => gen::write(seed, n, kind, &mut out),
+            (Ok(seed), Ok(n)) if gen_steps::KINDS.contains(&kind) => {
+                for step in gen_steps::steps(seed, n, kind) {
+                    let faulty = if step.front == Front::Plain { String::new() } else { format!("# {:?} ", step.front) };
+                    writeln!(out, "{faulty}{}", show_call(&step.call)).unwrap();
+                }
+            }
             _ => usage(),
         },
         ["bench"] => bench::run(),

@@ -52,17 +52,19 @@ fn main() {
         if !LINES.contains(&kind) && !gen_steps::KINDS.contains(&kind) {
             usage()
         }
-        let (mut judged, mut bad) = (BTreeMap::new(), 0);
+        let (mut judged, mut bad, mut occurred) = (BTreeMap::new(), 0, Table::default());
         for seed in from..=to {
             let (steps, no_call) = steps(seed, n, kind);
             bad += no_call;
-            if let Err((at, _)) = run(&steps, &mut table, &mut judged) {
+            if let Err((at, _)) = run(&steps, &mut occurred, &mut judged) {
                 println!("{kind}, seed {seed}, step {at}:");
                 let (few, words) = smallest(&steps);
                 println!("{}differs: {words}", show(&few));
                 std::process::exit(1);
             }
         }
+        assert!(kind != "untied" || occurred.ties() == 0, "untied has ties");
+        table.merge(occurred);
         let by = |j: Judged| judged.get(&j).copied().unwrap_or(0);
         print!("{kind} {from} {to} {n}: {} by the Rust and the model, {} by the model", by(Judged::ByBoth), by(Judged::ByModel));
         print!("; the Rust differs in {} (1.2, 5), {} (2, read)", by(Judged::SkippedArea), by(Judged::SkippedRead));

@@ -102,6 +102,9 @@ impl Table {
     fn get(&self, row: &str) -> u64 {
         self.rows.iter().find(|r| r.0 == row).map_or(0, |r| r.1)
     }
+    pub fn ties(&self) -> u64 {
+        self.get("tie: the longer is stored") + self.get("tie: the shorter is stored")
+    }
     /// Every row, with those that never occurred.
     pub fn all(&self) -> Vec<(String, u64)> {
         let calls = CALLS.iter().map(|c| format!("call {c}"));
