@@ -66,7 +66,9 @@ fn sentences_of_refusals() {
 fn sizes_and_offsets() {
     let ours = [include_str!("../src/sys/values.rs"), include_str!("../src/sys/answers.rs")].concat();
     let mut compared = 0;
-    for line in HEADER.lines().filter(|line| line.starts_with("VB_ASSERT(sizeof(vb_")) {
+    // An assert may go on in the next line.
+    let header = HEADER.split("&&\n").map(str::trim_start).collect::<Vec<_>>().join("&& ");
+    for line in header.lines().filter(|line| line.starts_with("VB_ASSERT(sizeof(vb_")) {
         let name = &line["VB_ASSERT(sizeof(vb_".len()..line.find(')').unwrap()];
         let name: String = name.split('_').map(|word| word[..1].to_uppercase() + &word[1..]).collect();
         let layout = ours.lines().find(|line| line.trim().starts_with(&format!("{name}: ")) && line.ends_with(';')).expect(&name);
