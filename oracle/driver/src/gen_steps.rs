@@ -11,10 +11,10 @@ use model::*;
 
 pub const KINDS: [&str; 4] = ["untied", "tied", "full", "values"];
 
-struct Gen {
-    a: Any,
+pub struct Gen {
+    pub a: Any,
     kind: String,
-    judge: Judge,
+    pub judge: Judge,
     /// Handed in since the last opening that was not refused.
     sent: Vec<Entry>,
 }
@@ -235,53 +235,6 @@ impl Gen {
             _ => {
                 let time_first = self.a.r.one_in(2);
                 Call::Decode(time_first, self.raw_key(time_first))
-            }
-        }
-    }
-    /// A key, sound or damaged in one place or two.
-    fn raw_key(&mut self, time_first: bool) -> Vec<u8> {
-        let p = if self.a.r.one_in(8) { self.a.illegal() } else { self.a.legal() };
-        let (s, t) = (self.a.subspace(), self.a.time());
-        let mut k = if time_first != self.a.r.one_in(30) { tsp(&s, &p, t) } else { spt(&s, &p, t) };
-        for _ in 0..self.a.r.of(&[0, 0, 1, 1, 2]) {
-            let at = self.a.r.at(k.len().max(1));
-            let b = self.a.r.next() as u8;
-            let b = self.a.r.of(&[0, 1, 2, 3, 255, b]);
-            match self.a.r.below(6) {
-                0 => k.truncate(at),
-                1 => k.push(b),
-                2 => k.insert(at, b),
-                3 if !k.is_empty() => drop(k.remove(at)),
-                4 => drop(k.splice(at..at, [0, b])),
-                _ if !k.is_empty() => k[at] = b,
-                _ => {}
-            }
-        }
-        k
-    }
-    fn front(&mut self, call: &Call) -> Front {
-        let by = if self.a.r.one_in(2) { 1 } else { 1 + self.a.r.at(900) };
-        match call {
-            Call::Key(..) if self.a.r.one_in(6) => return Front::Short(5, by),
-            Call::Open(..) if self.a.r.one_in(4) => return Front::Short(self.a.r.at(4), by),
-            Call::Open(..) => return Front::Plain,
-            _ if !crate::step::on_store(call) || !self.a.r.one_in(14) => return Front::Plain,
-            _ => {}
-        }
-        let limit = self.judge.store.limit.unwrap_or(1024);
-        let count = self.judge.store.entries().len() as u64;
-        let any = self.a.number();
-        match self.a.r.below(8) {
-            0 | 1 => Front::Limit(self.a.r.of(&[0, 1025, limit + 1, limit.saturating_sub(1), u64::MAX, 1 << 63, any])),
-            2 => Front::Count(self.a.r.of(&[count + 1, count.saturating_sub(1), limit + 1, u64::MAX, any])),
-            3..=5 => Front::Short(self.a.r.at(if matches!(call, Call::Ingest(..)) { 5 } else { 4 }), by),
-            _ => {
-                let which = self.a.r.at(4);
-                // Mostly where records lie.
-                let used = if which % 2 == 0 { 150 * count + 60 } else { 2 * count + 2 };
-                let any = self.a.r.next();
-                let at = self.a.r.of(&[any % used, any % used, any]);
-                Front::Changed(which, at, self.a.r.next() as u32)
             }
         }
     }
