@@ -9,7 +9,7 @@ static uint32_t spt_dir[2 * LIMIT], tsp_dir[2 * LIMIT];
 static vb_pair pruned[LIMIT];
 #define STORE spt, sizeof spt, spt_dir, 2 * LIMIT, tsp, sizeof tsp, tsp_dir, 2 * LIMIT
 
-/* A path of components that slashes part. */
+/* A path of components that slashes part, at most 8 of them and 128 bytes. */
 static vb_path path_of(const char *text) {
     vb_path p;
     memset(&p, 0, sizeof p);

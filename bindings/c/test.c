@@ -365,6 +365,15 @@ static void keys(void) {
     IS(s.length, 0);
     IS(s.position, 25);
     IS(s.left, 8);
+    { /* refused inside a key: the reader stands where it stood */
+        const uint8_t none[3] = {0x61, 0, 3};
+        s = vb_read_component_at(none, 3, 1);
+        IS(s.refusal, 5);
+        IS(s.component, 0);
+        IS(s.length, 0);
+        IS(s.position, 1);
+        IS(s.left, 2);
+    }
     s = vb_read_component_at(spt, 33, SIZE_MAX);
     IS(s.refusal, 5);
     IS(s.component, 0);

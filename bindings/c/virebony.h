@@ -10,9 +10,10 @@
    writes a lent buffer during the call. Compare VB_EDITION with vb_edition() once.
 
    How to read a call. Structs go by value. A yes or no is a byte: handed in, every byte but 0 means yes; answered, it is 0 or 1. So no value is left
-   without a meaning. Every answer has a `refusal`, or says yes, or is a part: 0, or the first number of VB_* below that applies, in the order that
-   the call's comment lists. A refused call has changed no byte of any buffer; the state in its answer is the one that it was handed (all 0 for a
-   refused opening), and all else in the answer is 0. An entry, subspace or path that is answered where there is none is all 0. */
+   without a meaning. `refusal` is 0, or the first number of VB_* below that applies, in the order that the call's comment lists. A refused call has changed
+   no byte of any buffer; the state in its answer is the one that it was handed (all 0 for a refused opening), and all else in the answer is 0, but for a
+   prune list by value, which comes back as it was handed in, and a reader's position and what is left from it. An entry, subspace or path that is answered
+   where there is none is all 0. */
 #ifndef VIREBONY_H
 #define VIREBONY_H
 #include <stddef.h>
@@ -94,7 +95,7 @@ typedef struct { vb_path start, end; uint8_t open; } vb_paths;
 typedef struct { uint8_t any_subspace; vb_subspace subspace; vb_path path; vb_times times; } vb_area;
 typedef struct { vb_subspaces subspaces; vb_paths paths; vb_times times; } vb_range;
 
-/* The newest entries of an area: at most so many, and so many bytes of payload; UINT64_MAX means no limit. */
+/* What is asked for of an area: its newest entries, at most so many, and so many bytes of payload; UINT64_MAX means no limit. */
 typedef struct { vb_area area; uint64_t max_count, max_size; } vb_interest;
 
 /* Which entries a query passes over: those whose payload is not all there, those of an empty payload. */
@@ -145,8 +146,8 @@ uint32_t vb_edition(void);
 /* Opens a store of no entries, for at most `limit` of them: writes zeros up to the limit's room. Refused: 1, 2. */
 vb_opened vb_open(const uint8_t namespace_id[16], size_t limit, VB_BUFFERS);
 
-/* Files an entry with its token and available length 0. It is obsolete, and nothing changes, if a stored entry of the subspace at a prefix of its
-   path is newer. Else what it outdates is removed: entries at its path or below that are not newer. The pairs of these, as they stood before the call,
+/* Files an entry with its token and available length 0. It is obsolete, and nothing changes, if a stored entry of the subspace, at a prefix of its
+   path or the path itself, is newer. Else what it outdates is removed: entries at its path or below that are not newer. The pairs of these, as they stood before the call,
    in key order, go to the front of `prune`, which has at least `limit` pairs; `pruned` says how many, and what lies behind stays.
    Refused: 1, 2, 3, 4, 6, then obsolete, then 7 (with `prevent_pruning`), 8. */
 vb_ingested vb_ingest_entry(vb_state state, VB_BUFFERS, vb_pair *prune, size_t prune_len, vb_entry entry, const uint8_t token[64], uint8_t prevent_pruning);
@@ -157,8 +158,8 @@ vb_ingested vb_ingest_entry_numbers(vb_state state, VB_BUFFERS, uint32_t *prune,
 /* vb_ingest_entry over a prune list of 1024 pairs that goes in and comes back by value, 8 KB each way: for tests. Refused as there. */
 vb_pairs_ingested vb_ingest_entry_by_value(vb_state state, VB_BUFFERS, vb_pairs prune, vb_entry entry, const uint8_t token[64], uint8_t prevent_pruning);
 
-/* Drops the entry at a subspace and path, if there is one. With `expects`, only if its digest is the one expected; without, the digest is not looked
-   at. An absent entry answers done. Refused: 1, 2, 3, 4, 9. */
+/* Drops the entry at a subspace and path, if there is one. With `expects`, only if its digest is the one expected; without, the 32 bytes
+   play no part, but must be there. An absent entry answers done. Refused: 1, 2, 3, 4, 9. */
 vb_entry_forgotten vb_forget_entry(vb_state state, VB_BUFFERS, vb_subspace subspace, vb_path path, uint8_t expects, const uint8_t expected_digest[32]);
 
 /* Drops every entry that `area` includes and, with `protects`, `protected_area` does not; answers how many. Without `protects` the second area is not
@@ -237,7 +238,8 @@ vb_decoded vb_decode_spt_entry_key(const uint8_t *key, size_t key_len);
 vb_decoded vb_decode_tsp_entry_key(const uint8_t *key, size_t key_len);
 
 /* What a reader takes at a position of a key's path: a component, its length and bytes; or the path's end (`component` is 0). `position` is where the
-   reader then stands, `left` how many bytes are left. Refused: 5, and the reader stands where it stood. */
+   reader then stands, `left` how many bytes are left. Refused: 5, and the reader stands where it stood: `position` is `at`, `left` is
+   how many bytes are left from there. */
 vb_stepped vb_read_component_at(const uint8_t *key, size_t key_len, size_t at);
 
 /* The whole path at a position of a key, taken by a reader, and the position behind it. Refused: 5. */

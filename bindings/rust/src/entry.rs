@@ -152,7 +152,7 @@ impl LengthyAuthorisedEntry {
         &self.entry
     }
 
-    /// How many bytes of the payload are available; at most the payload's length.
+    /// How many bytes of the payload are available; of an entry that a store answers, at most the payload's length.
     pub fn available(&self) -> u64 {
         self.available
     }

@@ -51,7 +51,13 @@ impl Refusal {
 
     /// Passes an answer on, unless its number says that the call was refused.
     pub(crate) fn check<T>(number: u8, answer: T) -> Result<T, Refusal> {
-        Refusal::from_number(number).map_or(Ok(answer), Err)
+        match Refusal::from_number(number) {
+            Some(refusal) => Err(refusal),
+            None => {
+                assert_eq!(number, 0, "a refusal that this crate does not know");
+                Ok(answer)
+            }
+        }
     }
 }
 

@@ -74,7 +74,7 @@ pub extern "C" fn vb_query_area_place(
     plain_listed(query_area_place(state, spt, spt_dir, tsp, tsp_dir, whole, flags, place))
 }
 
-// `query::listing::query_area`: that match's record, as a part of the caller's subspace-first tree; no match or a refusal is 0 and 0.
+// What `query::listing::query_area` answers, by its place: that match's record, as a part of the caller's subspace-first tree; no match or a refusal is 0 and 0.
 #[no_mangle]
 pub extern "C" fn vb_query_area(
     state: State,
@@ -114,7 +114,7 @@ pub extern "C" fn vb_query_range_place(
     plain_listed(query_range_place(state, spt, spt_dir, tsp, tsp_dir, whole, flags, place))
 }
 
-// `query::listing::query_range`: that match's record, as a part of the caller's subspace-first tree; no match or a refusal is 0 and 0.
+// What `query::listing::query_range` answers, by its place: that match's record, as a part of the caller's subspace-first tree; no match or a refusal is 0 and 0.
 #[no_mangle]
 pub extern "C" fn vb_query_range(
     state: State,
@@ -167,7 +167,7 @@ pub extern "C" fn vb_summarise(
     summarise(state, spt, spt_dir, tsp, tsp_dir, whole)
 }
 
-// `query::interest::area_of_interest_to_range`: the 3d range of the newest entries of an area that keep its limits.
+// `query::interest::area_of_interest_to_range`: the 3d range of an area of interest: the area's own, its times starting at that of the entry that broke a limit.
 #[no_mangle]
 pub extern "C" fn vb_area_of_interest_to_range(
     state: State,
