@@ -67,7 +67,10 @@ impl Gen {
             _ => self.a.entry(n),
         };
         e.namespace = n;
-        while self.kind == "untied" && self.sent.iter().any(|x| x.ties(&e)) {
+        for _ in 0..64 {
+            if self.kind != "untied" || !self.sent.iter().any(|x| x.ties(&e)) {
+                break;
+            }
             e.payload_digest[self.a.r.at(32)] = self.a.r.next() as u8;
         }
         (e, token)

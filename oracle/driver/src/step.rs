@@ -10,7 +10,7 @@ pub struct Step {
 }
 
 /// What is wrong with what is handed in beside the call's own values. The Rust knows nothing of it: the model judges.
-/// Where it is no fault after all, the call is made without it.
+/// Where another limit is no fault after all, the call is made without it.
 #[derive(Clone, Copy, Debug, PartialEq)]
 pub enum Front {
     Plain,

@@ -92,13 +92,14 @@ impl Three {
             }),
         }
     }
-    /// Makes the call faulty: what is handed in, the refusal, and what to undo afterwards.
-    fn front(&mut self, step: &Step, plain: Handed) -> (Handed, Option<u8>, Option<(usize, usize, u32)>) {
+    /// Makes the call faulty: what is handed in, the refusal, and what to undo afterwards. Another limit may be no fault; all else
+    /// must be one to the model.
+    fn front(&mut self, step: &Step, plain: Handed) -> Result<(Handed, Option<u8>, Option<(usize, usize, u32)>), String> {
         let (mut h, mut undo) = (plain, None);
         let mut limit = h.state.limit as u64;
         let room = |which: usize| [RECORD_MOST * limit, 2 * limit, RECORD_MOST * limit, 2 * limit, limit][which] as usize;
         match step.front {
-            Front::Plain => return (plain, None, None),
+            Front::Plain => return Ok((plain, None, None)),
             Front::Limit(n) => h.state.limit = n as usize,
             Front::Count(n) => h.state.count = n as usize,
             Front::Short(which, by) if which < 5 => {
@@ -122,9 +123,13 @@ impl Three {
         let refusal = self.refused(&step.call, &h, limit);
         if refusal.is_none() {
             self.undo(undo);
-            return (plain, None, None);
+            return match step.front {
+                Front::Count(n) if n as usize != plain.state.count && on_store(&step.call) => Err("another count is no fault to the model".into()),
+                Front::Short(..) | Front::Changed(..) => Err("a short or changed buffer is no fault to the model".into()),
+                _ => Ok((plain, None, None)),
+            };
         }
-        (h, refusal, undo)
+        Ok((h, refusal, undo))
     }
     /// Changes a byte or a number of the port's, and answers what it was; or takes the change back.
     fn change(&mut self, which: usize, at: usize, by: u32) -> u32 {
@@ -169,7 +174,7 @@ impl Three {
             self.lend(step, *l);
         }
         let plain = Handed { state: self.port.state, lengths: self.port.buffers.lengths(), key: 298 + step.salt as usize % 9 };
-        let (h, refusal, undo) = self.front(step, plain);
+        let (h, refusal, undo) = self.front(step, plain)?;
         let model = refusal.map_or_else(|| self.judge.exec(call), Answer::Refused);
         if let Call::Avail(..) = call {
             return self.poke(call, model);
