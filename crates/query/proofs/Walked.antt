@@ -27,7 +27,7 @@ use Rattle.tree.specs.Value.{valueLength}
 use Rattle.tree.specs.Matching.{standsAt, letThrough, inArea, inRange, listedInArea, listedInRange}
 use Rattle.tree.specs.declared.matching.QueryIgnoreParams.{QueryIgnoreParams}
 use Rattle.tree.specs.declared.stored.KeyOrder.the-variants.{Spt}
-use Rattle.tree.proofs.FormedLaws.{record-long, formed-record, formed-ascends}
+use Rattle.tree.proofs.FormedLaws.{record-long, formed-record}
 use Rattle.tree.proofs.RecordLaws.{contents-length}
 use Rattle.store.specs.Store.{Store, treeOf, dirOf, held}
 use Rattle.store.specs.Ingest.{firstThat}
@@ -180,7 +180,7 @@ module _ (s : Store) (b : Bool) (test : Stored → Bool) (z : readRefusal field 
   lists = record {
     walks = walks-same _ _ _ _ places-are (λ k. ap at-match (places-are k)) 0 (matching field s test)
         (walk-from recs (of-record (s .state .«namespace_id») test) at-match no-part match-part recs 0 refl);
-    ascends = keep-ascends keyBelow (of-record (s .state .«namespace_id») test) recs (formed-ascends (formed-spt s passes));
+    ascends = keep-ascends keyBelow (of-record (s .state .«namespace_id») test) recs (passes .ordered Spt .ascends);
     entries = contents-keep (s .state .«namespace_id») test recs;
   }
 

@@ -24,17 +24,16 @@ use Rattle.key_laws.specs.Bytes.{Bytes}
 use Rattle.key_laws.specs.KeyOrder.{Sized}
 use Rattle.tree.specs.Value.{valueLength, valueBytes}
 use Rattle.tree.specs.Stored.{keyIn, orderIn, keyOf, keyBelow, Stored, stored, contents, tripleOf, valueFor, recordOf, Lawful, storedOf}
-use Rattle.tree.specs.Tree.{Formed, keysBelow, hasKey}
+use Rattle.tree.specs.Tree.{Ordered, Whole, keysBelow, hasKey}
 use Rattle.tree.specs.Matching.{outdates, removes}
 use Rattle.tree.specs.declared.stored.KeyOrder.{KeyOrder}
 use Rattle.tree.specs.declared.stored.KeyOrder.the-variants.{Spt, Tsp}
 use Rattle.tree.specs.declared.stored.LengthyAuthorisedEntry.{LengthyAuthorisedEntry}
-use Rattle.tree.proofs.FormedLaws.{formed-ascends}
 use Rattle.tree.proofs.RecordLaws.{value-length, key-ordered, key-apart, key-first, key-of-record, record-forth, contents-length, contents-in}
 use Rattle.tree.proofs.RecordParts.{key-fits}
 use Rattle.tree.proofs.WithinLaws.{Recorded, formed-recorded}
 use Rattle.tree.proofs.ContentLaws.{left-contents}
-use Rattle.tree.proofs.WellFormedLaws.{retain-formed, retain-records, retain-dir, retain-tree, insert-place}
+use Rattle.tree.proofs.WellFormedLaws.{retain-whole, retain-ordered, retain-records, retain-dir, retain-tree, insert-place}
 use Rattle.store.specs.Store.{recordMost}
 use Rattle.store.specs.Ingest.{lessIn, stays, filedIn}
 use Rattle.store.specs.Change.{inTree, Changed, FilesIn}
@@ -125,10 +124,10 @@ module _ (o : KeyOrder) (f : Figures) (ns : List ℕ) where
         elsewhere x y (a .0) (a .1) (triple-beside x y (name ∙ sym (w .named)) (sym g))
 
 -- What the marks of a test leave.
-module _ {o : KeyOrder} {count : ℕ} {dir tree : List ℕ} (v : Formed o count dir tree) (bytes : Bytes tree) (ns : List ℕ) (p : Stored → Bool)
+module _ {o : KeyOrder} {count : ℕ} {dir tree : List ℕ} (v : Whole o count dir tree) (bytes : Bytes tree) (ns : List ℕ) (p : Stored → Bool)
     (marks old : List ℕ) (em : marks ≡ put (marksOf p (inTree o ns count dir tree)) old) where
   kept-recorded : Recorded o field (kept marks (records count dir tree))
-  kept-recorded r m = formed-recorded v bytes r (kept-in marks (records count dir tree) m)
+  kept-recorded r m = formed-recorded (v .formed) bytes r (kept-in marks (records count dir tree) m)
 
   kept-contents : contents o field ns (kept marks (records count dir tree)) ≡ keep (λ (x : Stored). not (p x)) (inTree o ns count dir tree)
   kept-contents = left-contents o field ns p (records count dir tree) marks old em
@@ -165,13 +164,13 @@ module _ {o : KeyOrder} {ns : List ℕ} {count : ℕ} {dir tree : List ℕ} {a :
     (left : ℕ) (dir′ tree′ : List ℕ) (el : left ≡ length (kept marks (records count dir tree)))
     (et : tree′ ≡ treeBytes (length tree) (kept marks (records count dir tree))) (ed : dir′ ≡ dirNumbers (length dir) (kept marks (records count dir tree))) where
   others : Recorded o field (kept marks (records count dir tree))
-  others = kept-recorded (v .formed) bytes ns (removes (entryOf (a .entry))) marks old em
+  others = kept-recorded (v .whole) bytes ns (removes (entryOf (a .entry))) marks old em
 
   others-contents : contents o field ns (kept marks (records count dir tree)) ≡ keep (stays (entryOf (a .entry))) (inTree o ns count dir tree)
-  others-contents = kept-contents (v .formed) bytes ns (removes (entryOf (a .entry))) marks old em
+  others-contents = kept-contents (v .whole) bytes ns (removes (entryOf (a .entry))) marks old em
 
   others-length : left ≡ length (keep (stays (entryOf (a .entry))) (inTree o ns count dir tree))
-  others-length = el ∙ kept-length (v .formed) bytes ns (removes (entryOf (a .entry))) marks old em
+  others-length = el ∙ kept-length (v .whole) bytes ns (removes (entryOf (a .entry))) marks old em
 
   others-apart : (y : Stored) → y ∈ contents o field ns (kept marks (records count dir tree)) → (prunes (y .entry) (entryOf (a .entry)) ≡ false) × (removes (entryOf (a .entry)) y ≡ false)
   unfolding outdates
@@ -180,16 +179,19 @@ module _ {o : KeyOrder} {ns : List ℕ} {count : ℕ} {dir tree : List ℕ} {a :
       (any-none (outdates (entryOf (a .entry))) (inTree o ns count dir tree) (v .current) (k .0), not-true _ (k .1))
 
   others-records : records left dir′ tree′ ≡ kept marks (records count dir tree)
-  others-records = ap (λ (n : ℕ). records n dir′ tree′) el ∙ retain-records (v .formed) marks dir′ tree′ ed et
+  others-records = ap (λ (n : ℕ). records n dir′ tree′) el ∙ retain-records (v .whole) marks dir′ tree′ ed et
 
-  pub filing-formed : Formed o left dir′ tree′
-  filing-formed = subst (λ (n : ℕ). Formed o n dir′ tree′) (sym el) (retain-formed (v .formed) marks dir′ tree′ ed et)
+  pub filing-whole : Whole o left dir′ tree′
+  filing-whole = subst (λ (n : ℕ). Whole o n dir′ tree′) (sym el) (retain-whole (v .whole) marks dir′ tree′ ed et)
+
+  pub filing-ordered : Ordered o left dir′ tree′
+  filing-ordered = subst (λ (n : ℕ). Ordered o n dir′ tree′) (sym el) (retain-ordered (v .whole) marks dir′ tree′ ed et (v .ordered .ascends))
 
   pub filing-numbers : 2 * (left + 1) ≤ length dir′
-  filing-numbers = let r = v .numbers in omega (arith, others-length, retain-dir (v .formed) marks dir′ tree′ ed et)
+  filing-numbers = let r = v .numbers in omega (arith, others-length, retain-dir (v .whole) marks dir′ tree′ ed et)
 
   pub filing-many : left ≤ count
-  filing-many = omega (arith, others-length, keep-length (stays (entryOf (a .entry))) (inTree o ns count dir tree), contents-length o field ns (records count dir tree), records-many count dir tree (v .formed .few))
+  filing-many = omega (arith, others-length, keep-length (stays (entryOf (a .entry))) (inTree o ns count dir tree), contents-length o field ns (records count dir tree), records-many count dir tree (v .whole .formed .few))
 
   module _ (r : List ℕ) (er : r ≡ recordOf o (storedOf a)) where
     pub filing-bytes : length (joined (records left dir′ tree′)) + length r ≤ length tree′
@@ -197,7 +199,7 @@ module _ {o : KeyOrder} {ns : List ℕ} {count : ℕ} {dir tree : List ℕ} {a :
         let b = v .bytes in
         let k = records-most o field ns (kept marks (records count dir tree)) others in
         let m = written-most o a h (v .path) in
-        omega (arith, el, others-length, ap length er, ap (λ (l : List (List ℕ)). length (joined l)) others-records, retain-tree (v .formed) marks dir′ tree′ ed et)
+        omega (arith, el, others-length, ap length er, ap (λ (l : List (List ℕ)). length (joined l)) others-records, retain-tree (v .whole) marks dir′ tree′ ed et)
 
     module _ (key : List ℕ) (ek : key ≡ keyOf (recordOf o (storedOf a))) (at : ℕ) (place : at ≡ keysBelow key (records left dir′ tree′)) where
       pub filing-place : at ≤ left
@@ -217,7 +219,7 @@ module _ {o : KeyOrder} {ns : List ℕ} {count : ℕ} {dir tree : List ℕ} {a :
           let R = recordOf o (storedOf a) in
           let e : at ≡ keysBelow (keyOf R) K = place ∙ ap₂ keysBelow ek others-records in
           (λ i. inserted (e i) (er i) (others-records i))
-          ∙ insert-place R K (kept-ascends keyBelow marks (records count dir tree) (formed-ascends (v .formed))) (key-absent o field ns (storedOf a) h (v .named) K others others-apart)
+          ∙ insert-place R K (kept-ascends keyBelow marks (records count dir tree) (v .ordered .ascends)) (key-absent o field ns (storedOf a) h (v .named) K others others-apart)
           ∙ sym (insert-again o field ns (storedOf a) h K others)
           ∙ ap (λ (l : List Stored). map (recordOf o) (insert (lessIn o) (storedOf a) l)) others-contents
 
@@ -226,7 +228,7 @@ module _ {o : KeyOrder} {ns : List ℕ} {count : ℕ} {dir tree : List ℕ} {a :
           → Changed o (filedIn o (storedOf a) (inTree o ns count dir tree)) dir tree dir″ tree″ (left + 1)
       unfolding filedIn storedOf
       filing-done dir″ tree″ et2 ed2 = record {
-        bytes = et2 ∙ ap₂ treeBytes (retain-tree (v .formed) marks dir′ tree′ ed et) filing-inserted;
-        numbers = ed2 ∙ ap₂ dirNumbers (retain-dir (v .formed) marks dir′ tree′ ed et) filing-inserted;
+        bytes = et2 ∙ ap₂ treeBytes (retain-tree (v .whole) marks dir′ tree′ ed et) filing-inserted;
+        numbers = ed2 ∙ ap₂ dirNumbers (retain-dir (v .whole) marks dir′ tree′ ed et) filing-inserted;
         count = omega (arith, others-length, insert-length (lessIn o) (storedOf a) (keep (stays (entryOf (a .entry))) (inTree o ns count dir tree)));
       }

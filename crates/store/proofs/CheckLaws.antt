@@ -11,15 +11,14 @@ use lib.Dec.{leb, eqb}
 use borrow.Author.Tests.{leb-true, le-leb, lt-leb, eq-eqb, eqb-true}
 use Rattle.laws.proofs.Truth.{split, clash, and-true, not-true, not-false, alike}
 use Rattle.layout.specs.Layout.{records}
-use Rattle.layout.proofs.LaidLaws.{laid}
 use Rattle.data_model.specs.Path.{field}
 use Rattle.key_laws.specs.Bytes.{Bytes}
 use Rattle.tree.specs.Stored.{contents}
-use Rattle.tree.specs.Tree.{wellFormed, Formed, within}
+use Rattle.tree.specs.Tree.{wellFormed, Formed, Ordered, Whole, within}
 use Rattle.tree.specs.Apart.{noPlaceTwice, nonePrunes}
 use Rattle.tree.specs.declared.stored.KeyOrder.{KeyOrder}
 use Rattle.tree.specs.declared.stored.KeyOrder.the-variants.{Spt, Tsp}
-use Rattle.tree.proofs.FormedLaws.{well-laid}
+use Rattle.tree.proofs.FormedLaws.{well-formed-tree, well-ordered, well-whole}
 use Rattle.tree.proofs.AgreeLaws.{within-make, trees-agree}
 use Rattle.store.specs.Store.{Store, limitMost, treeRoom, dirRoom, treeOf, dirOf, held, wellFormedTree, sameEntries, wellFormedTrees, wellFormedStore, recordMost}
 use Rattle.store.proofs.Lifted.{Rooms, rooms}
@@ -56,12 +55,8 @@ pub limit-most : (n : ℕ) → limitOk n ≡ true → (1 ≤ n) × (n ≤ limitM
 unfolding limitOk
 limit-most n e = let k = and-true (leb 1 n) (leb n limitMost) e in (leb-true 1 n (k .0), leb-true n limitMost (k .1))
 
--- What the functions of a tree ask, of a tree that was tested.
-pub well-asks : (o : KeyOrder) (count : ℕ) (dir tree : List ℕ) → length tree < 2 ^ 32 → wellFormed o field count dir tree ≡ true → Formed o count dir tree
-well-asks o count dir tree s w = record { few = laid count dir tree (well-laid o field count dir tree w) .few; small = s; well = w }
-
 -- Of two trees that were tested the one is within the other exactly if they say the same.
-pub trees-same : {count : ℕ} {dir tree dir′ tree′ : List ℕ} (ns : List ℕ) → Formed Spt count dir tree → Formed Tsp count dir′ tree′ → Bytes tree → Bytes tree′
+pub trees-same : {count : ℕ} {dir tree dir′ tree′ : List ℕ} (ns : List ℕ) → Ordered Spt count dir tree → Formed Tsp count dir′ tree′ → Bytes tree → Bytes tree′
     → within (contents Spt field ns (records count dir tree)) (contents Tsp field ns (records count dir′ tree′))
     ≡ sameEntries (contents Spt field ns (records count dir tree)) (contents Tsp field ns (records count dir′ tree′))
 unfolding sameEntries
@@ -124,6 +119,8 @@ pub record Passed (s : Store) : Type 0 where
   pub room : Rooms field s
   pub well : wellFormedStore field s ≡ true
   pub formed : (o : KeyOrder) → Formed o (s .state .count) (dirOf o s) (treeOf field o s)
+  pub ordered : (o : KeyOrder) → Ordered o (s .state .count) (dirOf o s) (treeOf field o s)
+  pub whole : (o : KeyOrder) → Whole o (s .state .count) (dirOf o s) (treeOf field o s)
   pub same : sameEntries (held field Spt s) (held field Tsp s) ≡ true
   pub once : noPlaceTwice (held field Spt s) ≡ true
   pub apart : nonePrunes (held field Spt s) ≡ true
@@ -149,10 +146,10 @@ module _ (s : Store) where
   room-small m r Spt = let l = r .spt in omega (arith, length-take-le (treeRoom field (s .state .limit)) (s .spt) l)
   room-small m r Tsp = let l = r .tsp in omega (arith, length-take-le (treeRoom field (s .state .limit)) (s .tsp) l)
 
-  tree-formed : (w : wellFormedStore field s ≡ true) → s .state .limit ≤ limitMost → Rooms field s → (o : KeyOrder) → Formed o (s .state .count) (dirOf o s) (treeOf field o s)
+  tree-well : wellFormedStore field s ≡ true → (o : KeyOrder) → wellFormed o field (s .state .count) (dirOf o s) (treeOf field o s) ≡ true
   unfolding wellFormedTree
-  tree-formed w m r Spt = well-asks Spt (s .state .count) (dirOf Spt s) (treeOf field Spt s) (room-small m r Spt) (well-parts w .1)
-  tree-formed w m r Tsp = well-asks Tsp (s .state .count) (dirOf Tsp s) (treeOf field Tsp s) (room-small m r Tsp) (well-parts w .2)
+  tree-well w Spt = well-parts w .1
+  tree-well w Tsp = well-parts w .2
 
   pub passed : (b : Bool) → storeRefusal field s b ≡ 0 → Passed s × (b ≡ true)
   unfolding storeRefusal
@@ -163,5 +160,19 @@ module _ (s : Store) where
       let r = and-true (roomy field (s .state .limit) s) b (unless-none (roomy field (s .state .limit) s && b) 2 (omega arith) (k2 .0)) in
       let w = unless-none (wellFormedStore field s) 3 (omega arith) (k2 .1) in
       let g = rooms field s (r .0) in
-      let p = well-parts w in
-      (record { least = l .0; most = l .1; few = p .0; room = g; well = w; formed = tree-formed w (l .1) g; same = p .3; once = p .4; apart = p .5 }, r .1)
+      let p = well-parts w in (
+        record {
+          least = l .0;
+          most = l .1;
+          few = p .0;
+          room = g;
+          well = w;
+          formed = λ o. well-formed-tree (room-small (l .1) g o) (tree-well w o);
+          ordered = λ o. well-ordered (room-small (l .1) g o) (tree-well w o);
+          whole = λ o. well-whole (room-small (l .1) g o) (tree-well w o);
+          same = p .3;
+          once = p .4;
+          apart = p .5;
+        },
+        r .1,
+      )

@@ -107,7 +107,8 @@ module _ (s : Store) (prune : List ℕ) (e : EntryValue) (m : MayFile field s pr
         let t = tree-room o in
         let d = dir-room o in
         record {
-          formed = v .passes .formed o;
+          ordered = v .passes .ordered o;
+          whole = v .passes .whole o;
           few = omega arith;
           path = v .legal-path;
           named = v .namespace;

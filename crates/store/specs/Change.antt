@@ -9,7 +9,7 @@ use Rattle.layout.specs.Layout.{records, treeBytes, dirNumbers}
 use Rattle.data_model.specs.Path.{field, legal}
 use Rattle.data_model.specs.Entry.{entryOf}
 use Rattle.tree.specs.Stored.{Stored, contents, recordOf}
-use Rattle.tree.specs.Tree.{Formed}
+use Rattle.tree.specs.Tree.{Ordered, Whole}
 use Rattle.tree.specs.Matching.{outdates}
 use Rattle.tree.specs.declared.stored.KeyOrder.{KeyOrder}
 use Rattle.tree.specs.declared.stored.LengthyAuthorisedEntry.{LengthyAuthorisedEntry}
@@ -28,7 +28,8 @@ pub record Changed (o : KeyOrder) (l : List Stored) (dir tree dirAfter treeAfter
 
 -- An entry may be filed in a tree: of its namespace, outdated by nothing there, with room for one more than stay.
 pub record FilesIn (o : KeyOrder) (namespace : List ℕ) (count : ℕ) (dir tree : List ℕ) (a : LengthyAuthorisedEntry) : Type 0 where
-  pub formed : Formed o count dir tree
+  pub ordered : Ordered o count dir tree
+  pub whole : Whole o count dir tree
   pub few : count ≤ limitMost
   pub path : legal field (a .entry .path) ≡ true
   pub named : a .entry .«namespace_id» ≡ namespace

@@ -20,7 +20,7 @@ ghost use Prim.Native.Nat.{_≤_};
 ghost use Rattle.laws.specs.Sorted.{keep};
 ghost use Rattle.data_model.specs.Path.{field, legal, components};
 ghost use Rattle.tree.specs.Stored.{storedOf};
-ghost use Rattle.tree.specs.Tree.{Formed};
+ghost use Rattle.tree.specs.Tree.{Whole};
 ghost use Rattle.tree.specs.Matching.{standsAt, isForgotten};
 ghost use Rattle.store.specs.Store.{limitMost};
 ghost use Rattle.store.specs.Ingest.{filedIn};
@@ -59,7 +59,7 @@ pub fn drop_at(
     subspace: Subspace,
     path: Path,
 ) -> usize
-    requires { ⌜ (Formed order count (now dir) (now tree)) × (count ≤ limitMost) × (legal field path ≡ true) ⌝ }
+    requires { ⌜ (Whole order count (now dir) (now tree)) × (count ≤ limitMost) × (legal field path ≡ true) ⌝ }
     ensures { λ r. ⌜ Changed order (keep (λ x. not (standsAt subspace (components path) x)) (inTree order namespace count (now (dir .entry)) (now (tree .entry)))) (now (dir .entry)) (now (tree .entry)) (now (dir .exit)) (now (tree .exit)) r ⌝ }
 {
     let mut marks = [0u8; LIMIT_MOST];
@@ -87,7 +87,7 @@ pub fn drop_area(
     protects: bool,
     protected: Area,
 ) -> usize
-    requires { ⌜ (Formed order count (now dir) (now tree)) × (count ≤ limitMost) × (legal field (area .path) ≡ true) × (cond protects (legal field (protected .path)) true ≡ true) ⌝ }
+    requires { ⌜ (Whole order count (now dir) (now tree)) × (count ≤ limitMost) × (legal field (area .path) ≡ true) × (cond protects (legal field (protected .path)) true ≡ true) ⌝ }
     ensures { λ r. ⌜ Changed order (keep (λ x. not (isForgotten area protects protected x)) (inTree order namespace count (now (dir .entry)) (now (tree .entry)))) (now (dir .entry)) (now (tree .entry)) (now (dir .exit)) (now (tree .exit)) r ⌝ }
 {
     let mut marks = [0u8; LIMIT_MOST];

@@ -19,9 +19,9 @@ use Rattle.data_model.specs.Path.{Figures, field, byBytes}
 use Rattle.data_model.proofs.Orders.{bytes-linear}
 use Rattle.key_laws.specs.Bytes.{Bytes}
 use Rattle.tree.specs.Stored.{orderIn, keyOf, keyBelow, Stored, stored, contents, tripleOf, recordOf, sameStored}
-use Rattle.tree.specs.Tree.{Formed, within}
+use Rattle.tree.specs.Tree.{Formed, Ordered, within}
 use Rattle.tree.specs.declared.stored.KeyOrder.{KeyOrder}
-use Rattle.tree.proofs.FormedLaws.{formed-laid, formed-ascends}
+use Rattle.tree.proofs.FormedLaws.{formed-count}
 use Rattle.tree.proofs.RecordLaws.{record-forth, record-ordered, stored-equality, contents-length, contents-view}
 use Rattle.tree.proofs.WithinLaws.{Recorded, formed-recorded}
 
@@ -97,16 +97,16 @@ module _ (o : KeyOrder) (f : Figures) (ns : List ℕ) where
   )
 
 -- Two trees of one count that were tested.
-pub trees-agree : {o q : KeyOrder} {count : ℕ} {dir tree dir′ tree′ : List ℕ} (ns : List ℕ) → Formed o count dir tree → Formed q count dir′ tree′ → Bytes tree → Bytes tree′
+pub trees-agree : {o q : KeyOrder} {count : ℕ} {dir tree dir′ tree′ : List ℕ} (ns : List ℕ) → Ordered o count dir tree → Formed q count dir′ tree′ → Bytes tree → Bytes tree′
     → (within (contents o field ns (records count dir tree)) (contents q field ns (records count dir′ tree′)) ≡ true)
     ↔ ((x : Stored) → x ∈ contents o field ns (records count dir tree) ↔ x ∈ contents q field ns (records count dir′ tree′))
 trees-agree {o} {q} {count} {dir} {tree} {dir′} {tree′} ns v w b b′ =
     agree (contents o field ns (records count dir tree)) (contents q field ns (records count dir′ tree′))
-    (contents-distinct o field ns (records count dir tree) (formed-recorded v b) (formed-ascends v))
+    (contents-distinct o field ns (records count dir tree) (formed-recorded (v .formed) b) (v .ascends))
     (omega (
       arith,
       contents-length o field ns (records count dir tree),
       contents-length q field ns (records count dir′ tree′),
-      formed-laid v .many,
-      formed-laid w .many,
+      formed-count (v .formed),
+      formed-count w,
     ))

@@ -12,11 +12,10 @@ use Rattle.layout.proofs.LaidLaws.{records-many, records-at}
 use Rattle.data_model.specs.Path.{Figures, field}
 use Rattle.key_laws.specs.Bytes.{Bytes}
 use Rattle.tree.specs.Stored.{orderIn, Stored, storedFrom, stored, contents}
-use Rattle.tree.specs.Tree.{Formed}
+use Rattle.tree.specs.Tree.{Formed, Ordered}
 use Rattle.tree.specs.Apart.{apart, clearBehind, allClear}
 use Rattle.tree.specs.declared.stored.KeyOrder.{KeyOrder}
 use Rattle.tree.specs.declared.stored.KeyOrder.the-variants.{Spt}
-use Rattle.tree.proofs.FormedLaws.{formed-ascends}
 use Rattle.tree.proofs.RecordLaws.{contents-length, contents-drop, contents-view}
 use Rattle.tree.proofs.WithinLaws.{formed-recorded}
 use Rattle.tree.proofs.AgreeLaws.{contents-ascends}
@@ -41,12 +40,12 @@ module _ {o : KeyOrder} {count : ℕ} {dir tree : List ℕ} (v : Formed o count 
   formed-done k h = drop-of-length-le (contents o field ns (records count dir tree)) {i = k} (omega (arith, formed-many))
 
 -- In a subspace-first tree the walk finds what the comparison of all pairs does.
-pub formed-walk : {count : ℕ} {dir tree : List ℕ} → Formed Spt count dir tree → (ns : List ℕ) → Bytes tree
+pub formed-walk : {count : ℕ} {dir tree : List ℕ} → Ordered Spt count dir tree → (ns : List ℕ) → Bytes tree
     → apart (contents Spt field ns (records count dir tree)) ≡ allClear (contents Spt field ns (records count dir tree))
 unfolding orderIn
 formed-walk {count} {dir} {tree} v ns b =
     apart-walk ns (contents Spt field ns (records count dir tree))
-    (contents-ascends Spt field ns (records count dir tree) (formed-recorded v b) (formed-ascends v))
+    (contents-ascends Spt field ns (records count dir tree) (formed-recorded (v .formed) b) (v .ascends))
     (contents-one Spt field ns (records count dir tree))
 
 -- The walk from each entry, turn by turn: record k is the next.

@@ -2,9 +2,10 @@
 use mathlib.Core.Path.{_≡_, ap}
 use mathlib.Core.List.{List}
 use mathlib.Core.Bool.{true, _&&_}
-use Prim.Native.Nat.{ℕ, _≤_, _<_}
+use Prim.Native.Nat.{ℕ, _+_, _*_, _≤_, _<_, _^_}
 use native.Mathlib.Omega.{arith}
-use lib.ListN.{length}
+use lib.ListN.{length, drop, getD, length-drop}
+use lib.Seq.{length-take-le}
 use lib.Dec.{leb}
 use borrow.Author.Tests.{leb-true}
 use Rattle.laws.specs.Order.{isLess, below}
@@ -13,13 +14,13 @@ use Rattle.laws.proofs.Truth.{and-true}
 use Rattle.laws.proofs.Order.{is-less}
 use Rattle.laws.proofs.Sorted.{all-view}
 use Rattle.layout.specs.Layout.{records, recordAt, laidOut}
-use Rattle.layout.proofs.LaidLaws.{Laid, laid, laid-pair, laid-length, record-in}
+use Rattle.layout.proofs.LaidLaws.{laid, laid-pair, record-in, records-many}
 use Rattle.laws.proofs.Sorted.{ascending-ascends}
 use Rattle.data_model.specs.Path.{Figures, field}
 use Rattle.data_model.proofs.Orders.{bytes-linear}
 use Rattle.tree.specs.Value.{valueLength, readValue, isValue}
 use Rattle.tree.specs.Stored.{keyOf, valuePart, keyBelow, isKey, isRecord}
-use Rattle.tree.specs.Tree.{wellFormed, Formed, InBounds}
+use Rattle.tree.specs.Tree.{wellFormed, Formed, Ordered, Whole, InBounds}
 use Rattle.tree.specs.declared.stored.KeyOrder.{KeyOrder}
 
 -- Keys are ordered as bytes are.
@@ -49,24 +50,39 @@ module _ (o : KeyOrder) (f : Figures) (count : ℕ) (dir tree : List ℕ) (w : w
   well-ascending = and-true (all (isRecord o f) (records count dir tree)) (ascending keyBelow (records count dir tree)) well-others .1
 
 module _ {o : KeyOrder} {count : ℕ} {dir tree : List ℕ} (v : Formed o count dir tree) where
-  pub formed-laid : Laid count dir tree
-  formed-laid = laid count dir tree (well-laid o field count dir tree (v .well))
-
   pub formed-all : all (isRecord o field) (records count dir tree) ≡ true
-  formed-all = well-all o field count dir tree (v .well)
+  formed-all = v .each
 
-  pub formed-ascends : Ascends keyBelow (records count dir tree)
-  formed-ascends = ascending-ascends keyBelow key-trans (records count dir tree) (well-ascending o field count dir tree (v .well))
+  pub formed-count : length (records count dir tree) ≡ count
+  formed-count = records-many count dir tree (v .few)
 
   module _ (k : ℕ) (h : k < count) where
     pub formed-record : isRecord o field (recordAt k dir tree) ≡ true
     formed-record = all-view (isRecord o field) (records count dir tree) formed-all (record-in count k dir tree (v .few) h)
 
+    cut-length : length (recordAt k dir tree) ≡ getD dir (2 * k + 1) 0
+    cut-length =
+        let i = v .inside k h in
+        length-take-le (getD dir (2 * k + 1) 0) (drop (getD dir (2 * k) 0) tree) (simp length-drop (omega arith))
+
     pub formed-bounds : InBounds k dir tree
     formed-bounds =
-        let p = laid-pair formed-laid k h in
+        let f = v .few in
         record {
-          pair = p .0;
-          least = omega (arith, record-long o field (recordAt k dir tree) formed-record, laid-length formed-laid k h);
-          inside = p .1;
+          pair = omega arith;
+          least = omega (arith, record-long o field (recordAt k dir tree) formed-record, cut-length);
+          inside = v .inside k h;
         }
+
+-- What a tree that was tested whole gives.
+module _ {o : KeyOrder} {count : ℕ} {dir tree : List ℕ} (small : length tree < 2 ^ 32) (w : wellFormed o field count dir tree ≡ true) where
+  pub well-formed-tree : Formed o count dir tree
+  well-formed-tree =
+      let l = laid count dir tree (well-laid o field count dir tree w) in
+      record { few = l .few; small = small; inside = λ k h. laid-pair l k h .1; each = well-all o field count dir tree w }
+
+  pub well-ordered : Ordered o count dir tree
+  well-ordered = record { formed = well-formed-tree; ascends = ascending-ascends keyBelow key-trans (records count dir tree) (well-ascending o field count dir tree w) }
+
+  pub well-whole : Whole o count dir tree
+  well-whole = record { formed = well-formed-tree; laid = well-laid o field count dir tree w }

@@ -19,9 +19,9 @@ use Rattle.layout.proofs.LaidLaws.{records-get}
 use Rattle.data_model.specs.Path.{byBytes}
 use Rattle.data_model.proofs.Orders.{bytes-linear}
 use Rattle.tree.specs.Stored.{keyOf, valuePart, keyBelow}
-use Rattle.tree.specs.Tree.{Formed, keysBelow, hasKey, hasRecord}
+use Rattle.tree.specs.Tree.{Ordered, keysBelow, hasKey, hasRecord}
 use Rattle.tree.specs.declared.stored.KeyOrder.{KeyOrder}
-use Rattle.tree.proofs.FormedLaws.{formed-laid, formed-ascends}
+use Rattle.tree.proofs.FormedLaws.{formed-count}
 
 -- The key of a record is below a key.
 abbrev pub lessThan : List ℕ → List ℕ → Bool
@@ -225,9 +225,9 @@ module _ (key : List ℕ) where
           )
 
 -- Over a tree that was tested, each step with what the calls answered.
-module _ {o : KeyOrder} {count : ℕ} {dir tree : List ℕ} (v : Formed o count dir tree) (key : List ℕ) where
+module _ {o : KeyOrder} {count : ℕ} {dir tree : List ℕ} (v : Ordered o count dir tree) (key : List ℕ) where
   many : length (records count dir tree) ≡ count
-  many = formed-laid v .many
+  many = formed-count (v .formed)
 
   pub search-start : Bracket key (records count dir tree) 0 count
   search-start = bracket-start key (records count dir tree) count many
@@ -239,31 +239,31 @@ module _ {o : KeyOrder} {count : ℕ} {dir tree : List ℕ} (v : Formed o count 
     compared =
         let w = b .within in
         let m = many in
-        rw (f, e, records-get count mid dir tree (v .few) (omega arith))
+        rw (f, e, records-get count mid dir tree (v .formed .few) (omega arith))
 
     pub search-up : t ≡ true → Bracket key (records count dir tree) (mid + 1) hi
-    search-up y = bracket-up key (records count dir tree) (formed-ascends v) lo hi mid b h k (compared ∙ y)
+    search-up y = bracket-up key (records count dir tree) (v .ascends) lo hi mid b h k (compared ∙ y)
 
     pub search-down : t ≡ false → Bracket key (records count dir tree) lo mid
-    search-down n = bracket-down key (records count dir tree) (formed-ascends v) lo hi mid b h k (compared ∙ n)
+    search-down n = bracket-down key (records count dir tree) (v .ascends) lo hi mid b h k (compared ∙ n)
 
   -- What the record at the place says.
   module _ (n : ℕ) (e : n ≡ keysBelow key (records count dir tree)) where
     pub find-none : count ≤ n → false ≡ hasKey key (records count dir tree)
-    find-none h = let m = many in found-none key (records count dir tree) (formed-ascends v) n e (omega arith)
+    find-none h = let m = many in found-none key (records count dir tree) (v .ascends) n e (omega arith)
 
     pub find-is : n < count → (a : List ℕ) (t : Bool) → a ≡ keyOf (recordAt n dir tree) → t ≡ sameList sameNumber a key → t ≡ hasKey key (records count dir tree)
     find-is h a t f g =
         let m = many in
-        rw (g, f, ← records-get count n dir tree (v .few) h) (found-is key (records count dir tree) (formed-ascends v) n e (omega arith))
+        rw (g, f, ← records-get count n dir tree (v .formed .few) h) (found-is key (records count dir tree) (v .ascends) n e (omega arith))
 
     module _ (t : Bool) (q : t ≡ hasKey key (records count dir tree)) where
       pub has-place : t ≡ true → n < count
-      has-place y = let m = many in let k = record-is key (records count dir tree) (formed-ascends v) n e key (sym q ∙ y) .0 in omega arith
+      has-place y = let m = many in let k = record-is key (records count dir tree) (v .ascends) n e key (sym q ∙ y) .0 in omega arith
 
       pub has-is : (value a : List ℕ) (r : Bool) → t ≡ true → a ≡ valuePart (recordAt n dir tree) → r ≡ sameList sameNumber a value → r ≡ hasRecord key value (records count dir tree)
       has-is value a r y f g =
-          rw (g, f, ← records-get count n dir tree (v .few) (has-place y)) (record-is key (records count dir tree) (formed-ascends v) n e value (sym q ∙ y) .1)
+          rw (g, f, ← records-get count n dir tree (v .formed .few) (has-place y)) (record-is key (records count dir tree) (v .ascends) n e value (sym q ∙ y) .1)
 
       pub has-none : (value : List ℕ) → t ≡ false → false ≡ hasRecord key value (records count dir tree)
-      has-none value f = record-none key (records count dir tree) (formed-ascends v) n e value (sym q ∙ f)
+      has-none value f = record-none key (records count dir tree) (v .ascends) n e value (sym q ∙ f)

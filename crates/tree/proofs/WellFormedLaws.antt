@@ -15,16 +15,16 @@ use Rattle.laws.proofs.Sorted.{all-view, any-none}
 use Rattle.layout.specs.Buffers.{filled}
 use Rattle.layout.specs.Layout.{records, joined, laidOut, treeBytes, dirNumbers, inserted}
 use Rattle.layout.specs.Marks.{kept}
-use Rattle.layout.proofs.LaidLaws.{Laid, laid, laid-out, after-dir, after-tree, after-records, after-test}
+use Rattle.layout.proofs.LaidLaws.{Laid, laid, laid-pair, laid-out, after-dir, after-tree, after-records, after-test}
 use Rattle.laws.proofs.Sorted.{ascending-ascends, ascends-ascending, all-make}
 use Rattle.layout.proofs.MarkLaws.{kept-in, kept-ascends, length-kept-most, joined-kept}
 use Rattle.layout.proofs.PlaceLaws.{inserted-insert}
 use Rattle.data_model.specs.Path.{Figures, field, byBytes}
 use Rattle.data_model.proofs.Orders.{bytes-linear}
 use Rattle.tree.specs.Stored.{keyOf, keyBelow, isRecord}
-use Rattle.tree.specs.Tree.{wellFormed, WellFormed, Formed, keysBelow, hasKey}
+use Rattle.tree.specs.Tree.{wellFormed, WellFormed, Formed, Ordered, Whole, keysBelow, hasKey}
 use Rattle.tree.specs.declared.stored.KeyOrder.{KeyOrder}
-use Rattle.tree.proofs.FormedLaws.{key-trans, well-laid, well-all, well-ascending, formed-laid, formed-all, formed-ascends}
+use Rattle.tree.proofs.FormedLaws.{key-trans, well-laid, well-all, well-ascending, formed-count, formed-all}
 
 -- The test from its three parts.
 well-make : (o : KeyOrder) (f : Figures) (count : ℕ) (dir tree : List ℕ) → laidOut count dir tree ≡ true → ((r : List ℕ) → r ∈ records count dir tree → isRecord o f r ≡ true)
@@ -61,38 +61,50 @@ well-formed o f count dir tree = (there, back)
 
 -- A tree of other records in the same buffers.
 module _ {o : KeyOrder} {count : ℕ} {dir tree : List ℕ} (v : Formed o count dir tree) (recs : List (List ℕ)) (few : 2 * length recs ≤ length dir) (room : length (joined recs) ≤ length tree)
-    (each : (r : List ℕ) → r ∈ recs → isRecord o field r ≡ true) (ascends : Ascends keyBelow recs)
+    (each : (r : List ℕ) → r ∈ recs → isRecord o field r ≡ true)
     (dir′ tree′ : List ℕ) (ed : dir′ ≡ dirNumbers (length dir) recs) (et : tree′ ≡ treeBytes (length tree) recs) where
+  again-records : records (length recs) dir′ tree′ ≡ recs
+  again-records = after-records recs dir tree few room dir′ tree′ ed et
+
   pub formed-again : Formed o (length recs) dir′ tree′
   formed-again =
-      let e : records (length recs) dir′ tree′ ≡ recs = after-records recs dir tree few room dir′ tree′ ed et in
       let ld = after-dir recs dir tree few room dir′ tree′ ed et in
       let lt = after-tree recs dir tree few room dir′ tree′ ed et in
       let s = v .small in
+      let l = laid (length recs) dir′ tree′ (after-test recs dir tree few room dir′ tree′ ed et) in
       record {
         few = omega arith;
         small = omega arith;
-        well = well-make o field (length recs) dir′ tree′ (after-test recs dir tree few room dir′ tree′ ed et)
-            (λ r m. each r (rw e at m))
-            (rw e ascends);
+        inside = λ k h. laid-pair l k h .1;
+        each = all-make (isRecord o field) (records (length recs) dir′ tree′) (λ r m. each r (rw again-records at m));
       }
 
-module _ {o : KeyOrder} {count : ℕ} {dir tree : List ℕ} (v : Formed o count dir tree) (marks : List ℕ) where
+  pub whole-again : Whole o (length recs) dir′ tree′
+  whole-again = record { formed = formed-again; laid = after-test recs dir tree few room dir′ tree′ ed et }
+
+  pub ordered-again : Ascends keyBelow recs → Ordered o (length recs) dir′ tree′
+  ordered-again a = record { formed = formed-again; ascends = rw again-records a }
+
+module _ {o : KeyOrder} {count : ℕ} {dir tree : List ℕ} (v : Whole o count dir tree) (marks : List ℕ) where
   -- Records taken out.
   kept-few : 2 * length (kept marks (records count dir tree)) ≤ length dir
   kept-few =
-      let a = formed-laid v .many in
-      let b = v .few in
+      let a = formed-count (v .formed) in
+      let b = v .formed .few in
       omega (arith, length-kept-most marks (records count dir tree))
 
   kept-room : length (joined (kept marks (records count dir tree))) ≤ length tree
-  kept-room = let a = formed-laid v .room in omega (arith, joined-kept marks (records count dir tree))
+  kept-room = let a = laid count dir tree (v .laid) .room in omega (arith, joined-kept marks (records count dir tree))
 
   module _ (dir′ tree′ : List ℕ) (ed : dir′ ≡ dirNumbers (length dir) (kept marks (records count dir tree))) (et : tree′ ≡ treeBytes (length tree) (kept marks (records count dir tree))) where
-    pub retain-formed : Formed o (length (kept marks (records count dir tree))) dir′ tree′
-    retain-formed = formed-again v (kept marks (records count dir tree)) kept-few kept-room
-        (λ r m. all-view (isRecord o field) (records count dir tree) (formed-all v) (kept-in marks (records count dir tree) m))
-        (kept-ascends keyBelow marks (records count dir tree) (formed-ascends v)) dir′ tree′ ed et
+    pub retain-whole : Whole o (length (kept marks (records count dir tree))) dir′ tree′
+    retain-whole = whole-again (v .formed) (kept marks (records count dir tree)) kept-few kept-room
+        (λ r m. all-view (isRecord o field) (records count dir tree) (formed-all (v .formed)) (kept-in marks (records count dir tree) m)) dir′ tree′ ed et
+
+    pub retain-ordered : Ascends keyBelow (records count dir tree) → Ordered o (length (kept marks (records count dir tree))) dir′ tree′
+    retain-ordered a = ordered-again (v .formed) (kept marks (records count dir tree)) kept-few kept-room
+        (λ r m. all-view (isRecord o field) (records count dir tree) (formed-all (v .formed)) (kept-in marks (records count dir tree) m)) dir′ tree′ ed et
+        (kept-ascends keyBelow marks (records count dir tree) a)
 
     pub retain-records : records (length (kept marks (records count dir tree))) dir′ tree′ ≡ kept marks (records count dir tree)
     retain-records = after-records (kept marks (records count dir tree)) dir tree kept-few kept-room dir′ tree′ ed et

@@ -26,7 +26,7 @@ use Rattle.tree.specs.Stored.{keyIn, keyOf, valuePart, isRecord, Stored,
 use Rattle.tree.specs.Tree.{Formed, hasRecord, within}
 use Rattle.tree.specs.declared.stored.KeyOrder.{KeyOrder}
 use Rattle.tree.specs.declared.stored.LengthyAuthorisedEntry.{LengthyAuthorisedEntry}
-use Rattle.tree.proofs.FormedLaws.{formed-laid, formed-all}
+use Rattle.tree.proofs.FormedLaws.{formed-count, formed-all}
 use Rattle.tree.proofs.RecordLaws.{key-of-record, value-of-record, stored-parts, record-forth, stored-equality, contents-length, contents-at}
 use Rattle.tree.proofs.RecordParts.{keyFor}
 
@@ -104,7 +104,7 @@ module _ {o : KeyOrder} {count : ℕ} {dir tree : List ℕ} (v : Formed o count 
         let recs = records count dir tree in
         let at : getD recs k [] ≡ recordAt k dir tree = records-get count k dir tree (v .few) h in
         inv
-        ∙ ap (λ (l : List Stored). within l m) (contents-at o field ns k recs (omega (arith, formed-laid v .many)))
+        ∙ ap (λ (l : List Stored). within l m) (contents-at o field ns k recs (omega (arith, formed-count v)))
         ∙ ap (λ (b : Bool). b && within (drop (suc k) (contents o field ns recs)) m) (ap (λ (r : List ℕ). any (sameStored (stored o field ns r)) m) at ∙ sym e)
 
     pub within-turn : b ≡ true → within (contents o field ns (records count dir tree)) m ≡ within (drop (k + 1) (contents o field ns (records count dir tree))) m
@@ -117,5 +117,5 @@ module _ {o : KeyOrder} {count : ℕ} {dir tree : List ℕ} (v : Formed o count 
   unfolding within all
   within-end h =
       let c = contents o field ns (records count dir tree) in
-      let z : drop k c ≡ [] = drop-of-length-le c {i = k} (omega (arith, contents-length o field ns (records count dir tree), formed-laid v .many)) in
+      let z : drop k c ≡ [] = drop-of-length-le c {i = k} (omega (arith, contents-length o field ns (records count dir tree), formed-count v)) in
       sym (inv ∙ ap (λ (l : List Stored). within l m) z)

@@ -31,7 +31,18 @@ pub record WellFormed (o : KeyOrder) (f : Figures) (count : ℕ) (dir tree : Lis
 pub record Formed (o : KeyOrder) (count : ℕ) (dir tree : List ℕ) : Type 0 where
   pub few : 2 * count ≤ length dir
   pub small : length tree < 2 ^ 32
-  pub well : wellFormed o field count dir tree ≡ true
+  pub inside : (k : ℕ) → k < count → getD dir (2 * k) 0 + getD dir (2 * k + 1) 0 ≤ length tree
+  pub each : all (isRecord o field) (records count dir tree) ≡ true
+
+-- The same, and keys that ascend.
+pub record Ordered (o : KeyOrder) (count : ℕ) (dir tree : List ℕ) : Type 0 where
+  pub formed : Formed o count dir tree
+  pub ascends : Ascends keyBelow (records count dir tree)
+
+-- The same, and a chain of pairs with zeros behind.
+pub record Whole (o : KeyOrder) (count : ℕ) (dir tree : List ℕ) : Type 0 where
+  pub formed : Formed o count dir tree
+  pub laid : laidOut count dir tree ≡ true
 
 -- Pair k is there, its record within the bytes and at least as long as a value.
 pub record InBounds (k : ℕ) (dir tree : List ℕ) : Type 0 where

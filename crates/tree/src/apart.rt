@@ -17,7 +17,7 @@ ghost use Rattle.layout.specs.Layout.{records, recordAt};
 ghost use Rattle.data_model.specs.Path.{field, legal};
 ghost use Rattle.data_model.specs.Entry.{entryOf, newer};
 ghost use Rattle.tree.specs.Stored.{contents, stored};
-ghost use Rattle.tree.specs.Tree.{Formed};
+ghost use Rattle.tree.specs.Tree.{Formed, Ordered};
 ghost use Rattle.tree.specs.Apart.{samePlace, clearBehind, apart};
 ghost use Rattle.tree.specs.declared.stored.KeyOrder.the-variants.{Spt};
 
@@ -70,7 +70,7 @@ fn clear_at(namespace: [u8; 16], count: usize, dir: &[u32], tree: &[u8], k: usiz
 }
 
 pub fn apart(namespace: [u8; 16], count: usize, dir: &[u32], tree: &[u8]) -> bool
-    requires { ⌜ Formed Spt count (now dir) (now tree) ⌝ }
+    requires { ⌜ Ordered Spt count (now dir) (now tree) ⌝ }
     ensures { λ r. ⌜ r ≡ apart (contents Spt field namespace (records count (now (dir .entry)) (now (tree .entry)))) ⌝ }
 {
     let mut k: usize = 0;

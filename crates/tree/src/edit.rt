@@ -14,7 +14,7 @@ ghost use Prim.Native.Nat.{_+_, _-_, _*_, _≤_, _<_, _^_};
 ghost use lib.ListN.{length, drop};
 ghost use Rattle.layout.specs.Layout.{records, joined, treeBytes, dirNumbers, inserted, endAt, sizes, endOf, opened};
 ghost use Rattle.layout.specs.Marks.{kept};
-ghost use Rattle.tree.specs.Tree.{Formed};
+ghost use Rattle.tree.specs.Tree.{Whole};
 
 // Makes a tree of no records.
 pub fn open(dir: &mut [u32], tree: &mut [u8])
@@ -35,7 +35,7 @@ pub fn retain(
     tree: &mut [u8],
     marks: &[u8],
 ) -> usize
-    requires { ⌜ (Formed order count (now dir) (now tree)) × (count ≤ length (now marks)) ⌝ }
+    requires { ⌜ (Whole order count (now dir) (now tree)) × (count ≤ length (now marks)) ⌝ }
     ensures left { λ r. ⌜ r ≡ length (kept (now (marks .entry)) (records count (now (dir .entry)) (now (tree .entry)))) ⌝ }
     ensures bytes { λ r. ⌜ now (tree .exit) ≡ treeBytes (length (now (tree .entry))) (kept (now (marks .entry)) (records count (now (dir .entry)) (now (tree .entry)))) ⌝ }
     ensures numbers { λ r. ⌜ now (dir .exit) ≡ dirNumbers (length (now (dir .entry))) (kept (now (marks .entry)) (records count (now (dir .entry)) (now (tree .entry)))) ⌝ }
@@ -101,7 +101,7 @@ pub fn insert_at(
     at: usize,
     rec: &[u8],
 )
-    requires { ⌜ (Formed order count (now dir) (now tree)) × (at ≤ count) × (2 * (count + 1) ≤ length (now dir)) × (length (joined (records count (now dir) (now tree))) + length (now rec) ≤ length (now tree)) ⌝ }
+    requires { ⌜ (Whole order count (now dir) (now tree)) × (at ≤ count) × (2 * (count + 1) ≤ length (now dir)) × (length (joined (records count (now dir) (now tree))) + length (now rec) ≤ length (now tree)) ⌝ }
     ensures bytes { λ r. ⌜ now (tree .exit) ≡ treeBytes (length (now (tree .entry))) (inserted at (now (rec .entry)) (records count (now (dir .entry)) (now (tree .entry)))) ⌝ }
     ensures numbers { λ r. ⌜ now (dir .exit) ≡ dirNumbers (length (now (dir .entry))) (inserted at (now (rec .entry)) (records count (now (dir .entry)) (now (tree .entry)))) ⌝ }
 {

@@ -6,7 +6,7 @@ use layout::bytes::less;
 use layout::bytes::same;
 ghost use mathlib.Core.Path.{_≡_};
 ghost use Rattle.layout.specs.Layout.{records};
-ghost use Rattle.tree.specs.Tree.{Formed, keysBelow, hasKey, hasRecord};
+ghost use Rattle.tree.specs.Tree.{Ordered, keysBelow, hasKey, hasRecord};
 
 // How many keys are below a key, which is where it stands or would stand, and whether it is there.
 pub struct Place {
@@ -15,7 +15,7 @@ pub struct Place {
 }
 
 fn lower(order: KeyOrder, count: usize, dir: &[u32], tree: &[u8], key: &[u8]) -> usize
-    requires { ⌜ Formed order count (now dir) (now tree) ⌝ }
+    requires { ⌜ Ordered order count (now dir) (now tree) ⌝ }
     ensures { λ r. ⌜ r ≡ keysBelow (now (key .entry)) (records count (now (dir .entry)) (now (tree .entry))) ⌝ }
 {
     let mut lo = 0;
@@ -32,7 +32,7 @@ fn lower(order: KeyOrder, count: usize, dir: &[u32], tree: &[u8], key: &[u8]) ->
 }
 
 pub fn find(order: KeyOrder, count: usize, dir: &[u32], tree: &[u8], key: &[u8]) -> Place
-    requires { ⌜ Formed order count (now dir) (now tree) ⌝ }
+    requires { ⌜ Ordered order count (now dir) (now tree) ⌝ }
     ensures at { λ r. ⌜ r .at ≡ keysBelow (now (key .entry)) (records count (now (dir .entry)) (now (tree .entry))) ⌝ }
     ensures found { λ r. ⌜ r .found ≡ hasKey (now (key .entry)) (records count (now (dir .entry)) (now (tree .entry))) ⌝ }
 {
@@ -54,7 +54,7 @@ pub fn has_record(
     key: &[u8],
     value: &[u8],
 ) -> bool
-    requires { ⌜ Formed order count (now dir) (now tree) ⌝ }
+    requires { ⌜ Ordered order count (now dir) (now tree) ⌝ }
     ensures { λ r. ⌜ r ≡ hasRecord (now (key .entry)) (now (value .entry)) (records count (now (dir .entry)) (now (tree .entry))) ⌝ }
 {
     let p = find(order, count, dir, tree, key);

@@ -17,7 +17,7 @@ ghost use Rattle.layout.specs.Layout.{records, recordAt};
 ghost use Rattle.data_model.specs.Path.{field};
 ghost use Rattle.tree.specs.Stored.{contents, stored, sameStored};
 ghost use Rattle.tree.specs.Place.{slots};
-ghost use Rattle.tree.specs.Tree.{Formed, within};
+ghost use Rattle.tree.specs.Tree.{Formed, Ordered, within};
 ghost use Rattle.tree.specs.declared.stored.KeyOrder.the-variants.{Spt, Tsp};
 
 // Whether record k of the subspace-first tree stands in the time-first tree with the same value.
@@ -30,7 +30,7 @@ fn stands_in(
     tsp: &[u8],
     k: usize,
 ) -> bool
-    requires { ⌜ (Formed Spt count (now «spt_dir») (now spt)) × (Formed Tsp count (now «tsp_dir») (now tsp)) × (k < count) ⌝ }
+    requires { ⌜ (Formed Spt count (now «spt_dir») (now spt)) × (Ordered Tsp count (now «tsp_dir») (now tsp)) × (k < count) ⌝ }
     ensures { λ r. ⌜ r ≡ any (sameStored (stored Spt field namespace (recordAt k (now («spt_dir» .entry)) (now (spt .entry))))) (contents Tsp field namespace (records count (now («tsp_dir» .entry)) (now (tsp .entry)))) ⌝ }
 {
     let a = stored_at(KeyOrder::Spt, namespace, spt_dir, spt, k);
@@ -117,7 +117,7 @@ fn stands_near(
     k: usize,
     j: usize,
 ) -> bool
-    requires { ⌜ (Formed Spt count (now «spt_dir») (now spt)) × (Formed Tsp count (now «tsp_dir») (now tsp)) × (k < count) ⌝ }
+    requires { ⌜ (Formed Spt count (now «spt_dir») (now spt)) × (Ordered Tsp count (now «tsp_dir») (now tsp)) × (k < count) ⌝ }
     ensures { λ r. ⌜ r ≡ any (sameStored (stored Spt field namespace (recordAt k (now («spt_dir» .entry)) (now (spt .entry))))) (contents Tsp field namespace (records count (now («tsp_dir» .entry)) (now (tsp .entry)))) ⌝ }
 {
     if is_at(namespace, count, spt_dir, spt, tsp_dir, tsp, k, j) {
@@ -136,7 +136,7 @@ fn within_by(
     tsp: &[u8],
     next: &mut [u16],
 ) -> bool
-    requires { ⌜ (Formed Spt count (now «spt_dir») (now spt)) × (Formed Tsp count (now «tsp_dir») (now tsp)) × (slots ≤ length (now next)) ⌝ }
+    requires { ⌜ (Formed Spt count (now «spt_dir») (now spt)) × (Ordered Tsp count (now «tsp_dir») (now tsp)) × (slots ≤ length (now next)) ⌝ }
     ensures { λ r. ⌜ r ≡ within (contents Spt field namespace (records count (now («spt_dir» .entry)) (now (spt .entry)))) (contents Tsp field namespace (records count (now («tsp_dir» .entry)) (now (tsp .entry)))) ⌝ }
 {
     let mut k: usize = 0;
@@ -160,7 +160,7 @@ pub fn within(
     tsp_dir: &[u32],
     tsp: &[u8],
 ) -> bool
-    requires { ⌜ (Formed Spt count (now «spt_dir») (now spt)) × (Formed Tsp count (now «tsp_dir») (now tsp)) ⌝ }
+    requires { ⌜ (Formed Spt count (now «spt_dir») (now spt)) × (Ordered Tsp count (now «tsp_dir») (now tsp)) ⌝ }
     ensures { λ r. ⌜ r ≡ within (contents Spt field namespace (records count (now («spt_dir» .entry)) (now (spt .entry)))) (contents Tsp field namespace (records count (now («tsp_dir» .entry)) (now (tsp .entry)))) ⌝ }
 {
     let mut next = [0u16; SLOTS];

@@ -47,7 +47,7 @@ slice-aggregate-drop-area-2 c = let p = (c .before .before .before .before .befo
 
 drop-area-requires : tie.Need-drop-area-requires
 unfolding treeOf dirOf
-drop-area-requires c κs = let p = (c .before .before .before .before .before .before .before .before .before .before .before .before .before .before .before) in let q = area-tested (storeOf (p .args .state) (p .args .spt .now) (p .args .«spt-dir» .now) (p .args .tsp .now) (p .args .«tsp-dir» .now)) (p .args .area) (p .args .protects) (p .args .protected) (c .before .before .before .before .before .before .forget-area-refusal .result) (c .before .before .before .before .before .before .forget-area-refusal .ensures) (c .before .before .before .before .before .if1 .left) in let m = q .0 .most in let k = q .0 .few in (q .0 .formed Spt, omega arith, q .1, q .2)
+drop-area-requires c κs = let p = (c .before .before .before .before .before .before .before .before .before .before .before .before .before .before .before) in let q = area-tested (storeOf (p .args .state) (p .args .spt .now) (p .args .«spt-dir» .now) (p .args .tsp .now) (p .args .«tsp-dir» .now)) (p .args .area) (p .args .protects) (p .args .protected) (c .before .before .before .before .before .before .forget-area-refusal .result) (c .before .before .before .before .before .before .forget-area-refusal .ensures) (c .before .before .before .before .before .if1 .left) in let m = q .0 .most in let k = q .0 .few in (q .0 .whole Spt, omega arith, q .1, q .2)
 
 slice-relend-prefix-drop-area-3 : tie.Need-slice-relend-prefix-drop-area-3
 slice-relend-prefix-drop-area-3 c = let p = (c .before .before .before .before .before .before .before .before .before .before .before .before .before .before .before .before .before .before .before .before) in let q = area-tested (storeOf (p .args .state) (p .args .spt .now) (p .args .«spt-dir» .now) (p .args .tsp .now) (p .args .«tsp-dir» .now)) (p .args .area) (p .args .protects) (p .args .protected) (c .before .before .before .before .before .before .before .before .before .before .before .forget-area-refusal .result) (c .before .before .before .before .before .before .before .before .before .before .before .forget-area-refusal .ensures) (c .before .before .before .before .before .before .before .before .before .before .if1 .left) in q .0 .room .tsp
@@ -63,7 +63,7 @@ slice-aggregate-drop-area-4 c = let p = (c .before .before .before .before .befo
 
 drop-area-requires-2 : tie.Need-drop-area-requires-2
 unfolding treeOf dirOf
-drop-area-requires-2 c κs = let p = (c .before .before .before .before .before .before .before .before .before .before .before .before .before .before .before .before .before .before .before .before .before .before) in let q = area-tested (storeOf (p .args .state) (p .args .spt .now) (p .args .«spt-dir» .now) (p .args .tsp .now) (p .args .«tsp-dir» .now)) (p .args .area) (p .args .protects) (p .args .protected) (c .before .before .before .before .before .before .before .before .before .before .before .before .before .forget-area-refusal .result) (c .before .before .before .before .before .before .before .before .before .before .before .before .before .forget-area-refusal .ensures) (c .before .before .before .before .before .before .before .before .before .before .before .before .if1 .left) in let m = q .0 .most in let k = q .0 .few in (q .0 .formed Tsp, omega arith, q .1, q .2)
+drop-area-requires-2 c κs = let p = (c .before .before .before .before .before .before .before .before .before .before .before .before .before .before .before .before .before .before .before .before .before .before) in let q = area-tested (storeOf (p .args .state) (p .args .spt .now) (p .args .«spt-dir» .now) (p .args .tsp .now) (p .args .«tsp-dir» .now)) (p .args .area) (p .args .protects) (p .args .protected) (c .before .before .before .before .before .before .before .before .before .before .before .before .before .forget-area-refusal .result) (c .before .before .before .before .before .before .before .before .before .before .before .before .before .forget-area-refusal .ensures) (c .before .before .before .before .before .before .before .before .before .before .before .before .if1 .left) in let m = q .0 .most in let k = q .0 .few in (q .0 .whole Tsp, omega arith, q .1, q .2)
 
 sub-t28 : tie.Need-sub-t28
 sub-t28 c = let p = (c .before .before .before .before .before .before .before .before .before .before .before .before .before .before .before .before .before .before .before .before .before .before .before .before .before .before .before .before) in let a = c .before .before .before .before .before .before .before .before .before .before .before .before .drop-area in let b = c .before .before .before .before .before .drop-area2 in area-left (storeOf (p .args .state) (p .args .spt .now) (p .args .«spt-dir» .now) (p .args .tsp .now) (p .args .«tsp-dir» .now)) (p .args .area) (p .args .protects) (p .args .protected) (c .before .before .before .before .before .before .before .before .before .before .before .before .before .before .before .before .before .before .before .forget-area-refusal .result) (c .before .before .before .before .before .before .before .before .before .before .before .before .before .before .before .before .before .before .before .forget-area-refusal .ensures) (c .before .before .before .before .before .before .before .before .before .before .before .before .before .before .before .before .before .before .if1 .left) (a .result) (b .result) (a .last .1 .1 .1 .0) (a .last .1 .1 .1 .1 .0) (b .last .1 .1 .1 .0) (b .last .1 .1 .1 .1 .0) (a .ensures) (b .ensures)

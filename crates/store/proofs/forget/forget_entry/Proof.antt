@@ -47,7 +47,7 @@ slice-aggregate-drop-at-2 c = let p = (c .before .before .before .before .before
 
 drop-at-requires : tie.Need-drop-at-requires
 unfolding treeOf dirOf
-drop-at-requires c κs = let p = (c .before .before .before .before .before .before .before .before .before .before .before .before .before .before .before) in let q = entry-tested (storeOf (p .args .state) (p .args .spt .now) (p .args .«spt-dir» .now) (p .args .tsp .now) (p .args .«tsp-dir» .now)) (p .args .subspace) (p .args .path) (p .args .expects) (p .args .«expected-digest») (c .before .before .before .before .before .before .forget-entry-refusal .result) (c .before .before .before .before .before .before .forget-entry-refusal .ensures) (c .before .before .before .before .before .if1 .left) in let m = q .0 .most in let k = q .0 .few in (q .0 .formed Spt, omega arith, q .1)
+drop-at-requires c κs = let p = (c .before .before .before .before .before .before .before .before .before .before .before .before .before .before .before) in let q = entry-tested (storeOf (p .args .state) (p .args .spt .now) (p .args .«spt-dir» .now) (p .args .tsp .now) (p .args .«tsp-dir» .now)) (p .args .subspace) (p .args .path) (p .args .expects) (p .args .«expected-digest») (c .before .before .before .before .before .before .forget-entry-refusal .result) (c .before .before .before .before .before .before .forget-entry-refusal .ensures) (c .before .before .before .before .before .if1 .left) in let m = q .0 .most in let k = q .0 .few in (q .0 .whole Spt, omega arith, q .1)
 
 slice-relend-prefix-drop-at-3 : tie.Need-slice-relend-prefix-drop-at-3
 slice-relend-prefix-drop-at-3 c = let p = (c .before .before .before .before .before .before .before .before .before .before .before .before .before .before .before .before .before .before .before .before) in let q = entry-tested (storeOf (p .args .state) (p .args .spt .now) (p .args .«spt-dir» .now) (p .args .tsp .now) (p .args .«tsp-dir» .now)) (p .args .subspace) (p .args .path) (p .args .expects) (p .args .«expected-digest») (c .before .before .before .before .before .before .before .before .before .before .before .forget-entry-refusal .result) (c .before .before .before .before .before .before .before .before .before .before .before .forget-entry-refusal .ensures) (c .before .before .before .before .before .before .before .before .before .before .if1 .left) in q .0 .room .tsp
@@ -63,7 +63,7 @@ slice-aggregate-drop-at-4 c = let p = (c .before .before .before .before .before
 
 drop-at-requires-2 : tie.Need-drop-at-requires-2
 unfolding treeOf dirOf
-drop-at-requires-2 c κs = let p = (c .before .before .before .before .before .before .before .before .before .before .before .before .before .before .before .before .before .before .before .before .before .before) in let q = entry-tested (storeOf (p .args .state) (p .args .spt .now) (p .args .«spt-dir» .now) (p .args .tsp .now) (p .args .«tsp-dir» .now)) (p .args .subspace) (p .args .path) (p .args .expects) (p .args .«expected-digest») (c .before .before .before .before .before .before .before .before .before .before .before .before .before .forget-entry-refusal .result) (c .before .before .before .before .before .before .before .before .before .before .before .before .before .forget-entry-refusal .ensures) (c .before .before .before .before .before .before .before .before .before .before .before .before .if1 .left) in let m = q .0 .most in let k = q .0 .few in (q .0 .formed Tsp, omega arith, q .1)
+drop-at-requires-2 c κs = let p = (c .before .before .before .before .before .before .before .before .before .before .before .before .before .before .before .before .before .before .before .before .before .before) in let q = entry-tested (storeOf (p .args .state) (p .args .spt .now) (p .args .«spt-dir» .now) (p .args .tsp .now) (p .args .«tsp-dir» .now)) (p .args .subspace) (p .args .path) (p .args .expects) (p .args .«expected-digest») (c .before .before .before .before .before .before .before .before .before .before .before .before .before .forget-entry-refusal .result) (c .before .before .before .before .before .before .before .before .before .before .before .before .before .forget-entry-refusal .ensures) (c .before .before .before .before .before .before .before .before .before .before .before .before .if1 .left) in let m = q .0 .most in let k = q .0 .few in (q .0 .whole Tsp, omega arith, q .1)
 
 same-length-5 : tie.Need-same-length-5
 same-length-5 c = search needs

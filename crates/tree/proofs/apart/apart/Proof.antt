@@ -24,10 +24,10 @@ loop-holds : tie.Need-loop-holds Inv-loop μ-loop
 loop-holds c = (omega arith, formed-walk (c .before .before .pre) _ (λ i. c .shared-slice-known2 .given i .fits))
 
 clear-at-requires : tie.Need-clear-at-requires Inv-loop μ-loop
-clear-at-requires c κs = (c .before .before .before .before .pre, omega arith)
+clear-at-requires c κs = (c .before .before .before .before .pre .formed, omega arith)
 
 returns : tie.Need-returns Inv-loop μ-loop
-returns c = all-stops (c .before .before .before .before .before .before .pre) _ (c .before .before .before .loop .k) (omega arith) _ (c .before .before .before .loop .inv .1) _ (c .before .clear-at .ensures) (c .if1 .taken)
+returns c = all-stops (c .before .before .before .before .before .before .pre .formed) _ (c .before .before .before .loop .k) (omega arith) _ (c .before .before .before .loop .inv .1) _ (c .before .clear-at .ensures) (c .if1 .taken)
 
 add-k : tie.Need-add-k Inv-loop μ-loop
 add-k c = omega arith
@@ -36,10 +36,10 @@ loop-less : tie.Need-loop-less Inv-loop μ-loop
 loop-less c = omega arith
 
 loop-again : tie.Need-loop-again Inv-loop μ-loop
-loop-again c = (omega arith, all-goes (c .before .before .before .before .before .before .pre) _ (c .before .before .before .loop .k) (omega arith) _ (c .before .before .before .loop .inv .1) _ (c .before .clear-at .ensures) (c .if1 .left))
+loop-again c = (omega arith, all-goes (c .before .before .before .before .before .before .pre .formed) _ (c .before .before .before .loop .k) (omega arith) _ (c .before .before .before .loop .inv .1) _ (c .before .clear-at .ensures) (c .if1 .left))
 
 returns-2 : tie.Need-returns-2 Inv-loop μ-loop
-returns-2 c = all-end _ _ (formed-done (c .before .before .before .before .pre) _ (c .before .loop .k) (omega arith)) (c .before .loop .inv .1)
+returns-2 c = all-end _ _ (formed-done (c .before .before .before .before .pre .formed) _ (c .before .loop .k) (omega arith)) (c .before .loop .inv .1)
 
 pub apart-spec : {M : Type 1} → statement M
 apart-spec = tie.close (tie.spec Inv-loop μ-loop loop-holds clear-at-requires returns add-k loop-less loop-again returns-2)

@@ -2,7 +2,7 @@
 use native.Mathlib.Omega.{arith}
 use borrow.Author.Needs.{needs}
 use Rattle.layout.proofs.InsertLaws.{Spans, spans, insert-tree, insert-end, insert-dir}
-use Rattle.tree.proofs.FormedLaws.{formed-laid}
+use Rattle.layout.proofs.LaidLaws.{laid}
 use Rattle.tree.proofs.edit.insert_at.Statement.{statement}
 use Rattle.tree.proofs.edit.insert_at.Tie as tie
 
@@ -13,7 +13,7 @@ numbers : (c : tie.After-end-of2)
     (c .before .before .end-of .result) (c .end-of2 .result)
 numbers c =
     let p = c .before .before .before .before .before .before .before in
-    spans (formed-laid (p .pre .0)) (p .args .at) (p .pre .1) (c .before .before .end-of .result) (c .end-of2 .result) (c .before .before .end-of .ensures .0) (c .end-of2 .ensures .0)
+    spans (laid _ _ _ (p .pre .0 .laid)) (p .args .at) (p .pre .1) (c .before .before .end-of .result) (c .end-of2 .result) (c .before .before .end-of .ensures .0) (c .end-of2 .ensures .0)
 
 end-of-requires : tie.Need-end-of-requires
 end-of-requires c κs = search needs
@@ -46,7 +46,7 @@ open-pairs-requires c κs =
     let q = c .before .before .before .before .before .before .before .before .before in
     let p = q .before .before .before .before .before .before .before in
     let x = numbers q in
-    let e = insert-end (formed-laid (p .pre .0)) x (p .args .rec .now) (p .pre .1) in
+    let e = insert-end (laid _ _ _ (p .pre .0 .laid)) x (p .args .rec .now) (p .pre .1) in
     (p .pre .1, p .pre .2, omega arith)
 
 same-length : tie.Need-same-length
@@ -62,7 +62,7 @@ returns c =
     let q = s .before .before in
     let p = q .before .before .before .before .before .before .before in
     let x = numbers q in
-    let v = formed-laid (p .pre .0) in (
+    let v = laid _ _ _ (p .pre .0 .laid) in (
       insert-tree v x (p .args .rec .now) _ _ (omega arith) (s .shift-up .ensures) (w .write .ensures),
       insert-dir v x (p .args .rec .now) (p .pre .1) _ (p .pre .2) (c .before .before .open-pairs .ensures),
     )

@@ -3,7 +3,7 @@ use mathlib.Core.Path.{_≡_, _∙_}
 use Prim.Native.Nat.{_-_}
 use native.Mathlib.Omega.{arith}
 use Rattle.layout.proofs.RetainLaws.{Pass, pass-start, pass-next, pass-room, pass-out, pass-in, pass-count, pass-tree, pass-dir}
-use Rattle.tree.proofs.FormedLaws.{formed-laid}
+use Rattle.layout.proofs.LaidLaws.{laid}
 use Rattle.tree.proofs.edit.retain.Statement.{statement}
 use Rattle.tree.proofs.edit.retain.Tie as tie
 
@@ -16,7 +16,7 @@ abbrev μ-loop : tie.MeasureT-loop
 loop-holds : tie.Need-loop-holds Inv-loop μ-loop
 loop-holds c =
     let p = c .before .before .before in
-    pass-start (p .args .marks .now) (p .pre .1) (formed-laid (p .pre .0))
+    pass-start (p .args .marks .now) (p .pre .1) (laid _ _ _ (p .pre .0 .laid))
 
 size-requires : tie.Need-size-requires Inv-loop μ-loop
 size-requires c κs = pass-next (c .before .before .loop .inv) (omega arith) .pair

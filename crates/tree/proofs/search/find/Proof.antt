@@ -10,7 +10,7 @@ lower-requires : tie.Need-lower-requires
 lower-requires c κs = search needs
 
 key-at-requires : tie.Need-key-at-requires
-key-at-requires c κs = formed-bounds (c .before .before .before .before .before .pre) (c .before .lower .result) (omega arith)
+key-at-requires c κs = formed-bounds (c .before .before .before .before .before .pre .formed) (c .before .lower .result) (omega arith)
 
 same-requires : tie.Need-same-requires
 same-requires c κs = search needs

@@ -12,7 +12,7 @@ value-at-requires : tie.Need-value-at-requires
 value-at-requires c κs =
     let q = c .before in
     let p = q .before .before .before .before .before in
-    formed-bounds (p .pre) (q .find .result .at) (has-place (p .pre) (p .args .key .now) (q .find .result .at) (q .find .ensures .0) (q .find .result .found) (q .find .ensures .1) (c .if1 .taken))
+    formed-bounds (p .pre .formed) (q .find .result .at) (has-place (p .pre) (p .args .key .now) (q .find .result .at) (q .find .ensures .0) (q .find .result .found) (q .find .ensures .1) (c .if1 .taken))
 
 same-requires : tie.Need-same-requires
 same-requires c κs = search needs

@@ -24,7 +24,7 @@ add-mid : tie.Need-add-mid Inv-loop μ-loop
 add-mid c = omega arith
 
 key-at-requires : tie.Need-key-at-requires Inv-loop μ-loop
-key-at-requires c κs = let l = c .before in formed-bounds (l .before .before .before .before .pre) (l .loop .lo + (l .loop .hi - l .loop .lo) / 2) (omega arith)
+key-at-requires c κs = let l = c .before in formed-bounds (l .before .before .before .before .pre .formed) (l .loop .lo + (l .loop .hi - l .loop .lo) / 2) (omega arith)
 
 less-requires : tie.Need-less-requires Inv-loop μ-loop
 less-requires c κs = search needs

@@ -51,7 +51,7 @@ returns c =
     stands Spt Tsp (p .args .namespace) _ _ (a .result) _ (g .last .1 .1 .1 .1 .0) _ (g .result) _
     (at-bytes (p .args .k) (p .args .«spt-dir» .now) (p .args .spt .now) (λ i. c .before .before .before .before .before .before .before .before .before .before .before .before .shared-slice-known2 .given i .fits))
     (formed-record (p .pre .0) (p .args .k) (p .pre .2))
-    (formed-recorded (p .pre .1) (λ i. c .before .before .before .before .before .before .before .before .before .before .shared-slice-known4 .given i .fits))
+    (formed-recorded (p .pre .1 .formed) (λ i. c .before .before .before .before .before .before .before .before .before .before .shared-slice-known4 .given i .fits))
     (a .ensures .1 .1) (g .ensures .0) (g .ensures .1) (c .before .value-at .ensures) (c .has-record .ensures)
 
 pub stands-in-spec : {M : Type 1} → statement M

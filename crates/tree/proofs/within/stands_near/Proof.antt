@@ -5,7 +5,7 @@ use Rattle.tree.proofs.within.stands_near.Statement.{statement}
 use Rattle.tree.proofs.within.stands_near.Tie as tie
 
 is-at-requires : tie.Need-is-at-requires
-is-at-requires c κs = search needs
+is-at-requires c κs = (c .before .before .before .before .pre .0, c .before .before .before .before .pre .1 .formed, c .before .before .before .before .pre .2)
 
 returns : tie.Need-returns
 returns c = sym (c .before .is-at .ensures (c .if1 .taken))

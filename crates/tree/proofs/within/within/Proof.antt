@@ -8,7 +8,7 @@ slice-aggregate-first-places : tie.Need-slice-aggregate-first-places
 slice-aggregate-first-places c = search needs
 
 first-places-requires : tie.Need-first-places-requires
-first-places-requires c κs = search needs
+first-places-requires c κs = (c .before .before .before .before .before .pre .1 .formed, search needs)
 
 slice-aggregate-within-by : tie.Need-slice-aggregate-within-by
 slice-aggregate-within-by c = search needs
