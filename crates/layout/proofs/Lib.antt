@@ -5,3 +5,4 @@ pub mod InsertLaws
 pub mod MarkLaws
 pub mod PlaceLaws
 pub mod PairLaws
+pub mod UnmarkLaws

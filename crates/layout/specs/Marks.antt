@@ -38,3 +38,9 @@ markedPairs [] dir = []
 markedPairs (m ∷ ms) [] = []
 markedPairs (m ∷ ms) (o ∷ []) = []
 markedPairs (m ∷ ms) (o ∷ l ∷ dir) = cond (eqb m 1) (o ∷ l ∷ markedPairs ms dir) (markedPairs ms dir)
+
+-- Marks without those that others take away: where the other is 1, the mark is 0.
+unfoldable pub unmarked : (marks other : List ℕ) → List ℕ
+unmarked [] other = []
+unmarked (m ∷ ms) [] = m ∷ ms
+unmarked (m ∷ ms) (o ∷ os) = cond (eqb o 1) 0 m ∷ unmarked ms os

@@ -15,7 +15,8 @@ use tree::matching::mark_range;
 use tree::stored::KeyOrder;
 ghost use mathlib.Core.Path.{_≡_};
 ghost use mathlib.Core.Bool.{true};
-ghost use Prim.Native.Nat.{_≤_};
+ghost use mathlib.Core.List.{List};
+ghost use Prim.Native.Nat.{ℕ, _≤_};
 ghost use lib.ListN.{length};
 ghost use Rattle.laws.specs.Sorted.{keep};
 ghost use Rattle.data_model.specs.Path.{field, legal};
@@ -28,46 +29,24 @@ ghost use Rattle.store.specs.Change.{inTree};
 ghost use Rattle.query.specs.Count.{areaCounted, summarised};
 
 // Over the subspace-first tree in its room. Nothing is ignored.
-fn count_in_area(
-    namespace: [u8; 16],
-    count: usize,
-    spt: &[u8],
-    spt_dir: &[u32],
-    area: Area,
-) -> usize
+fn count_in_area(count: usize, spt: &[u8], spt_dir: &[u32], area: Area) -> usize
     requires { ⌜ (Formed Spt count (now «spt_dir») (now spt)) × (count ≤ limitMost) × (legal field (area .path) ≡ true) ⌝ }
-    ensures { λ r. ⌜ r ≡ length (keep (inArea area) (inTree Spt namespace count (now («spt_dir» .entry)) (now (spt .entry)))) ⌝ }
+    ensures { λ r. ⌜ ((ns : List ℕ) → r ≡ length (keep (inArea area) (inTree Spt ns count (now («spt_dir» .entry)) (now (spt .entry))))) ⌝ }
 {
     let ignore = no_flags();
     let mut marks = [0u8; LIMIT_MOST];
-    mark_area(
-        KeyOrder::Spt,
-        namespace,
-        count,
-        spt_dir,
-        spt,
-        area,
-        ignore,
-        &mut marks,
-    );
+    mark_area(KeyOrder::Spt, count, spt_dir, spt, area, ignore, &mut marks);
     count_marked(&marks[..count])
 }
 
-fn count_in_range(
-    namespace: [u8; 16],
-    count: usize,
-    spt: &[u8],
-    spt_dir: &[u32],
-    range: Range3d,
-) -> usize
+fn count_in_range(count: usize, spt: &[u8], spt_dir: &[u32], range: Range3d) -> usize
     requires { ⌜ (Formed Spt count (now «spt_dir») (now spt)) × (count ≤ limitMost) × (legalRange field (range .paths) ≡ true) ⌝ }
-    ensures { λ r. ⌜ r ≡ length (keep (inRange range) (inTree Spt namespace count (now («spt_dir» .entry)) (now (spt .entry)))) ⌝ }
+    ensures { λ r. ⌜ ((ns : List ℕ) → r ≡ length (keep (inRange range) (inTree Spt ns count (now («spt_dir» .entry)) (now (spt .entry))))) ⌝ }
 {
     let ignore = no_flags();
     let mut marks = [0u8; LIMIT_MOST];
     mark_range(
         KeyOrder::Spt,
-        namespace,
         count,
         spt_dir,
         spt,
@@ -94,10 +73,9 @@ pub fn count_area(
     if refusal != 0 {
         return Counted { refusal, count: 0 };
     }
-    let namespace = state.namespace_id;
     let t = RECORD_MOST * state.limit;
     let d = 2 * state.limit;
-    let count = count_in_area(namespace, state.count, &spt[..t], &spt_dir[..d], area);
+    let count = count_in_area(state.count, &spt[..t], &spt_dir[..d], area);
     Counted { refusal: 0, count }
 }
 
@@ -117,9 +95,8 @@ pub fn summarise(
     if refusal != 0 {
         return Counted { refusal, count: 0 };
     }
-    let namespace = state.namespace_id;
     let t = RECORD_MOST * state.limit;
     let d = 2 * state.limit;
-    let count = count_in_range(namespace, state.count, &spt[..t], &spt_dir[..d], range);
+    let count = count_in_range(state.count, &spt[..t], &spt_dir[..d], range);
     Counted { refusal: 0, count }
 }

@@ -24,7 +24,8 @@ use tree::matching::mark_area;
 use tree::stored::KeyOrder;
 ghost use mathlib.Core.Path.{_≡_};
 ghost use mathlib.Core.Bool.{true};
-ghost use Prim.Native.Nat.{_≤_};
+ghost use mathlib.Core.List.{List};
+ghost use Prim.Native.Nat.{ℕ, _≤_};
 ghost use Rattle.data_model.specs.Path.{field, legal};
 ghost use Rattle.data_model.specs.Area.{areaRange, emptyRange};
 ghost use Rattle.tree.specs.Tree.{Formed};
@@ -34,32 +35,16 @@ ghost use Rattle.store.specs.Change.{inTree};
 ghost use Rattle.query.specs.Interest.{interestTime, startingAt, interestRange};
 
 // Over the time-first tree in its room: where the times start. Nothing is ignored.
-fn interest_time(
-    namespace: [u8; 16],
-    count: usize,
-    tsp: &[u8],
-    tsp_dir: &[u32],
-    aoi: AreaOfInterest,
-) -> u64
+fn interest_time(count: usize, tsp: &[u8], tsp_dir: &[u32], aoi: AreaOfInterest) -> u64
     requires { ⌜ (Formed Tsp count (now «tsp_dir») (now tsp)) × (count ≤ limitMost) × (legal field (aoi .area .path) ≡ true) ⌝ }
-    ensures { λ r. ⌜ r ≡ interestTime aoi (inTree Tsp namespace count (now («tsp_dir» .entry)) (now (tsp .entry))) ⌝ }
+    ensures { λ r. ⌜ ((ns : List ℕ) → r ≡ interestTime aoi (inTree Tsp ns count (now («tsp_dir» .entry)) (now (tsp .entry)))) ⌝ }
 {
     let area = aoi.area;
     let times = area.times;
     let ignore = no_flags();
     let mut marks = [0u8; LIMIT_MOST];
-    mark_area(
-        KeyOrder::Tsp,
-        namespace,
-        count,
-        tsp_dir,
-        tsp,
-        area,
-        ignore,
-        &mut marks,
-    );
+    mark_area(KeyOrder::Tsp, count, tsp_dir, tsp, area, ignore, &mut marks);
     interest_start(
-        namespace,
         count,
         tsp_dir,
         tsp,
@@ -137,9 +122,8 @@ pub fn area_of_interest_to_range(
     if refusal != 0 {
         return refused_range(refusal);
     }
-    let namespace = state.namespace_id;
     let t = RECORD_MOST * state.limit;
     let d = 2 * state.limit;
-    let start = interest_time(namespace, state.count, &tsp[..t], &tsp_dir[..d], aoi);
+    let start = interest_time(state.count, &tsp[..t], &tsp_dir[..d], aoi);
     range_from(area, start)
 }

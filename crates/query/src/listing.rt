@@ -55,16 +55,7 @@ fn next_in_area(
     ensures { λ r. ⌜ r ≡ next (listedInArea area ignore) place 0 (inTree Spt namespace count (now («spt_dir» .entry)) (now (spt .entry))) ⌝ }
 {
     let mut marks = [0u8; LIMIT_MOST];
-    mark_area(
-        KeyOrder::Spt,
-        namespace,
-        count,
-        spt_dir,
-        spt,
-        area,
-        ignore,
-        &mut marks,
-    );
+    mark_area(KeyOrder::Spt, count, spt_dir, spt, area, ignore, &mut marks);
     next_marked(&marks[..count], place)
 }
 
@@ -83,7 +74,6 @@ fn next_in_range(
     let mut marks = [0u8; LIMIT_MOST];
     mark_range(
         KeyOrder::Spt,
-        namespace,
         count,
         spt_dir,
         spt,

@@ -2,7 +2,7 @@
 use Prim.Native.Nat.{ℕ, _+_, _-_, _*_, _≤_}
 use mathlib.Core.Path.{_≡_, refl, sym, ap, ap₂, subst, _∙_}
 use mathlib.Core.List.{List, [], _∷_, map, List·Memᴰ·head as here, List·Memᴰ·tail as there}
-use mathlib.Core.Bool.{Bool, true, false, not}
+use mathlib.Core.Bool.{Bool, true, false, not, cond, _&&_}
 use native.Mathlib.Omega.{arith}
 use native.Mathlib.Nat.{mul-suc}
 use lib.ListN.{length, take, drop, length-append}
@@ -14,8 +14,9 @@ use Rattle.laws.proofs.Truth.{split, refute, not-true}
 use Rattle.laws.proofs.Order.{is-same}
 use Rattle.laws.proofs.Sorted.{any-view, any-none, keep-view, keep-length}
 use Rattle.layout.specs.Layout.{records, joined, treeBytes, dirNumbers, inserted}
-use Rattle.layout.specs.Marks.{marksOf, kept}
+use Rattle.layout.specs.Marks.{marksOf, kept, unmarked}
 use Rattle.layout.proofs.MarkLaws.{kept-in, kept-ascends}
+use Rattle.layout.proofs.UnmarkLaws.{marks-unmarked}
 use Rattle.layout.proofs.LaidLaws.{records-many}
 use Rattle.data_model.specs.Path.{Figures, field, legal, byBytes}
 use Rattle.data_model.specs.Entry.{entryOf, rankOf, prunes}
@@ -25,7 +26,10 @@ use Rattle.key_laws.specs.KeyOrder.{Sized}
 use Rattle.tree.specs.Value.{valueLength, valueBytes}
 use Rattle.tree.specs.Stored.{keyIn, orderIn, keyOf, keyBelow, Stored, stored, contents, tripleOf, valueFor, recordOf, Lawful, storedOf}
 use Rattle.tree.specs.Tree.{Ordered, Whole, keysBelow, hasKey}
-use Rattle.tree.specs.Matching.{outdates, removes}
+use Rattle.data_model.specs.declared.area.Area.{Area}
+use Rattle.tree.specs.Matching.{outdates, removes, inArea, isForgotten, noFlags, listedInArea}
+use Rattle.tree.specs.declared.matching.QueryIgnoreParams.{QueryIgnoreParams}
+use Rattle.tree.proofs.TestLaws.{unflagged-area}
 use Rattle.tree.specs.declared.stored.KeyOrder.{KeyOrder}
 use Rattle.tree.specs.declared.stored.KeyOrder.the-variants.{Spt, Tsp}
 use Rattle.tree.specs.declared.stored.LengthyAuthorisedEntry.{LengthyAuthorisedEntry}
@@ -122,6 +126,34 @@ module _ (o : KeyOrder) (f : Figures) (ns : List ℕ) where
         let g : tripleOf (y .entry) ≡ tripleOf (x .entry) = key-apart (tripleOf (y .entry)) (tripleOf (x .entry)) (w .lawful .sized) (h .sized) o t in
         let a = apart y (contents-in o f ns recs (k .1)) in
         elsewhere x y (a .0) (a .1) (triple-beside x y (name ∙ sym (w .named)) (sym g))
+
+-- What an area includes, without what a protected area does.
+and-all : (b : Bool) → (b && true) ≡ b
+and-all true = refl
+and-all false = refl
+
+pub if-protected : {protects legal : Bool} → protects ≡ true → cond protects legal true ≡ true → legal ≡ true
+if-protected {protects} {legal} t e = rw t at e
+
+module _ (g : QueryIgnoreParams) (e : g ≡ noFlags) (area protected : Area) (protects : Bool) (l : List Stored) where
+  pub unprotected-marks : protects ≡ false → (m m₀ : List ℕ) → m ≡ put (marksOf (listedInArea area g) l) m₀ → m ≡ put (marksOf (isForgotten area protects protected) l) m₀
+  unfolding isForgotten
+  unprotected-marks f m m₀ q = q ∙ ap (λ (p : Stored → Bool). put (marksOf p l) m₀) (λ i x. alike x i)
+    where
+      alike : (x : Stored) → listedInArea area g x ≡ (inArea area x && not (cond protects (inArea protected x) false))
+      alike x = unflagged-area g e area x ∙ rw f (sym (and-all (inArea area x)))
+
+  pub protected-marks : protects ≡ true → (count : ℕ) → length l ≡ count → (m m₁ m₀ shield s₀ : List ℕ) → m₁ ≡ put (marksOf (listedInArea area g) l) m₀
+      → shield ≡ put (marksOf (listedInArea protected g) l) s₀ → m ≡ unmarked m₁ (take count shield) → m ≡ put (marksOf (isForgotten area protects protected) l) m₀
+  unfolding isForgotten
+  protected-marks t count n m m₁ m₀ shield s₀ q r z =
+      z
+      ∙ ap₂ (λ (a b : List ℕ). unmarked a (take count b)) q r
+      ∙ marks-unmarked (listedInArea area g) (listedInArea protected g) l count m₀ s₀ (sym n)
+      ∙ ap (λ (p : Stored → Bool). put (marksOf p l) m₀) (λ i x. alike x i)
+    where
+      alike : (x : Stored) → (listedInArea area g x && not (listedInArea protected g x)) ≡ (inArea area x && not (cond protects (inArea protected x) false))
+      alike x = rw t (ap₂ (λ (a b : Bool). a && not b) (unflagged-area g e area x) (unflagged-area g e protected x))
 
 -- What the marks of a test leave.
 module _ {o : KeyOrder} {count : ℕ} {dir tree : List ℕ} (v : Whole o count dir tree) (bytes : Bytes tree) (ns : List ℕ) (p : Stored → Bool)

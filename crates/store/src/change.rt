@@ -6,9 +6,11 @@ use data_model::parameters::Subspace;
 use data_model::path::Path;
 use tree::edit::insert_at;
 use tree::edit::retain;
+use tree::marks::unmark;
+use tree::matching::mark_area;
 use tree::matching::mark_at;
-use tree::matching::mark_forgotten;
 use tree::matching::mark_removed;
+use tree::matching::no_flags;
 use tree::search::find;
 use tree::stored::KeyOrder;
 use tree::stored::LengthyAuthorisedEntry;
@@ -16,11 +18,15 @@ use tree::stored::encode_record;
 use tree::value::VALUE;
 ghost use mathlib.Core.Path.{_≡_};
 ghost use mathlib.Core.Bool.{true, not, cond};
-ghost use Prim.Native.Nat.{_≤_};
+ghost use mathlib.Core.List.{List};
+ghost use Prim.Native.Nat.{ℕ, _≤_};
+ghost use lib.ListN.{length};
+ghost use Rattle.laws.specs.Lists.{put};
+ghost use Rattle.layout.specs.Marks.{marksOf};
 ghost use Rattle.laws.specs.Sorted.{keep};
 ghost use Rattle.data_model.specs.Path.{field, legal, components};
 ghost use Rattle.tree.specs.Stored.{storedOf};
-ghost use Rattle.tree.specs.Tree.{Whole};
+ghost use Rattle.tree.specs.Tree.{Formed, Whole};
 ghost use Rattle.tree.specs.Matching.{standsAt, isForgotten};
 ghost use Rattle.store.specs.Store.{limitMost};
 ghost use Rattle.store.specs.Ingest.{filedIn};
@@ -76,10 +82,32 @@ pub fn drop_at(
     retain(order, count, dir, tree, &marks)
 }
 
+// Marks what an area includes and the protected area, if any, does not.
+fn mark_forgotten(
+    order: KeyOrder,
+    count: usize,
+    dir: &[u32],
+    tree: &[u8],
+    area: Area,
+    protects: bool,
+    protected: Area,
+    marks: &mut [u8],
+)
+    requires { ⌜ (Formed order count (now dir) (now tree)) × (count ≤ limitMost) × (count ≤ length (now marks)) × (legal field (area .path) ≡ true) × (cond protects (legal field (protected .path)) true ≡ true) ⌝ }
+    ensures { λ _. ⌜ ((ns : List ℕ) → now (marks .exit) ≡ put (marksOf (isForgotten area protects protected) (inTree order ns count (now (dir .entry)) (now (tree .entry)))) (now (marks .entry))) ⌝ }
+{
+    let ignore = no_flags();
+    mark_area(order, count, dir, tree, area, ignore, marks);
+    if protects {
+        let mut shield = [0u8; LIMIT_MOST];
+        mark_area(order, count, dir, tree, protected, ignore, &mut shield);
+        unmark(marks, &shield[..count]);
+    }
+}
+
 // Takes out what an area includes and the protected area, if any, does not, and answers how many are left.
 pub fn drop_area(
     order: KeyOrder,
-    namespace: [u8; 16],
     count: usize,
     tree: &mut [u8],
     dir: &mut [u32],
@@ -88,12 +116,11 @@ pub fn drop_area(
     protected: Area,
 ) -> usize
     requires { ⌜ (Whole order count (now dir) (now tree)) × (count ≤ limitMost) × (legal field (area .path) ≡ true) × (cond protects (legal field (protected .path)) true ≡ true) ⌝ }
-    ensures { λ r. ⌜ Changed order (keep (λ x. not (isForgotten area protects protected x)) (inTree order namespace count (now (dir .entry)) (now (tree .entry)))) (now (dir .entry)) (now (tree .entry)) (now (dir .exit)) (now (tree .exit)) r ⌝ }
+    ensures { λ r. ⌜ ((ns : List ℕ) → Changed order (keep (λ x. not (isForgotten area protects protected x)) (inTree order ns count (now (dir .entry)) (now (tree .entry)))) (now (dir .entry)) (now (tree .entry)) (now (dir .exit)) (now (tree .exit)) r) ⌝ }
 {
     let mut marks = [0u8; LIMIT_MOST];
     mark_forgotten(
         order,
-        namespace,
         count,
         dir,
         tree,

@@ -240,7 +240,6 @@ pub fn forget_area(
     let d = 2 * state.limit;
     let count = drop_area(
         KeyOrder::Spt,
-        namespace_id,
         state.count,
         &mut spt[..t],
         &mut spt_dir[..d],
@@ -250,7 +249,6 @@ pub fn forget_area(
     );
     drop_area(
         KeyOrder::Tsp,
-        namespace_id,
         state.count,
         &mut tsp[..t],
         &mut tsp_dir[..d],

@@ -14,4 +14,4 @@ pub mod FormedContents
 pub mod MarkingLaws
 pub mod PlaceLaws
 pub mod ClearLaws
-pub mod ByteLaws
+pub mod SelectionLaws

@@ -14,7 +14,9 @@ use Rattle.data_model.specs.declared.parameters.Subspace.{Subspace}
 use Rattle.data_model.specs.declared.path.Path.{Path}
 use Rattle.tree.specs.Stored.{Stored, storedOf}
 use Rattle.tree.specs.Apart.{samePlace}
-use Rattle.tree.specs.Matching.{removes, standsAt, letThrough}
+use Rattle.data_model.specs.declared.area.Area.{Area}
+use Rattle.data_model.specs.declared.«range_3d».Range3d.{Range3d}
+use Rattle.tree.specs.Matching.{removes, standsAt, inArea, inRange, letThrough, noFlags, listedInArea, listedInRange}
 use Rattle.tree.specs.declared.stored.LengthyAuthorisedEntry.{LengthyAuthorisedEntry}
 use Rattle.tree.specs.declared.matching.QueryIgnoreParams.{QueryIgnoreParams}
 
@@ -67,6 +69,20 @@ module _ (g : QueryIgnoreParams) (x : Stored) where
     pub through-rest : (g .«ignore_incomplete_payloads» && ltb m n) ≡ false → not (g .«ignore_empty_payloads» && eqb n 0) ≡ letThrough g x
     unfolding letThrough sameNumber
     through-rest f = rw (← a, ← l, f)
+
+-- With no flag set nothing is ignored.
+and-all : (b : Bool) → (b && true) ≡ b
+and-all true = refl
+and-all false = refl
+
+module _ (g : QueryIgnoreParams) (e : g ≡ noFlags) where
+  pub unflagged-area : (area : Area) (x : Stored) → listedInArea area g x ≡ inArea area x
+  unfolding listedInArea letThrough
+  unflagged-area area x = ap (λ (h : QueryIgnoreParams). listedInArea area h x) e ∙ and-all (inArea area x)
+
+  pub unflagged-range : (range : Range3d) (x : Stored) → listedInRange range g x ≡ inRange range x
+  unfolding listedInRange letThrough
+  unflagged-range range x = ap (λ (h : QueryIgnoreParams). listedInRange range h x) e ∙ and-all (inRange range x)
 
 -- May cover: not of one place, not newer.
 module _ (a b : Entry) (r : Bool) (h : r ≡ samePlace (entryOf a) (entryOf b)) where

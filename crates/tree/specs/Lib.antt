@@ -5,4 +5,4 @@ pub mod Apart
 pub mod Matching
 pub mod Interest
 pub mod Place
-pub mod ByBytes
+pub mod Selection

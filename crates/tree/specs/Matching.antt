@@ -41,6 +41,10 @@ letThrough g x =
     not (g .«ignore_incomplete_payloads» && ltb (x .available) (x .entry .rank .«payload_length»)) &&
     not (g .«ignore_empty_payloads» && sameNumber (x .entry .rank .«payload_length») 0)
 
+-- Nothing is ignored.
+abbrev pub noFlags : QueryIgnoreParams
+noFlags = record { «ignore_incomplete_payloads» = false; «ignore_empty_payloads» = false }
+
 unfoldable pub listedInArea : Area → QueryIgnoreParams → Stored → Bool
 listedInArea a g x = inArea a x && letThrough g x
 

@@ -5,9 +5,9 @@ use crate::stored::value_at;
 use crate::value::payload_length;
 ghost use mathlib.Core.Path.{_≡_};
 ghost use mathlib.Core.Bool.{false, _||_};
-ghost use Prim.Native.Nat.{_+_};
+ghost use Prim.Native.Nat.{ℕ, _+_};
 ghost use lib.ListN.{length};
-ghost use mathlib.Core.List.{reverse};
+ghost use mathlib.Core.List.{List, reverse};
 ghost use Rattle.layout.specs.Layout.{records};
 ghost use Rattle.layout.specs.Marks.{selected};
 ghost use Rattle.data_model.specs.Path.{field};
@@ -54,7 +54,6 @@ fn add_size(max_size: u64, size: u64, length: u64) -> u64
 
 // Walks the marked records of the time-first tree from the last: the time of the first that breaks a limit, else of the least, else `start`.
 pub fn interest_start(
-    namespace: [u8; 16],
     count: usize,
     dir: &[u32],
     tree: &[u8],
@@ -64,7 +63,7 @@ pub fn interest_start(
     max_size: u64,
 ) -> u64
     requires { ⌜ (Formed Tsp count (now dir) (now tree)) × (length (now marks) ≡ count) ⌝ }
-    ensures { λ r. ⌜ r ≡ interestFrom «max_count» «max_size» 0 0 start (reverse (selected (now (marks .entry)) (contents Tsp field namespace (records count (now (dir .entry)) (now (tree .entry)))))) ⌝ }
+    ensures { λ r. ⌜ ((ns : List ℕ) → r ≡ interestFrom «max_count» «max_size» 0 0 start (reverse (selected (now (marks .entry)) (contents Tsp field ns (records count (now (dir .entry)) (now (tree .entry))))))) ⌝ }
 {
     let mut k = count;
     let mut n: u64 = 0;

@@ -2,7 +2,6 @@
 // and length. The tree takes its room from what it is lent. Its functions are for the store above it, and may ask what the store has
 // tested already, as that a tree is well-formed.
 pub mod apart;
-pub mod by_bytes;
 pub mod by_value;
 pub mod edit;
 pub mod interest;
@@ -10,8 +9,8 @@ pub mod marks;
 pub mod matching;
 pub mod place;
 pub mod search;
+pub mod selection;
 pub mod shape;
 pub mod stored;
 pub mod value;
-pub mod walks;
 pub mod within;

@@ -3,10 +3,12 @@ use layout::directory::offset;
 use layout::directory::put_pair;
 use layout::directory::size;
 ghost use mathlib.Core.Path.{_≡_};
+ghost use mathlib.Core.Bool.{cond};
 ghost use Prim.Native.Nat.{_+_, _*_, _≤_};
+ghost use lib.Dec.{eqb};
 ghost use lib.ListN.{length, drop};
 ghost use Rattle.laws.specs.Lists.{put};
-ghost use Rattle.layout.specs.Marks.{firstMark, countMarks, markedPairs};
+ghost use Rattle.layout.specs.Marks.{firstMark, countMarks, markedPairs, unmarked};
 
 // The first marked place from `from` on, or the number of places.
 pub fn first_marked(marks: &[u8], from: usize) -> usize
@@ -56,4 +58,23 @@ pub fn write_pairs(dir: &[u32], marks: &[u8], out: &mut [u32]) -> usize
         }
     }
     n
+}
+
+// A mark that another takes away.
+fn without(mark: u8, other: u8) -> u8
+    ensures { λ r. ⌜ r ≡ cond (eqb other 1) 0 mark ⌝ }
+{
+    if other == 1 { 0 } else { mark }
+}
+
+// Takes away the marks of what others mark too. Marks behind the last of the others stay.
+pub fn unmark(marks: &mut [u8], other: &[u8])
+    requires { ⌜ length (now other) ≤ length (now marks) ⌝ }
+    ensures { λ _. ⌜ now (marks .exit) ≡ unmarked (now (marks .entry)) (now (other .entry)) ⌝ }
+{
+    let mut k: usize = 0;
+    while k < other.len() {
+        marks[k] = without(marks[k], other[k]);
+        k += 1;
+    }
 }

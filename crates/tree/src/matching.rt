@@ -8,23 +8,26 @@ use crate::place::open_at;
 use crate::place::place_at;
 use crate::place::write_path;
 use crate::place::write_place;
+use crate::selection::Selection;
+use crate::selection::mark_selected;
 use crate::stored::KeyOrder;
 use crate::stored::LengthyAuthorisedEntry;
 use crate::stored::stored_at;
-use crate::walks::area_from;
-use crate::walks::forgotten_from;
-use crate::walks::range_from;
 use data_model::area::Area;
+use data_model::area::AreaSubspace;
 use data_model::checked;
 use data_model::entry::Entry;
 use data_model::parameters::Subspace;
 use data_model::path::Path;
+use data_model::range::SubspaceEnd;
+use data_model::range::SubspaceRange;
 use data_model::range_3d::Range3d;
 use keys::encode::KEY_MOST;
 use layout::bytes::same;
 ghost use mathlib.Core.Path.{_≡_};
 ghost use mathlib.Core.Bool.{true, cond};
-ghost use Prim.Native.Nat.{_≤_, _<_};
+ghost use mathlib.Core.List.{List};
+ghost use Prim.Native.Nat.{ℕ, _≤_, _<_};
 ghost use lib.ListN.{length};
 ghost use Rattle.laws.specs.Lists.{put};
 ghost use Rattle.layout.specs.Layout.{records, recordAt};
@@ -35,12 +38,22 @@ ghost use Rattle.data_model.specs.Range.{legalRange};
 ghost use Rattle.tree.specs.Stored.{contents, stored, storedOf};
 ghost use Rattle.tree.specs.Tree.{Formed};
 ghost use Rattle.tree.specs.Place.{placeKey, openKey};
-ghost use Rattle.tree.specs.Matching.{outdates, removes, standsAt, isForgotten, letThrough, listedInArea, listedInRange};
+ghost use Rattle.tree.specs.Matching.{outdates, removes, standsAt, letThrough, noFlags, listedInArea, listedInRange};
 
 // Which entries to ignore in a query: those whose payload is not all there, those of an empty payload.
 pub struct QueryIgnoreParams {
     pub ignore_incomplete_payloads: bool,
     pub ignore_empty_payloads: bool,
+}
+
+// Nothing is ignored.
+pub fn no_flags() -> QueryIgnoreParams
+    ensures { λ r. ⌜ r ≡ noFlags ⌝ }
+{
+    QueryIgnoreParams {
+        ignore_incomplete_payloads: false,
+        ignore_empty_payloads: false,
+    }
 }
 
 pub fn outdates(e: Entry, a: LengthyAuthorisedEntry) -> bool
@@ -300,52 +313,9 @@ fn path_if(looked_at: bool, path: Path) -> Path
     Path::new_empty()
 }
 
-// What an area includes and the protected area, if any, does not.
-pub fn mark_forgotten(
-    order: KeyOrder,
-    namespace: [u8; 16],
-    count: usize,
-    dir: &[u32],
-    tree: &[u8],
-    area: Area,
-    protects: bool,
-    protected: Area,
-    marks: &mut [u8],
-)
-    requires { ⌜ (Formed order count (now dir) (now tree)) × (count ≤ length (now marks)) × (legal field (area .path) ≡ true) × (cond protects (legal field (protected .path)) true ≡ true) ⌝ }
-    ensures { λ _. ⌜ now (marks .exit) ≡ put (marksOf (isForgotten area protects protected) (contents order field namespace (records count (now (dir .entry)) (now (tree .entry))))) (now (marks .entry)) ⌝ }
-{
-    let path = area.path;
-    let mut key = [0u8; KEY_MOST];
-    let n = write_path(path, &mut key) - END;
-    let other = protected.path;
-    let mut shield = [0u8; KEY_MOST];
-    let m = write_path(path_if(protects, other), &mut shield) - END;
-    let own = area.subspace;
-    let times = area.times;
-    let shield_own = protected.subspace;
-    let shield_times = protected.times;
-    forgotten_from(
-        order,
-        namespace,
-        count,
-        dir,
-        tree,
-        own,
-        times,
-        &key[SUBSPACE..n],
-        protects,
-        shield_own,
-        shield_times,
-        &shield[SUBSPACE..m],
-        marks,
-    );
-}
-
 // What an area includes and the flags let through.
 pub fn mark_area(
     order: KeyOrder,
-    namespace: [u8; 16],
     count: usize,
     dir: &[u32],
     tree: &[u8],
@@ -354,23 +324,32 @@ pub fn mark_area(
     marks: &mut [u8],
 )
     requires { ⌜ (Formed order count (now dir) (now tree)) × (count ≤ length (now marks)) × (legal field (area .path) ≡ true) ⌝ }
-    ensures { λ _. ⌜ now (marks .exit) ≡ put (marksOf (listedInArea area ignore) (contents order field namespace (records count (now (dir .entry)) (now (tree .entry))))) (now (marks .entry)) ⌝ }
+    ensures { λ _. ⌜ ((ns : List ℕ) → now (marks .exit) ≡ put (marksOf (listedInArea area ignore) (contents order field ns (records count (now (dir .entry)) (now (tree .entry))))) (now (marks .entry))) ⌝ }
 {
     let path = area.path;
     let mut key = [0u8; KEY_MOST];
     let n = write_path(path, &mut key) - END;
     let own = area.subspace;
     let times = area.times;
-    area_from(
+    let selection = Selection {
+        own,
+        subspaces: SubspaceRange {
+            start: Subspace { high: 0, low: 0 },
+            end: SubspaceEnd::Open,
+        },
+        times,
+        under: true,
+        open: true,
+        ignore,
+    };
+    mark_selected(
         order,
-        namespace,
         count,
         dir,
         tree,
-        own,
-        times,
+        selection,
         &key[SUBSPACE..n],
-        ignore,
+        &[],
         marks,
     );
 }
@@ -378,7 +357,6 @@ pub fn mark_area(
 // What a 3d range includes and the flags let through.
 pub fn mark_range(
     order: KeyOrder,
-    namespace: [u8; 16],
     count: usize,
     dir: &[u32],
     tree: &[u8],
@@ -387,7 +365,7 @@ pub fn mark_range(
     marks: &mut [u8],
 )
     requires { ⌜ (Formed order count (now dir) (now tree)) × (count ≤ length (now marks)) × (legalRange field (range .paths) ≡ true) ⌝ }
-    ensures { λ _. ⌜ now (marks .exit) ≡ put (marksOf (listedInRange range ignore) (contents order field namespace (records count (now (dir .entry)) (now (tree .entry))))) (now (marks .entry)) ⌝ }
+    ensures { λ _. ⌜ ((ns : List ℕ) → now (marks .exit) ≡ put (marksOf (listedInRange range ignore) (contents order field ns (records count (now (dir .entry)) (now (tree .entry))))) (now (marks .entry))) ⌝ }
 {
     let paths = range.paths;
     let start = paths.start;
@@ -399,18 +377,24 @@ pub fn mark_range(
     let m = write_path(path_if(!open, end), &mut high);
     let subspaces = range.subspaces;
     let times = range.times;
-    range_from(
+    let selection = Selection {
+        own: AreaSubspace::Any,
+        subspaces,
+        times,
+        under: false,
+        open,
+        ignore,
+    };
+    let start_bytes = &low[SUBSPACE..n];
+    let end_bytes = &high[SUBSPACE..m];
+    mark_selected(
         order,
-        namespace,
         count,
         dir,
         tree,
-        subspaces,
-        times,
-        &low[SUBSPACE..n],
-        open,
-        &high[SUBSPACE..m],
-        ignore,
+        selection,
+        start_bytes,
+        end_bytes,
         marks,
     );
 }

@@ -33,22 +33,22 @@ returns : tie.Need-returns
 returns c = let p = (c .before .before .before .before .before .before .before .before) in count-refused (lent (c .before .before .before .before .before .before .before .before)) (c .before .before .is-legal .result) _ (c .before .before .is-legal .ensures) (c .before .read-refusal .result) (c .before .read-refusal .ensures) (inArea (p .args .area)) (c .if1 .taken)
 
 mul-t : tie.Need-mul-t
-mul-t c = let m = known (c .before .before) .0 .most in omega arith
+mul-t c = let m = known (c .before) .0 .most in omega arith
 
 mul-d : tie.Need-mul-d
-mul-d c = let m = known (c .before .before .before) .0 .most in omega arith
+mul-d c = let m = known (c .before .before) .0 .most in omega arith
 
 slice-aggregate-count-in-area : tie.Need-slice-aggregate-count-in-area
-slice-aggregate-count-in-area c = sym (length-take-le _ _ (known (c .before .before .before .before) .0 .room .spt))
+slice-aggregate-count-in-area c = sym (length-take-le _ _ (known (c .before .before .before) .0 .room .spt))
 
 slice-aggregate-count-in-area-2 : tie.Need-slice-aggregate-count-in-area-2
-slice-aggregate-count-in-area-2 c = sym (length-take-le _ _ (known (c .before .before .before .before .before) .0 .room .sptDir))
+slice-aggregate-count-in-area-2 c = sym (length-take-le _ _ (known (c .before .before .before .before) .0 .room .sptDir))
 
 count-in-area-requires : tie.Need-count-in-area-requires
-count-in-area-requires c κs = let k = known (c .before .before .before .before .before) in let m = k .0 .most in let f = k .0 .few in (formed-spt (lent (c .before .before .before .before .before .before .before .before .before .before .before .before .before)) (k .0), omega arith, k .1)
+count-in-area-requires c κs = let k = known (c .before .before .before .before) in let m = k .0 .most in let f = k .0 .few in (formed-spt (lent (c .before .before .before .before .before .before .before .before .before .before .before .before)) (k .0), omega arith, k .1)
 
 returns-2 : tie.Need-returns-2
-returns-2 c = let p = (c .before .before .before .before .before .before .before .before .before .before .before .before .before .before) in count-done (lent (c .before .before .before .before .before .before .before .before .before .before .before .before .before .before)) (c .before .before .before .before .before .before .before .before .is-legal .result) _ (c .before .before .before .before .before .before .before .before .is-legal .ensures) (c .before .before .before .before .before .before .before .read-refusal .result) (c .before .before .before .before .before .before .before .read-refusal .ensures) (inArea (p .args .area)) (c .before .before .before .before .before .before .if1 .left) _ (c .count-in-area .ensures)
+returns-2 c = let p = (c .before .before .before .before .before .before .before .before .before .before .before .before .before) in count-done (lent (c .before .before .before .before .before .before .before .before .before .before .before .before .before)) (c .before .before .before .before .before .before .before .is-legal .result) _ (c .before .before .before .before .before .before .before .is-legal .ensures) (c .before .before .before .before .before .before .read-refusal .result) (c .before .before .before .before .before .before .read-refusal .ensures) (inArea (p .args .area)) (c .before .before .before .before .before .if1 .left) _ (c .count-in-area .ensures (c .before .before .before .before .before .before .before .before .before .before .before .before .before .args .state .«namespace_id»))
 
 pub count-area-spec : {M : Type 1} → statement M
 count-area-spec =

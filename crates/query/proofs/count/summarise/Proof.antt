@@ -34,22 +34,22 @@ returns : tie.Need-returns
 returns c = let p = (c .before .before .before .before .before .before .before .before) in count-refused (lent (c .before .before .before .before .before .before .before .before)) (c .before .before .is-legal-range .result) _ (c .before .before .is-legal-range .ensures) (c .before .read-refusal .result) (c .before .read-refusal .ensures) (inRange (p .args .range)) (c .if1 .taken)
 
 mul-t : tie.Need-mul-t
-mul-t c = let m = known (c .before .before) .0 .most in omega arith
+mul-t c = let m = known (c .before) .0 .most in omega arith
 
 mul-d : tie.Need-mul-d
-mul-d c = let m = known (c .before .before .before) .0 .most in omega arith
+mul-d c = let m = known (c .before .before) .0 .most in omega arith
 
 slice-aggregate-count-in-range : tie.Need-slice-aggregate-count-in-range
-slice-aggregate-count-in-range c = sym (length-take-le _ _ (known (c .before .before .before .before) .0 .room .spt))
+slice-aggregate-count-in-range c = sym (length-take-le _ _ (known (c .before .before .before) .0 .room .spt))
 
 slice-aggregate-count-in-range-2 : tie.Need-slice-aggregate-count-in-range-2
-slice-aggregate-count-in-range-2 c = sym (length-take-le _ _ (known (c .before .before .before .before .before) .0 .room .sptDir))
+slice-aggregate-count-in-range-2 c = sym (length-take-le _ _ (known (c .before .before .before .before) .0 .room .sptDir))
 
 count-in-range-requires : tie.Need-count-in-range-requires
-count-in-range-requires c κs = let k = known (c .before .before .before .before .before) in let m = k .0 .most in let f = k .0 .few in (formed-spt (lent (c .before .before .before .before .before .before .before .before .before .before .before .before .before)) (k .0), omega arith, k .1)
+count-in-range-requires c κs = let k = known (c .before .before .before .before) in let m = k .0 .most in let f = k .0 .few in (formed-spt (lent (c .before .before .before .before .before .before .before .before .before .before .before .before)) (k .0), omega arith, k .1)
 
 returns-2 : tie.Need-returns-2
-returns-2 c = let p = (c .before .before .before .before .before .before .before .before .before .before .before .before .before .before) in count-done (lent (c .before .before .before .before .before .before .before .before .before .before .before .before .before .before)) (c .before .before .before .before .before .before .before .before .is-legal-range .result) _ (c .before .before .before .before .before .before .before .before .is-legal-range .ensures) (c .before .before .before .before .before .before .before .read-refusal .result) (c .before .before .before .before .before .before .before .read-refusal .ensures) (inRange (p .args .range)) (c .before .before .before .before .before .before .if1 .left) _ (c .count-in-range .ensures)
+returns-2 c = let p = (c .before .before .before .before .before .before .before .before .before .before .before .before .before) in count-done (lent (c .before .before .before .before .before .before .before .before .before .before .before .before .before)) (c .before .before .before .before .before .before .before .is-legal-range .result) _ (c .before .before .before .before .before .before .before .is-legal-range .ensures) (c .before .before .before .before .before .before .read-refusal .result) (c .before .before .before .before .before .before .read-refusal .ensures) (inRange (p .args .range)) (c .before .before .before .before .before .if1 .left) _ (c .count-in-range .ensures (c .before .before .before .before .before .before .before .before .before .before .before .before .before .args .state .«namespace_id»))
 
 pub summarise-spec : {M : Type 1} → statement M
 summarise-spec =

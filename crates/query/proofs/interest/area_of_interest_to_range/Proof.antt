@@ -35,25 +35,25 @@ returns : tie.Need-returns
 returns c = interest-refused (lent (c .before .before .before .before .before .before .before .before .before .before)) ((c .before .before .before .before .before .before .before .before .before .before) .args .aoi) (c .before .before .before .is-legal .result) (c .before .before .before .is-legal .ensures) (c .before .before .read-refusal .result) (c .before .before .read-refusal .ensures) (c .before .if1 .taken) _ (c .refused-range .ensures)
 
 mul-t : tie.Need-mul-t
-mul-t c = let m = known (c .before .before) .0 .most in omega arith
+mul-t c = let m = known (c .before) .0 .most in omega arith
 
 mul-d : tie.Need-mul-d
-mul-d c = let m = known (c .before .before .before) .0 .most in omega arith
+mul-d c = let m = known (c .before .before) .0 .most in omega arith
 
 slice-aggregate-interest-time : tie.Need-slice-aggregate-interest-time
-slice-aggregate-interest-time c = sym (length-take-le _ _ (known (c .before .before .before .before) .0 .room .tsp))
+slice-aggregate-interest-time c = sym (length-take-le _ _ (known (c .before .before .before) .0 .room .tsp))
 
 slice-aggregate-interest-time-2 : tie.Need-slice-aggregate-interest-time-2
-slice-aggregate-interest-time-2 c = sym (length-take-le _ _ (known (c .before .before .before .before .before) .0 .room .tspDir))
+slice-aggregate-interest-time-2 c = sym (length-take-le _ _ (known (c .before .before .before .before) .0 .room .tspDir))
 
 interest-time-requires : tie.Need-interest-time-requires
-interest-time-requires c κs = let k = known (c .before .before .before .before .before) in let m = k .0 .most in let f = k .0 .few in (formed-tsp (lent (c .before .before .before .before .before .before .before .before .before .before .before .before .before .before)) (k .0), omega arith, k .1)
+interest-time-requires c κs = let k = known (c .before .before .before .before) in let m = k .0 .most in let f = k .0 .few in (formed-tsp (lent (c .before .before .before .before .before .before .before .before .before .before .before .before .before)) (k .0), omega arith, k .1)
 
 range-from-requires : tie.Need-range-from-requires
-range-from-requires c κs = known (c .before .before .before .before .before .before) .1
+range-from-requires c κs = known (c .before .before .before .before .before) .1
 
 returns-2 : tie.Need-returns-2
-returns-2 c = interest-done (lent (c .before .before .before .before .before .before .before .before .before .before .before .before .before .before .before .before)) ((c .before .before .before .before .before .before .before .before .before .before .before .before .before .before .before .before) .args .aoi) (c .before .before .before .before .before .before .before .before .before .is-legal .result) (c .before .before .before .before .before .before .before .before .before .is-legal .ensures) (c .before .before .before .before .before .before .before .before .read-refusal .result) (c .before .before .before .before .before .before .before .before .read-refusal .ensures) (c .before .before .before .before .before .before .before .if1 .left) _ (c .before .interest-time .ensures) _ (c .range-from .ensures)
+returns-2 c = interest-done (lent (c .before .before .before .before .before .before .before .before .before .before .before .before .before .before .before)) ((c .before .before .before .before .before .before .before .before .before .before .before .before .before .before .before) .args .aoi) (c .before .before .before .before .before .before .before .before .is-legal .result) (c .before .before .before .before .before .before .before .before .is-legal .ensures) (c .before .before .before .before .before .before .before .read-refusal .result) (c .before .before .before .before .before .before .before .read-refusal .ensures) (c .before .before .before .before .before .before .if1 .left) _ (c .before .interest-time .ensures (c .before .before .before .before .before .before .before .before .before .before .before .before .before .before .before .args .state .«namespace_id»)) _ (c .range-from .ensures)
 
 pub area-of-interest-to-range-spec : {M : Type 1} → statement M
 area-of-interest-to-range-spec =

@@ -12,8 +12,8 @@ use Rattle.query.proofs.listing.next_in_range.Statement.{statement}
 use Rattle.query.proofs.listing.next_in_range.Tie as tie
 
 -- The marks of the records are a part of the buffer.
-front : (c : tie.After-mark-range) → _≡_ {A = ℕ} ((c .before .before .before .before) .args .count) (length (take ((c .before .before .before .before) .args .count) (c .mark-range .last .1 .1 .1 .1 .1 .1 .1 .0)))
-front c = sym (length-take-le ((c .before .before .before .before) .args .count) (c .mark-range .last .1 .1 .1 .1 .1 .1 .1 .0) (omega (arith, (c .before .before .before .before) .pre .1, c .mark-range .kept .1 .1 .1 .1 .1 .1 .1 .0, length-replicate {A = ℕ} 1024 0)))
+front : (c : tie.After-mark-range) → _≡_ {A = ℕ} ((c .before .before .before .before) .args .count) (length (take ((c .before .before .before .before) .args .count) (c .mark-range .last .1 .1 .1 .1 .1 .1 .0)))
+front c = sym (length-take-le ((c .before .before .before .before) .args .count) (c .mark-range .last .1 .1 .1 .1 .1 .1 .0) (omega (arith, (c .before .before .before .before) .pre .1, c .mark-range .kept .1 .1 .1 .1 .1 .1 .0, length-replicate {A = ℕ} 1024 0)))
 
 slice-aggregate-mark-range : tie.Need-slice-aggregate-mark-range
 slice-aggregate-mark-range c = search needs
@@ -31,7 +31,7 @@ next-marked-requires : tie.Need-next-marked-requires
 next-marked-requires c κs = search needs
 
 returns : tie.Need-returns
-returns c = let p = (c .before .before .before .before .before .before .before) in let m = c .before .before .before .mark-range in next-marked (listedInRange (p .args .range) (p .args .ignore)) _ (p .args .count) (formed-many (p .pre .0) (p .args .namespace)) _ _ (m .ensures) (p .args .place) _ (c .next-marked .ensures)
+returns c = let p = (c .before .before .before .before .before .before .before) in let m = c .before .before .before .mark-range in next-marked (listedInRange (p .args .range) (p .args .ignore)) _ (p .args .count) (formed-many (p .pre .0) (p .args .namespace)) _ _ (m .ensures (p .args .namespace)) (p .args .place) _ (c .next-marked .ensures)
 
 pub next-in-range-spec : {M : Type 1} → statement M
 next-in-range-spec =

@@ -66,7 +66,7 @@ unfolding treeOf dirOf
 drop-area-requires-2 c κs = let p = (c .before .before .before .before .before .before .before .before .before .before .before .before .before .before .before .before .before .before .before .before .before .before) in let q = area-tested (storeOf (p .args .state) (p .args .spt .now) (p .args .«spt-dir» .now) (p .args .tsp .now) (p .args .«tsp-dir» .now)) (p .args .area) (p .args .protects) (p .args .protected) (c .before .before .before .before .before .before .before .before .before .before .before .before .before .forget-area-refusal .result) (c .before .before .before .before .before .before .before .before .before .before .before .before .before .forget-area-refusal .ensures) (c .before .before .before .before .before .before .before .before .before .before .before .before .if1 .left) in let m = q .0 .most in let k = q .0 .few in (q .0 .whole Tsp, omega arith, q .1, q .2)
 
 sub-t28 : tie.Need-sub-t28
-sub-t28 c = let p = (c .before .before .before .before .before .before .before .before .before .before .before .before .before .before .before .before .before .before .before .before .before .before .before .before .before .before .before .before) in let a = c .before .before .before .before .before .before .before .before .before .before .before .before .drop-area in let b = c .before .before .before .before .before .drop-area2 in area-left (storeOf (p .args .state) (p .args .spt .now) (p .args .«spt-dir» .now) (p .args .tsp .now) (p .args .«tsp-dir» .now)) (p .args .area) (p .args .protects) (p .args .protected) (c .before .before .before .before .before .before .before .before .before .before .before .before .before .before .before .before .before .before .before .forget-area-refusal .result) (c .before .before .before .before .before .before .before .before .before .before .before .before .before .before .before .before .before .before .before .forget-area-refusal .ensures) (c .before .before .before .before .before .before .before .before .before .before .before .before .before .before .before .before .before .before .if1 .left) (a .result) (b .result) (a .last .1 .1 .1 .0) (a .last .1 .1 .1 .1 .0) (b .last .1 .1 .1 .0) (b .last .1 .1 .1 .1 .0) (a .ensures) (b .ensures)
+sub-t28 c = let p = (c .before .before .before .before .before .before .before .before .before .before .before .before .before .before .before .before .before .before .before .before .before .before .before .before .before .before .before .before) in let a = c .before .before .before .before .before .before .before .before .before .before .before .before .drop-area in let b = c .before .before .before .before .before .drop-area2 in area-left (storeOf (p .args .state) (p .args .spt .now) (p .args .«spt-dir» .now) (p .args .tsp .now) (p .args .«tsp-dir» .now)) (p .args .area) (p .args .protects) (p .args .protected) (c .before .before .before .before .before .before .before .before .before .before .before .before .before .before .before .before .before .before .before .forget-area-refusal .result) (c .before .before .before .before .before .before .before .before .before .before .before .before .before .before .before .before .before .before .before .forget-area-refusal .ensures) (c .before .before .before .before .before .before .before .before .before .before .before .before .before .before .before .before .before .before .if1 .left) (a .result) (b .result) (a .last .1 .1 .0) (a .last .1 .1 .1 .0) (b .last .1 .1 .0) (b .last .1 .1 .1 .0) (a .ensures (p .args .state .«namespace_id»)) (b .ensures (p .args .state .«namespace_id»))
 
 same-length-5 : tie.Need-same-length-5
 same-length-5 c = search needs
@@ -81,7 +81,7 @@ same-length-8 : tie.Need-same-length-8
 same-length-8 c = search needs
 
 returns-2 : tie.Need-returns-2
-returns-2 c = let p = (c .before .before .before .before .before .before .before .before .before .before .before .before .before .before .before .before .before .before .before .before .before .before .before .before .before .before .before .before) in let a = c .before .before .before .before .before .before .before .before .before .before .before .before .drop-area in let b = c .before .before .before .before .before .drop-area2 in area-done (storeOf (p .args .state) (p .args .spt .now) (p .args .«spt-dir» .now) (p .args .tsp .now) (p .args .«tsp-dir» .now)) (p .args .area) (p .args .protects) (p .args .protected) (c .before .before .before .before .before .before .before .before .before .before .before .before .before .before .before .before .before .before .before .forget-area-refusal .result) (c .before .before .before .before .before .before .before .before .before .before .before .before .before .before .before .before .before .before .before .forget-area-refusal .ensures) (c .before .before .before .before .before .before .before .before .before .before .before .before .before .before .before .before .before .before .if1 .left) (a .result) (b .result) (a .last .1 .1 .1 .0) (a .last .1 .1 .1 .1 .0) (b .last .1 .1 .1 .0) (b .last .1 .1 .1 .1 .0) (a .ensures) (b .ensures)
+returns-2 c = let p = (c .before .before .before .before .before .before .before .before .before .before .before .before .before .before .before .before .before .before .before .before .before .before .before .before .before .before .before .before) in let a = c .before .before .before .before .before .before .before .before .before .before .before .before .drop-area in let b = c .before .before .before .before .before .drop-area2 in area-done (storeOf (p .args .state) (p .args .spt .now) (p .args .«spt-dir» .now) (p .args .tsp .now) (p .args .«tsp-dir» .now)) (p .args .area) (p .args .protects) (p .args .protected) (c .before .before .before .before .before .before .before .before .before .before .before .before .before .before .before .before .before .before .before .forget-area-refusal .result) (c .before .before .before .before .before .before .before .before .before .before .before .before .before .before .before .before .before .before .before .forget-area-refusal .ensures) (c .before .before .before .before .before .before .before .before .before .before .before .before .before .before .before .before .before .before .if1 .left) (a .result) (b .result) (a .last .1 .1 .0) (a .last .1 .1 .1 .0) (b .last .1 .1 .0) (b .last .1 .1 .1 .0) (a .ensures (p .args .state .«namespace_id»)) (b .ensures (p .args .state .«namespace_id»))
 
 pub forget-area-spec : {M : Type 1} → statement M
 forget-area-spec =

@@ -1,7 +1,7 @@
 -- `interest_start` meets its contract. Assumes nothing.
 use Prim.Native.Nat.{ℕ, _+_, _≤_}
 use mathlib.Core.Path.{_≡_}
-use mathlib.Core.List.{List, reverse}
+use mathlib.Core.List.{List, [], reverse}
 use native.Mathlib.Omega.{arith}
 use borrow.Author.Needs.{needs}
 use lib.ListN.{take}
@@ -13,7 +13,7 @@ use Rattle.tree.specs.Interest.{interestFrom}
 use Rattle.tree.specs.declared.stored.KeyOrder.the-variants.{Tsp}
 use Rattle.tree.proofs.FormedLaws.{formed-bounds}
 use Rattle.tree.proofs.RecordParts.{part-long}
-use Rattle.tree.proofs.ByteLaws.{time-read, length-read}
+use Rattle.tree.proofs.SelectionLaws.{time-read, length-read}
 use Rattle.tree.proofs.InterestLaws.{interest-starts, interest-skips, interest-stops, interest-fits, interest-goes, interest-ends}
 use Rattle.tree.proofs.interest.interest_start.Statement.{statement}
 use Rattle.tree.proofs.interest.interest_start.Tie as tie
@@ -57,10 +57,10 @@ breaks-one-requires : tie.Need-breaks-one-requires Inv-loop μ-loop
 breaks-one-requires c κs = search needs
 
 returns : tie.Need-returns Inv-loop μ-loop
-returns c =
+returns c = λ ns.
     let p = c .before .before .before .before .before .before .before .before .before .before .before .before in
     let l = c .before .before .before .before .before .before .before .before .loop in
-    interest-stops (p .pre .0) (p .args .namespace) _ (p .pre .1) (l .k) _ _ _ _ _ _ (l .inv .2 (p .args .namespace)) (omega arith) (omega arith) (c .before .before .before .before .before .if1 .taken)
+    interest-stops (p .pre .0) ns _ (p .pre .1) (l .k) _ _ _ _ _ _ (l .inv .2 ns) (omega arith) (omega arith) (c .before .before .before .before .before .if1 .taken)
     _ (time-read _ _ _ _ (c .before .before .time-at .ensures)) _ (length-read _ _ _ _ _ (c .before .before .before .before .value-at .ensures) (c .before .before .before .payload-length .ensures)) _ (c .before .breaks-one .ensures) (c .if2 .taken)
 
 add-n : tie.Need-add-n Inv-loop μ-loop
@@ -70,7 +70,7 @@ add-size-requires : tie.Need-add-size-requires Inv-loop μ-loop
 add-size-requires c κs =
     let p = c .before .before .before .before .before .before .before .before .before .before .before .before in
     let l = c .before .before .before .before .before .before .before .before .loop in
-    interest-fits (p .pre .0) (p .args .namespace) _ (p .pre .1) (l .k) _ _ _ _ _ _ (l .inv .2 (p .args .namespace)) (omega arith) (omega arith) (c .before .before .before .before .before .if1 .taken)
+    interest-fits (p .pre .0) [] _ (p .pre .1) (l .k) _ _ _ _ _ _ (l .inv .2 []) (omega arith) (omega arith) (c .before .before .before .before .before .if1 .taken)
     _ (time-read _ _ _ _ (c .before .before .time-at .ensures)) _ (length-read _ _ _ _ _ (c .before .before .before .before .value-at .ensures) (c .before .before .before .payload-length .ensures)) _ (c .before .breaks-one .ensures) (c .if2 .left)
 
 sub-k : tie.Need-sub-k Inv-loop μ-loop
@@ -102,10 +102,10 @@ loop-again-2 c =
     (omega arith, omega arith, λ ns. interest-skips (p .pre .0) ns _ (p .pre .1) (l .k) _ _ _ _ _ _ (l .inv .2 ns) (omega arith) (omega arith) (c .if1 .left))
 
 returns-2 : tie.Need-returns-2 Inv-loop μ-loop
-returns-2 c =
+returns-2 c = λ ns.
     let p = c .before .before .before .before .before in
     let l = c .before .loop in
-    interest-ends (p .pre .0) (p .args .namespace) _ (p .pre .1) (l .k) _ _ _ _ _ _ (l .inv .2 (p .args .namespace)) (omega arith)
+    interest-ends (p .pre .0) ns _ (p .pre .1) (l .k) _ _ _ _ _ _ (l .inv .2 ns) (omega arith)
 
 pub interest-start-spec : {M : Type 1} → statement M
 interest-start-spec =

@@ -10,7 +10,7 @@ use Rattle.layout.specs.Marks.{marksOf}
 use Rattle.data_model.specs.Path.{field, components}
 use Rattle.tree.specs.Stored.{Stored, contents}
 use Rattle.tree.proofs.PlaceLaws.{front-path}
-use Rattle.tree.proofs.ByteLaws.{listed-area-bytes}
+use Rattle.tree.proofs.SelectionLaws.{area-selected}
 use borrow.Author.Needs.{needs}
 use Rattle.tree.proofs.matching.mark_area.Statement.{statement}
 use Rattle.tree.proofs.matching.mark_area.Tie as tie
@@ -24,28 +24,31 @@ write-path-requires c κs = search needs
 sub-n : tie.Need-sub-n
 sub-n c = search needs
 
-sub-area-from : tie.Need-sub-area-from
-sub-area-from c = search needs
+sub-mark-selected : tie.Need-sub-mark-selected
+sub-mark-selected c = search needs
 
-part-area-from-start : tie.Need-part-area-from-start
-part-area-from-start c = search needs
+part-mark-selected-start : tie.Need-part-mark-selected-start
+part-mark-selected-start c = search needs
 
-part-area-from-end : tie.Need-part-area-from-end
-part-area-from-end c = search needs
+part-mark-selected-end : tie.Need-part-mark-selected-end
+part-mark-selected-end c = search needs
 
-area-from-requires : tie.Need-area-from-requires
-area-from-requires c κs = search needs
+slice-aggregate-mark-selected : tie.Need-slice-aggregate-mark-selected
+slice-aggregate-mark-selected c = search needs
+
+mark-selected-requires : tie.Need-mark-selected-requires
+mark-selected-requires c κs = search needs
 
 same-length : tie.Need-same-length
 same-length c = search needs
 
 returns : tie.Need-returns
-returns c =
-    let a = c .before .before .before .before .before .before .before .before .before .before .before .before .before .before .args in
-    let w = c .before .before .before .before .before .before .before .before .write-path in
-    c .before .before .area-from .ensures
-    ∙ ap (λ (p : Stored → Bool). put (marksOf p (contents (a .order) field (a .namespace) (records (a .count) (a .dir .now) (a .tree .now)))) (a .marks .now))
-    (listed-area-bytes (a .area) _ (front-path (components (a .area .path)) (w .last .1 .0) (w .result) (w .result - 2) (w .ensures .2) (omega (arith, w .ensures .1, w .kept .1 .0, length-replicate {A = ℕ} 298 0)) (w .ensures .0) refl) (a .ignore))
+returns c = λ ns.
+    let a = c .before .before .before .before .before .before .before .before .before .before .before .before .before .before .before .args in
+    let w = c .before .before .before .before .before .before .before .before .before .write-path in
+    c .before .before .mark-selected .ensures ns
+    ∙ ap (λ (p : Stored → Bool). put (marksOf p (contents (a .order) field ns (records (a .count) (a .dir .now) (a .tree .now)))) (a .marks .now))
+    (area-selected (a .area) (a .ignore) _ _ (front-path (components (a .area .path)) (w .last .1 .0) (w .result) (w .result - 2) (w .ensures .2) (omega (arith, w .ensures .1, w .kept .1 .0, length-replicate {A = ℕ} 298 0)) (w .ensures .0) refl))
 
 pub mark-area-spec : {M : Type 1} → statement M
 mark-area-spec =
@@ -54,9 +57,10 @@ mark-area-spec =
     slice-aggregate-write-path
     write-path-requires
     sub-n
-    sub-area-from
-    part-area-from-start
-    part-area-from-end
-    area-from-requires
+    sub-mark-selected
+    part-mark-selected-start
+    part-mark-selected-end
+    slice-aggregate-mark-selected
+    mark-selected-requires
     same-length
     returns)

@@ -8,7 +8,7 @@ use Rattle.data_model.specs.Path.{field, components}
 use Rattle.data_model.specs.declared.path.Path.{Path}
 use Rattle.keys.specs.Encode.{pathKey}
 use Rattle.tree.specs.Stored.{Stored, contents}
-use Rattle.tree.proofs.ByteLaws.{start-legal, end-legal, listed-range-bytes}
+use Rattle.tree.proofs.SelectionLaws.{start-legal, end-legal, range-selected}
 use borrow.Author.Needs.{needs}
 use Rattle.tree.proofs.matching.mark_range.Statement.{statement}
 use Rattle.tree.proofs.matching.mark_range.Tie as tie
@@ -28,39 +28,39 @@ slice-aggregate-write-path-2 c = search needs
 write-path-requires-2 : tie.Need-write-path-requires-2
 write-path-requires-2 c κs = search needs
 
-sub-range-from : tie.Need-sub-range-from
-sub-range-from c = search needs
+sub-start-bytes : tie.Need-sub-start-bytes
+sub-start-bytes c = search needs
 
-part-range-from-start : tie.Need-part-range-from-start
-part-range-from-start c = search needs
+part-start-bytes-start : tie.Need-part-start-bytes-start
+part-start-bytes-start c = search needs
 
-part-range-from-end : tie.Need-part-range-from-end
-part-range-from-end c = search needs
+part-start-bytes-end : tie.Need-part-start-bytes-end
+part-start-bytes-end c = search needs
 
-sub-range-from-2 : tie.Need-sub-range-from-2
-sub-range-from-2 c = search needs
+sub-end-bytes : tie.Need-sub-end-bytes
+sub-end-bytes c = search needs
 
-part-range-from-start-2 : tie.Need-part-range-from-start-2
-part-range-from-start-2 c = search needs
+part-end-bytes-start : tie.Need-part-end-bytes-start
+part-end-bytes-start c = search needs
 
-part-range-from-end-2 : tie.Need-part-range-from-end-2
-part-range-from-end-2 c = search needs
+part-end-bytes-end : tie.Need-part-end-bytes-end
+part-end-bytes-end c = search needs
 
-range-from-requires : tie.Need-range-from-requires
-range-from-requires c κs = search needs
+mark-selected-requires : tie.Need-mark-selected-requires
+mark-selected-requires c κs = search needs
 
 same-length : tie.Need-same-length
 same-length c = search needs
 
 returns : tie.Need-returns
-returns c =
+returns c = λ ns.
     let a = c .before .before .before .before .before .before .before .before .before .before .before .before .before .before .before .before .before .before .before .before .before .before .before .args in
     let w = c .before .before .before .before .before .before .before .before .before .before .before .before .before .before .before .write-path in
     let q = c .before .before .before .before .before .before .before .before .before .before .before .before .before .path-if in
     let v = c .before .before .before .before .before .before .before .before .before .before .before .write-path2 in
-    c .before .before .range-from .ensures
-    ∙ ap (λ (p : Stored → Bool). put (marksOf p (contents (a .order) field (a .namespace) (records (a .count) (a .dir .now) (a .tree .now)))) (a .marks .now))
-    (listed-range-bytes (a .range) _ _ (w .ensures .2) (λ e. v .ensures .2 ∙ ap (λ (x : Path). pathKey (components x)) (q .ensures .1 e)) (a .ignore))
+    c .before .before .mark-selected .ensures ns
+    ∙ ap (λ (p : Stored → Bool). put (marksOf p (contents (a .order) field ns (records (a .count) (a .dir .now) (a .tree .now)))) (a .marks .now))
+    (range-selected (a .range) (a .ignore) _ _ (w .ensures .2) (λ e. v .ensures .2 ∙ ap (λ (x : Path). pathKey (components x)) (q .ensures .1 e)))
 
 pub mark-range-spec : {M : Type 1} → statement M
 mark-range-spec =
@@ -71,12 +71,12 @@ mark-range-spec =
     path-if-requires
     slice-aggregate-write-path-2
     write-path-requires-2
-    sub-range-from
-    part-range-from-start
-    part-range-from-end
-    sub-range-from-2
-    part-range-from-start-2
-    part-range-from-end-2
-    range-from-requires
+    sub-start-bytes
+    part-start-bytes-start
+    part-start-bytes-end
+    sub-end-bytes
+    part-end-bytes-start
+    part-end-bytes-end
+    mark-selected-requires
     same-length
     returns)
