@@ -1,15 +1,12 @@
 -- No call looks behind a path's total and count, at the path of an open end or at an absent protected area. Each answer depends on whether the paths are legal,
 -- and on their components where they are. Assumes nothing.
 use Prim.Native.Nat.{ℕ, _-_}
-use mathlib.Core.Path.{_≡_, refl, sym, ap, ap₂, _∙_}
-use mathlib.Core.List.{List, [], _++_}
+use mathlib.Core.Path.{_≡_, refl, ap, ap₂, _∙_}
+use mathlib.Core.List.{List, []}
 use mathlib.Core.Bool.{Bool, true, false, cond, _&&_}
-use native.Mathlib.Omega.{arith}
-use lib.ListN.{length, take, replicate}
-use lib.Seq.{take-at, length-take-le}
 use Rattle.laws.specs.Order.{Order}
 use Rattle.laws.proofs.Truth.{and-true}
-use Rattle.data_model.specs.Path.{Figures, field, Components, cut, components, joined, endsFrom, legalEnds, legal, lastEnd, valueOf, pathOf, samePath, byComponents, isPrefix}
+use Rattle.data_model.specs.Path.{Figures, Components, components, legal, pathOf, samePath, byComponents, isPrefix}
 use Rattle.data_model.specs.Above.{above, aboveFound, aboveAnswer}
 use Rattle.data_model.specs.Entry.{Entry, entryOf, newer, prunes}
 use Rattle.data_model.specs.Range.{pathsInclude, legalRange}
@@ -22,10 +19,8 @@ use Rattle.data_model.specs.declared.entry.Entry.{Entry as EntryValue}
 use Rattle.data_model.specs.declared.area.Area.{Area}
 use Rattle.data_model.specs.declared.range.PathRange.{PathRange}
 use Rattle.data_model.specs.declared.«range_3d».Range3d.{Range3d}
-use Rattle.data_model.proofs.Values.{legal-count, legal-these, ends-length, components-length, last-within}
-use Rattle.data_model.proofs.Raise.{cut-joins, cut-ends}
 use Rattle.keys.specs.Encode.{triple, sptKey, tspKey, roomy, encoded, encodedIn}
-use Rattle.key_laws.specs.Agree.{total, PathsAgree, EntriesAgree, AreasAgree, PathRangesAgree, RangesAgree, SameFor, SameForBoth}
+use Rattle.key_laws.specs.Agree.{PathsAgree, EntriesAgree, AreasAgree, PathRangesAgree, RangesAgree, SameFor, SameForBoth}
 use Rattle.key_laws.proofs.Behind.{behind-legal, behind-components, guarded, behind-rank, behind-entry, behind-area, behind-area-range, behind-legal-range, behind-paths, behind-range}
 use Rattle.tree.specs.Matching.{inArea, inRange}
 use Rattle.query.specs.Listing.{partOf}
@@ -55,7 +50,7 @@ module _ (f : Figures) (p p′ q q′ : Path) (h : PathsAgree p p′) (k : Paths
 module _ (f : Figures) (a a′ b b′ : EntryValue) (h : EntriesAgree a a′) (k : EntriesAgree b b′) where
   entries-answered : (g : Entry → Entry → Bool) → answered (legal f (a .path) && legal f (b .path)) (g (entryOf a) (entryOf b)) ≡ answered (legal f (a′ .path) && legal f (b′ .path)) (g (entryOf a′) (entryOf b′))
   entries-answered g = answers (both f (a .path) (a′ .path) (b .path) (b′ .path) (h .path) (k .path))
-      (λ l. let z = and-true (legal f (a .path)) (legal f (b .path)) l in ap₂ g (behind-entry f a a′ h (z .0)) (behind-entry f b b′ k (z .1)))
+      (λ l. let z = and-true (legal f (a .path)) (legal f (b .path)) l in ap₂ g (behind-entry a a′ h f (z .0)) (behind-entry b b′ k f (z .1)))
 
 -- Of an area or a range, and a path.
 module _ (f : Figures) (p q : Path) (k : PathsAgree p q) where
@@ -87,18 +82,18 @@ unfolding areaRangeAnswer
 area-range-same f a b h = guarded (λ (c : Bool) (r : Range3d). cond c (record { refusal = 0; range = r }) (record { refusal = illegalPath; range = emptyRange })) (λ x y. refl)
     _ _ _ _ (behind-legal f (a .path) (b .path) (h .path)) (behind-area-range f a b h)
 
-module _ (f : Figures) (out : List ℕ) (keyOf : Components → List ℕ) where
-  encoded-same : SameFor PathsAgree (λ p. encoded (roomy f out) (legal f p) (keyOf (components p)))
-  encoded-same p q h = guarded (λ (c : Bool) (cs : Components). encoded (roomy f out) c (keyOf cs)) (λ x y. blind (roomy f out) x y) _ _ _ _ (behind-legal f p q h) (behind-components f p q h)
+module _ (f : Figures) (out : List ℕ) (key : Components → List ℕ) where
+  encoded-same : SameFor PathsAgree (λ p. encoded (roomy f out) (legal f p) (key (components p)))
+  encoded-same p q h = guarded (λ (c : Bool) (cs : Components). encoded (roomy f out) c (key cs)) (λ x y. blind (roomy f out) x y) _ _ _ _ (behind-legal f p q h) (behind-components f p q h)
     where
-      blind : (room : Bool) (x y : Components) → encoded room false (keyOf x) ≡ encoded room false (keyOf y)
+      blind : (room : Bool) (x y : Components) → encoded room false (key x) ≡ encoded room false (key y)
       blind true x y = unfold encoded in refl
       blind false x y = unfold encoded in refl
 
-  encoded-in-same : SameFor PathsAgree (λ p. encodedIn (roomy f out) (legal f p) (keyOf (components p)) out)
-  encoded-in-same p q h = guarded (λ (c : Bool) (cs : Components). encodedIn (roomy f out) c (keyOf cs) out) (λ x y. blind (roomy f out) x y) _ _ _ _ (behind-legal f p q h) (behind-components f p q h)
+  encoded-in-same : SameFor PathsAgree (λ p. encodedIn (roomy f out) (legal f p) (key (components p)) out)
+  encoded-in-same p q h = guarded (λ (c : Bool) (cs : Components). encodedIn (roomy f out) c (key cs) out) (λ x y. blind (roomy f out) x y) _ _ _ _ (behind-legal f p q h) (behind-components f p q h)
     where
-      blind : (room : Bool) (x y : Components) → encodedIn room false (keyOf x) out ≡ encodedIn room false (keyOf y) out
+      blind : (room : Bool) (x y : Components) → encodedIn room false (key x) out ≡ encodedIn room false (key y) out
       blind true x y = unfold encodedIn in refl
       blind false x y = unfold encodedIn in refl
 
@@ -111,7 +106,7 @@ unseen f = record {
   is-prefix-of = λ p p′ q q′ h k. both-answered f p p′ q q′ h k isPrefix;
   is-prefixed-by = λ p p′ q q′ h k. both-answered f q q′ p p′ k h isPrefix;
   greater-but-not-prefixed = above-same f;
-  rank = behind-rank f;
+  rank = behind-rank;
   is-newer-than = λ a a′ b b′ h k. entries-answered f a a′ b b′ h k newer;
   prunes-it = λ a a′ b b′ h k. entries-answered f a a′ b b′ h k prunes;
   is-pruned-by = λ a a′ b b′ h k. entries-answered f b b′ a a′ k h prunes;
@@ -147,24 +142,3 @@ module _ {A A′ C D : Type 0} {Agree : A′ → A′ → Type 0} (read : A → 
   pub told-both : {B B′ : Type 0} {Agree′ : B′ → B′ → Type 0} {answer : A′ → B′ → C} (read′ : B → B′) (tell : C → D) → SameForBoth Agree Agree′ answer
       → SameForBoth (λ a b. Agree (read a) (read b)) (λ x y. Agree′ (read′ x) (read′ y)) (λ a x. tell (answer (read a) (read′ x)))
   told-both read′ tell same a b x y h k = ap tell (same (read a) (read b) (read′ x) (read′ y) h k)
-
--- And a legal path is answered as the one that is handed out for it, which has zeros behind its total and count.
-pub cleaned-agrees : (p : Path) → length (p .bytes) ≡ field .mpl → length (p .ends) ≡ field .mcc → legal field p ≡ true → PathsAgree p (pathOf (components p))
-unfolding components pathOf valueOf
-cleaned-agrees p b e l =
-    let es = take (p .count) (p .ends) in
-    let cs = cut (p .bytes) 0 es in
-    let t : legalEnds 64 (length (p .bytes)) 0 es ≡ true = rw b (legal-these field p l) in
-    let n : length cs ≡ p .count = components-length p (omega (arith, legal-count field p l)) in
-    let z : List ℕ = replicate (field .mcc - length (endsFrom 0 cs)) 0 in
-    let y : List ℕ = replicate (field .mpl - length (joined cs)) 0 in
-    let d : endsFrom 0 cs ≡ es = cut-ends (p .bytes) 64 0 es t in
-    let j : joined cs ≡ take (total p) (p .bytes) = cut-joins (p .bytes) 64 0 es t in
-    let ends : es ≡ take (length cs) (endsFrom 0 cs ++ z) = sym (take-at (endsFrom 0 cs) z (length cs) (ends-length 0 cs) ∙ d) in
-    let m : length (joined cs) ≡ total p = ap length j ∙ length-take-le (total p) (p .bytes) (omega (arith, b, last-within 64 128 0 es (legal-these field p l) .1)) in
-    let k : total p ≡ lastEnd 0 (take (length cs) (endsFrom 0 cs ++ z)) = ap (lastEnd 0) ends in
-    record {
-      count = sym n;
-      ends = ends;
-      bytes = sym j ∙ sym (take-at (joined cs) y (lastEnd 0 (take (length cs) (endsFrom 0 cs ++ z))) (m ∙ k));
-    }

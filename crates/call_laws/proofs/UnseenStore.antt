@@ -115,7 +115,7 @@ module _ (f : Figures) (s : Store) where
   pub ingested-same : (prune token : List ℕ) (prevent : Bool) → SameFor EntriesAgree (λ e. ingested f s prune e token prevent)
   unfolding ingested judged ingestRefusal
   ingested-same prune token prevent a b h =
-      guarded (entryAnswer f s prune token prevent (a .«namespace_id»)) blind _ _ _ _ (behind-legal f (a .path) (b .path) (h .path)) (behind-entry f a b h)
+      guarded (entryAnswer f s prune token prevent (a .«namespace_id»)) blind _ _ _ _ (behind-legal f (a .path) (b .path) (h .path)) (behind-entry a b h f)
       ∙ ap (λ (n : List ℕ). entryAnswer f s prune token prevent n (legal f (b .path)) (entryOf b)) (h .namespace)
     where
       blind : (x y : Entry) → entryAnswer f s prune token prevent (a .«namespace_id») false x ≡ entryAnswer f s prune token prevent (a .«namespace_id») false y

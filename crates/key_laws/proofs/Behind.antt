@@ -2,15 +2,15 @@
 -- So have the values that hold paths. Assumes nothing.
 use Prim.Native.Nat.{ℕ, zero, suc, _+_, _-_, _≤_}
 use mathlib.Core.Path.{_≡_, refl, sym, ap, ap₂, _∙_}
-use mathlib.Core.List.{List, [], _∷_}
+use mathlib.Core.List.{List, [], _∷_, _++_}
 use mathlib.Core.Bool.{Bool, true, false, cond, _&&_}
 use native.Mathlib.Omega.{arith}
 use lib.Dec.{leb}
-use lib.ListN.{take, drop}
-use lib.Seq.{take-take}
+use lib.ListN.{length, take, drop, replicate}
+use lib.Seq.{take-take, take-at, length-take-le}
 use borrow.Author.Tests.{leb-true}
 use Rattle.laws.proofs.Truth.{and-true}
-use Rattle.data_model.specs.Path.{Figures, Components, cut, components, byComponents, legalEnds, legal, lastEnd}
+use Rattle.data_model.specs.Path.{Figures, field, Components, cut, components, joined, endsFrom, byComponents, legalEnds, legal, lastEnd, valueOf, pathOf}
 use Rattle.data_model.specs.Entry.{entryOf, rankOf}
 use Rattle.data_model.specs.Range.{End, closed, open-end, pathsEnd, pathsInclude, legalRange, includes}
 use Rattle.data_model.specs.Range3d.{rangeIncludes}
@@ -21,7 +21,9 @@ use Rattle.data_model.specs.declared.entry.Entry.{Entry as EntryValue}
 use Rattle.data_model.specs.declared.range.PathRange.{PathRange}
 use Rattle.data_model.specs.declared.«range_3d».Range3d.{Range3d}
 use Rattle.data_model.specs.declared.area.Area.{Area}
-use Rattle.data_model.proofs.Values.{legal-these, last-within}
+use Rattle.data_model.proofs.Values.{legal-count, legal-these, ends-length, components-length, last-within}
+use Rattle.data_model.proofs.Raise.{cut-joins, cut-ends}
+use Rattle.key_laws.specs.WrittenKeys.{PathIsValue}
 use Rattle.key_laws.specs.Agree.{total, PathsAgree, EntriesAgree, AreasAgree, PathRangesAgree, RangesAgree}
 
 take-drop-take : (m i n : ℕ) (l : List ℕ) → i + m ≤ n → take m (drop i (take n l)) ≡ take m (drop i l)
@@ -67,14 +69,14 @@ module _ {A B : Type 0} (answer : Bool → A → B) (blind : (x y : A) → answe
       go true s = ap (answer true) (s refl)
       go false s = blind x y
 
-module _ (f : Figures) (a b : EntryValue) (h : EntriesAgree a b) where
+module _ (a b : EntryValue) (h : EntriesAgree a b) where
   pub behind-rank : rankOf a ≡ rankOf b
   unfolding rankOf
   behind-rank = λ i. record { timestamp = h .timestamp i; «payload_digest» = h .digest i; «payload_length» = h .payload i }
 
-  pub behind-entry : legal f (a .path) ≡ true → entryOf a ≡ entryOf b
+  pub behind-entry : (f : Figures) → legal f (a .path) ≡ true → entryOf a ≡ entryOf b
   unfolding entryOf
-  behind-entry l =
+  behind-entry f l =
       let p = behind-components f (a .path) (b .path) (h .path) l in
       λ i. record { namespace = h .namespace i; subspace = h .subspace i; path = p i; rank = behind-rank i }
 
@@ -114,3 +116,24 @@ module _ (f : Figures) (a b : PathRange) (h : PathRangesAgree a b) where
 pub behind-range : (f : Figures) (a b : Range3d) → RangesAgree a b → legalRange f (a .paths) ≡ true → (s : Subspace) (p : Components) (t : ℕ) → rangeIncludes a s p t ≡ rangeIncludes b s p t
 unfolding rangeIncludes
 behind-range f a b h l s p t = rw (h .subspaces, behind-paths f (a .paths) (b .paths) (h .paths) l p, h .times)
+
+-- A legal path agrees with the one that is handed out for it, which has zeros behind its total and count.
+pub cleaned-agrees : (p : Path) → PathIsValue p → legal field p ≡ true → PathsAgree p (pathOf (components p))
+unfolding components pathOf valueOf
+cleaned-agrees p v l =
+    let es = take (p .count) (p .ends) in
+    let cs = cut (p .bytes) 0 es in
+    let t : legalEnds (field .mcl) (length (p .bytes)) 0 es ≡ true = rw (v .room) (legal-these field p l) in
+    let n : length cs ≡ p .count = components-length p (omega (arith, v .ends, legal-count field p l)) in
+    let z : List ℕ = replicate (field .mcc - length (endsFrom 0 cs)) 0 in
+    let y : List ℕ = replicate (field .mpl - length (joined cs)) 0 in
+    let d : endsFrom 0 cs ≡ es = cut-ends (p .bytes) (field .mcl) 0 es t in
+    let j : joined cs ≡ take (total p) (p .bytes) = cut-joins (p .bytes) (field .mcl) 0 es t in
+    let ends : es ≡ take (length cs) (endsFrom 0 cs ++ z) = sym (take-at (endsFrom 0 cs) z (length cs) (ends-length 0 cs) ∙ d) in
+    let m : length (joined cs) ≡ total p = ap length j ∙ length-take-le (total p) (p .bytes) (omega (arith, v .room, last-within (field .mcl) (field .mpl) 0 es (legal-these field p l) .1)) in
+    let k : total p ≡ lastEnd 0 (take (length cs) (endsFrom 0 cs ++ z)) = ap (lastEnd 0) ends in
+    record {
+      count = sym n;
+      ends = ends;
+      bytes = sym j ∙ sym (take-at (joined cs) y (lastEnd 0 (take (length cs) (endsFrom 0 cs ++ z))) (m ∙ k));
+    }

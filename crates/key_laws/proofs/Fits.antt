@@ -195,7 +195,7 @@ legal-of f cs h =
     let y = ends-legal (f .mcl) (f .mpl) 0 (f .mcc) cs (omega arith) (rw sub-zero (path-fits f cs h)) in
     rw (le-leb (length cs) (f .mcc) (y .1), take-at (endsFrom 0 cs) (replicate (field .mcc - length (endsFrom 0 cs)) 0) (length cs) (ends-length 0 cs)) (y .0)
 
--- The value of components that make a path is one of the language: of 128 bytes, each below 256.
+-- The value of components that make a path is one of the language.
 pub all-bytes : (k : List ℕ) → all isByte k ≡ true → Bytes k
 unfolding all
 all-bytes [] h i = omega arith
@@ -223,8 +223,10 @@ path-is-value cs h =
     let k = and-true (leb (length cs) (field .mcc)) (all (isComponent field) cs && leb (length (joined cs)) (field .mpl)) h in
     let m = and-true (all (isComponent field) cs) (leb (length (joined cs)) (field .mpl)) (k .1) in
     let n : length (joined cs) ≤ field .mpl = leb-true (length (joined cs)) (field .mpl) (m .1) in
+    let c : length cs ≤ field .mcc = leb-true (length cs) (field .mcc) (k .0) in
     let z : List ℕ = replicate (field .mpl - length (joined cs)) 0 in
     record {
       room = simp (length-append, length-replicate) (omega arith);
       bytes = all-bytes (joined cs ++ z) (bytes-join (joined cs) z (joined-bytes cs (all-view (isShort (field .mcl)) (all isByte) cs (m .0) .1)) (zero-bytes (field .mpl - length (joined cs))));
+      ends = simp (length-append, length-replicate, ends-length) (omega arith);
     }

@@ -47,23 +47,23 @@ long-roomy : roomy field long ≡ true
 unfolding roomy long
 long-roomy = le-leb (keyMost field) (length long) (simp length-replicate (omega arith))
 
-module _ (keyOf : Triple → List ℕ) (read : List ℕ → Taken Triple)
-    (read-back : (t : Triple) → isPath field (t .path) ≡ true → Sized t → read (keyOf t) ≡ took t (length (keyOf t)))
-    (read-forth : (k : List ℕ) → Bytes k → (t : Triple) (n : ℕ) → read k ≡ took t n → (keyOf t ≡ k) × (isPath field (t .path) ≡ true) × Sized t)
+module _ (key : Triple → List ℕ) (read : List ℕ → Taken Triple)
+    (read-back : (t : Triple) → isPath field (t .path) ≡ true → Sized t → read (key t) ≡ took t (length (key t)))
+    (read-forth : (k : List ℕ) → Bytes k → (t : Triple) (n : ℕ) → read k ≡ took t n → (key t ≡ k) × (isPath field (t .path) ≡ true) × Sized t)
     (k : List ℕ) (bytes : Bytes k) where
-  back : (s : Subspace) (p : Path) (t : ℕ) → Writes keyOf s p t k → decoded (read k) ≡ record { refusal = 0; subspace = s; path = pathOf (components p); timestamp = t }
+  back : (s : Subspace) (p : Path) (t : ℕ) → Writes key s p t k → decoded (read k) ≡ record { refusal = 0; subspace = s; path = pathOf (components p); timestamp = t }
   unfolding decoded
   back s p t w =
       let o = wrote _ _ _ k (w .buffer) (w .answers) (w .begins) in
       let fits = legal-fits field p (omega (arith, w .value .room)) (w .value .bytes) (o .0) in
       ap (λ (x : List ℕ). decoded (read x)) (sym (o .1)) ∙ ap decoded (read-back (triple s (components p) t) fits (w .sized))
 
-  taken : (t : Triple) (n : ℕ) → read k ≡ took t n → Writes keyOf (t .subspace) (pathOf (t .path)) (t .timestamp) k
+  taken : (t : Triple) (n : ℕ) → read k ≡ took t n → Writes key (t .subspace) (pathOf (t .path)) (t .timestamp) k
   taken t n e =
       let g = read-forth k bytes t n e in
       let c = components-of (t .path) in
-      let w = writes (roomy field long) (legal field (pathOf (t .path))) (keyOf (triple (t .subspace) (components (pathOf (t .path))) (t .timestamp))) k long
-      long-roomy (legal-of field (t .path) (g .1)) (ap (λ (x : Components). keyOf (triple (t .subspace) x (t .timestamp))) c ∙ g .0) in
+      let w = writes (roomy field long) (legal field (pathOf (t .path))) (key (triple (t .subspace) (components (pathOf (t .path))) (t .timestamp))) k long
+      long-roomy (legal-of field (t .path) (g .1)) (ap (λ (x : Components). key (triple (t .subspace) x (t .timestamp))) c ∙ g .0) in
       record {
         value = path-is-value (t .path) (g .1);
         sized = subst (λ (x : Components). Sized (triple (t .subspace) x (t .timestamp))) (sym c) (g .2);
@@ -72,11 +72,11 @@ module _ (keyOf : Triple → List ℕ) (read : List ℕ → Taken Triple)
         begins = w .1;
       }
 
-  pub decodes : Decodes keyOf k (decoded (read k))
+  pub decodes : Decodes key k (decoded (read k))
   unfolding decoded
   decodes = go (read k) refl
     where
-      go : (r : Taken Triple) → read k ≡ r → Decodes keyOf k (decoded r)
+      go : (r : Taken Triple) → read k ≡ r → Decodes key k (decoded r)
       go refused e = record {
         refuses = (λ z s p t w. absurd (let x : _≡_ {A = ℕ} 5 0 = ap (λ (d : Decoded). d .refusal) (ap decoded (sym e) ∙ back s p t w) in omega arith), λ n. refl);
         takes = λ n. absurd (n refl);

@@ -16,25 +16,26 @@ use Rattle.keys.specs.declared.decode.PathRead.{PathRead}
 use Rattle.key_laws.specs.Bytes.{Bytes}
 use Rattle.key_laws.specs.KeyOrder.{Sized}
 
--- A path value as the language has it: so many bytes, each below 256. It may be illegal.
+-- A path value as the language has it, legal or not: 128 bytes, each below 256, and 8 ends.
 pub record PathIsValue (p : Path) : Type 0 where
   pub room : length (p .bytes) ≡ field .mpl
   pub bytes : Bytes (p .bytes)
+  pub ends : length (p .ends) ≡ field .mcc
 
 -- The encoder of such keys, handed these values and some buffer, writes the key k: it answers the length of k, and the buffer then begins with k.
-pub record Writes (keyOf : Triple → List ℕ) (s : Subspace) (p : Path) (t : ℕ) (k : List ℕ) : Type 0 where
+pub record Writes (key : Triple → List ℕ) (s : Subspace) (p : Path) (t : ℕ) (k : List ℕ) : Type 0 where
   pub value : PathIsValue p
   pub sized : Sized (triple s (components p) t)
   pub buffer : List ℕ
-  pub answers : encoded (roomy field buffer) (legal field p) (keyOf (triple s (components p) t)) ≡ answer.Written (length k)
-  pub begins : take (length k) (encodedIn (roomy field buffer) (legal field p) (keyOf (triple s (components p) t)) buffer) ≡ k
+  pub answers : encoded (roomy field buffer) (legal field p) (key (triple s (components p) t)) ≡ answer.Written (length k)
+  pub begins : take (length k) (encodedIn (roomy field buffer) (legal field p) (key (triple s (components p) t)) buffer) ≡ k
 
 -- What a decoder answers to the bytes k: 5 exactly if the encoder writes k for no values; else 0, and values that the encoder writes k for. Whichever
 -- values it writes k for, the answer has their subspace, their timestamp and their path, which is handed out with zeros behind its total.
-pub record Decodes (keyOf : Triple → List ℕ) (k : List ℕ) (d : Decoded) : Type 0 where
-  pub refuses : (d .refusal ≡ 5) ↔ ((s : Subspace) (p : Path) (t : ℕ) → Writes keyOf s p t k → ⊥)
-  pub takes : (d .refusal ≡ 5 → ⊥) → (d .refusal ≡ 0) × Writes keyOf (d .subspace) (d .path) (d .timestamp) k
-  pub back : (s : Subspace) (p : Path) (t : ℕ) → Writes keyOf s p t k → d ≡ record { refusal = 0; subspace = s; path = pathOf (components p); timestamp = t }
+pub record Decodes (key : Triple → List ℕ) (k : List ℕ) (d : Decoded) : Type 0 where
+  pub refuses : (d .refusal ≡ 5) ↔ ((s : Subspace) (p : Path) (t : ℕ) → Writes key s p t k → ⊥)
+  pub takes : (d .refusal ≡ 5 → ⊥) → (d .refusal ≡ 0) × Writes key (d .subspace) (d .path) (d .timestamp) k
+  pub back : (s : Subspace) (p : Path) (t : ℕ) → Writes key s p t k → d ≡ record { refusal = 0; subspace = s; path = pathOf (components p); timestamp = t }
 
 -- The bytes of a legal path stand at the front, as an encoder writes them.
 pub record Begins (p : Path) (k : List ℕ) : Type 0 where
