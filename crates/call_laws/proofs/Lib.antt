@@ -7,3 +7,5 @@ pub mod Kept
 pub mod Links
 pub mod Answers
 pub mod Resent
+pub mod UnseenStore
+pub mod Unseen

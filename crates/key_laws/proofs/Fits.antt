@@ -7,8 +7,8 @@ use mathlib.Core.Bool.{Bool, true, false, _&&_}
 use native.Mathlib.Omega.{arith}
 use native.Mathlib.Nat.{sub-zero}
 use lib.Dec.{leb, ltb}
-use borrow.Author.Tests.{le-leb, leb-true, lt-ltb}
-use lib.ListN.{length, take, drop, replicate, length-append, length-take}
+use borrow.Author.Tests.{le-leb, leb-true, lt-ltb, ltb-true}
+use lib.ListN.{length, take, drop, replicate, length-append, length-take, length-replicate}
 use lib.Seq.{take-at, drop-at, getD-drop}
 use Rattle.laws.specs.Lists.{piece}
 use Rattle.laws.specs.Sorted.{all}
@@ -17,6 +17,7 @@ use Rattle.data_model.specs.Path.{Figures, field, Component, Components, cut, c
 use Rattle.data_model.specs.declared.path.Path.{Path}
 use Rattle.data_model.proofs.Values.{ends-top, length-piece, legal-count, legal-these, ends-length}
 use Rattle.key_laws.specs.Bytes.{Bytes}
+use Rattle.key_laws.specs.WrittenKeys.{PathIsValue}
 
 abbrev pub isByte : ℕ → Bool
 isByte b = ltb b 256
@@ -193,3 +194,39 @@ unfolding legal valueOf pathOf
 legal-of f cs h =
     let y = ends-legal (f .mcl) (f .mpl) 0 (f .mcc) cs (omega arith) (rw sub-zero (path-fits f cs h)) in
     rw (le-leb (length cs) (f .mcc) (y .1), take-at (endsFrom 0 cs) (replicate (field .mcc - length (endsFrom 0 cs)) 0) (length cs) (ends-length 0 cs)) (y .0)
+
+-- The value of components that make a path is one of the language.
+pub all-bytes : (k : List ℕ) → all isByte k ≡ true → Bytes k
+unfolding all
+all-bytes [] h i = omega arith
+all-bytes (b ∷ k) h zero = ltb-true b 256 (and-true (isByte b) (all isByte k) h .0)
+all-bytes (b ∷ k) h (suc i) = all-bytes k (and-true (isByte b) (all isByte k) h .1) i
+
+bytes-join : (x y : List ℕ) → all isByte x ≡ true → all isByte y ≡ true → all isByte (x ++ y) ≡ true
+unfolding all
+bytes-join [] y a b = b
+bytes-join (c ∷ x) y a b = let k = and-true (isByte c) (all isByte x) a in rw (k .0) (bytes-join x y (k .1) b)
+
+joined-bytes : (cs : Components) → all (all isByte) cs ≡ true → all isByte (joined cs) ≡ true
+unfolding all joined
+joined-bytes [] h = refl
+joined-bytes (c ∷ cs) h = let k = and-true (all isByte c) (all (all isByte) cs) h in bytes-join c (joined cs) (k .0) (joined-bytes cs (k .1))
+
+zero-bytes : (n : ℕ) → all isByte (replicate n 0) ≡ true
+unfolding all
+zero-bytes zero = refl
+zero-bytes (suc n) = zero-bytes n
+
+pub path-is-value : (cs : Components) → isPath field cs ≡ true → PathIsValue (pathOf cs)
+unfolding isPath isComponent pathOf valueOf
+path-is-value cs h =
+    let k = and-true (leb (length cs) (field .mcc)) (all (isComponent field) cs && leb (length (joined cs)) (field .mpl)) h in
+    let m = and-true (all (isComponent field) cs) (leb (length (joined cs)) (field .mpl)) (k .1) in
+    let n : length (joined cs) ≤ field .mpl = leb-true (length (joined cs)) (field .mpl) (m .1) in
+    let c : length cs ≤ field .mcc = leb-true (length cs) (field .mcc) (k .0) in
+    let z : List ℕ = replicate (field .mpl - length (joined cs)) 0 in
+    record {
+      room = simp (length-append, length-replicate) (omega arith);
+      bytes = all-bytes (joined cs ++ z) (bytes-join (joined cs) z (joined-bytes cs (all-view (isShort (field .mcl)) (all isByte) cs (m .0) .1)) (zero-bytes (field .mpl - length (joined cs))));
+      ends = simp (length-append, length-replicate, ends-length) (omega arith);
+    }

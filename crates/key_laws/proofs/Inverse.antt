@@ -244,21 +244,3 @@ module _ (f : Figures) (k : List ℕ) (bytes : Bytes k) (t : Triple) (n : ℕ) w
           time = rw (w .value) (number-sized k bytes (omega (arith, w .all)));
         },
       )
-
--- So 5 is answered to exactly the bytes that are no key of a triple.
-module _ (f : Figures) (k : List ℕ) where
-  pub spt-refused : readSpt f k ≡ refused → (t : Triple) → isPath f (t .path) ≡ true → Sized t → sptKey t ≡ k → ⊥
-  spt-refused e t legal sized q = let r = spt-back f t legal sized in let z : _≡_ {A = ℕ} 0 1 = cc in omega arith
-
-  pub tsp-refused : readTsp f k ≡ refused → (t : Triple) → isPath f (t .path) ≡ true → Sized t → tspKey t ≡ k → ⊥
-  tsp-refused e t legal sized q = let r = tsp-back f t legal sized in let z : _≡_ {A = ℕ} 0 1 = cc in omega arith
-
-  refused-if : (r : Taken Triple) → ((t : Triple) (n : ℕ) → r ≡ took t n → ⊥) → r ≡ refused
-  refused-if refused h = refl
-  refused-if (took t n) h = absurd (h t n refl)
-
-  pub spt-refuses : Bytes k → ((t : Triple) → isPath f (t .path) ≡ true → Sized t → sptKey t ≡ k → ⊥) → readSpt f k ≡ refused
-  spt-refuses bytes h = refused-if (readSpt f k) λ t n e. let p = spt-forth f k bytes t n e in h t (p .1) (p .2) (p .0)
-
-  pub tsp-refuses : Bytes k → ((t : Triple) → isPath f (t .path) ≡ true → Sized t → tspKey t ≡ k → ⊥) → readTsp f k ≡ refused
-  tsp-refuses bytes h = refused-if (readTsp f k) λ t n e. let p = tsp-forth f k bytes t n e in h t (p .1) (p .2) (p .0)

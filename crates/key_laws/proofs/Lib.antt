@@ -12,4 +12,5 @@ pub mod EntryLaws
 pub mod NextSubspace
 pub mod AreaLaws
 pub mod OnValues
+pub mod WrittenKeys
 pub mod Examples

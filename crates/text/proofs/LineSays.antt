@@ -1,16 +1,14 @@
 -- A line that says an entry says values: bytes, numbers below 2^64, and the path value of components within the bounds. Assumes nothing.
-use Prim.Native.Nat.{ℕ, zero, suc, _+_, _-_, _*_, _^_, _≤_, _<_}
+use Prim.Native.Nat.{ℕ, _+_, _*_, _^_, _<_}
 use mathlib.Core.Path.{_≡_, refl, ap}
-use mathlib.Core.List.{List, [], _∷_, _++_}
+use mathlib.Core.List.{List}
 use mathlib.Core.Bool.{Bool, true, false, _&&_}
 use native.Mathlib.Omega.{arith}
-use lib.ListN.{length, getD, replicate, length-append, length-replicate}
-use lib.Dec.{eqb, ltb, leb}
+use lib.ListN.{length, getD}
+use lib.Dec.{eqb, ltb}
 use borrow.Author.Tests.{eqb-true, ltb-true}
-use Rattle.laws.specs.Sorted.{all}
 use Rattle.laws.proofs.Truth.{split, and-true}
-use Rattle.data_model.specs.Path.{field, Components, joined, isComponent, isPath, valueOf, pathOf}
-use Rattle.key_laws.proofs.Fits.{isByte}
+use Rattle.data_model.specs.Path.{field, Components, isPath, pathOf}
 use Rattle.text.specs.Hex.{digitValue, isHex, hexOf, byteRead}
 use Rattle.text.specs.Decimal.{isPlain, numberFrom, valueRead, numberRead}
 use Rattle.text.specs.PathField.{isPathField, componentsOf, emptyPath, placed, pathField}
@@ -24,7 +22,6 @@ use Rattle.text.specs.declared.path.Outcome.the-variants as outcome
 use Rattle.text.specs.declared.path.PathField.{PathField}
 use Rattle.text.specs.declared.entry_line.EntryLine.{EntryLine}
 use Rattle.text.proofs.HexLaws.{hex-digit, bytes-at}
-use Rattle.text.proofs.PathTrip.{path-bytes}
 
 -- What each field says.
 pub byte-below : (s : List ℕ) (b : ℕ) → byteRead s ≡ byte.Is b → b < 256
@@ -67,34 +64,6 @@ unfolding pathField emptyPath
 path-placed s h = split (isPathField s)
     (λ e. rw e (placed-good (componentsOf s) (isPath field (componentsOf s)) refl (rw e at h)))
     (λ e. absurd (let g : outcome.Bad ≡ outcome.Good = rw e at h in let z : _≡_ {A = ℕ} 0 1 = cc in omega arith))
-
--- Its value has room, and its bytes are bytes.
-bytes-join : (x y : List ℕ) → all isByte x ≡ true → all isByte y ≡ true → all isByte (x ++ y) ≡ true
-unfolding all
-bytes-join [] y a b = b
-bytes-join (c ∷ x) y a b = let k = and-true (isByte c) (all isByte x) a in rw (k .0) (bytes-join x y (k .1) b)
-
-joined-bytes : (cs : Components) → all (all isByte) cs ≡ true → all isByte (joined cs) ≡ true
-unfolding all joined
-joined-bytes [] h = refl
-joined-bytes (c ∷ cs) h = let k = and-true (all isByte c) (all (all isByte) cs) h in bytes-join c (joined cs) (k .0) (joined-bytes cs (k .1))
-
-zero-bytes : (n : ℕ) → all isByte (replicate n 0) ≡ true
-unfolding all
-zero-bytes zero = refl
-zero-bytes (suc n) = zero-bytes n
-
-module _ (cs : Components) where
-  pub path-room : field .mpl ≤ length (pathOf cs .bytes)
-  unfolding pathOf valueOf
-  path-room = simp (length-append, length-replicate) (omega arith)
-
-  pub value-bytes : isPath field cs ≡ true → all isByte (pathOf cs .bytes) ≡ true
-  unfolding isPath pathOf valueOf
-  value-bytes h =
-      let k = and-true (leb (length cs) 8) (all (isComponent field) cs && leb (length (joined cs)) 128) h in
-      let m = and-true (all (isComponent field) cs) (leb (length (joined cs)) 128) (k .1) in
-      bytes-join (joined cs) (replicate (128 - length (joined cs)) 0) (joined-bytes cs (path-bytes cs (m .0))) (zero-bytes (128 - length (joined cs)))
 
 -- What the whole line says.
 pub record Says (e : EntryLine) : Type 0 where

@@ -1,0 +1,67 @@
+-- "Bytes past its total and ends past its count are never looked at ..; nor is the path of an open end or of an absent protected area looked at": each call that
+-- takes a path answers values that agree up to there (`PathsAgree` and those after it) the same, and leaves the same in every buffer. Theorem `unseen`.
+use Prim.Native.Nat.{ℕ}
+use mathlib.Core.List.{List}
+use mathlib.Core.Bool.{Bool, _&&_}
+use Rattle.data_model.specs.Path.{Figures, components, legal, samePath, byComponents, isPrefix}
+use Rattle.data_model.specs.Above.{aboveAnswer}
+use Rattle.data_model.specs.Entry.{entryOf, rankOf, newer, prunes}
+use Rattle.data_model.specs.Range.{pathsInclude, legalRange}
+use Rattle.data_model.specs.Range3d.{rangeIncludes}
+use Rattle.data_model.specs.Area.{areaIncludes, areaRangeAnswer}
+use Rattle.data_model.specs.Refusal.{answered, compared}
+use Rattle.data_model.specs.declared.parameters.Subspace.{Subspace}
+use Rattle.keys.specs.Encode.{triple, sptKey, tspKey, roomy, encoded, encodedIn}
+use Rattle.key_laws.specs.Agree.{PathsAgree, EntriesAgree, AreasAgree, PathRangesAgree, RangesAgree, InterestsAgree, ProtectedAgree, SameFor, SameForBoth}
+use Rattle.tree.specs.declared.matching.QueryIgnoreParams.{QueryIgnoreParams}
+use Rattle.store.specs.Store.{Store}
+use Rattle.store.specs.Ingest.{ingested}
+use Rattle.store.specs.Forget.{entryForgotten, areaForgotten}
+use Rattle.pairs.specs.Pairs.{pairsIngested}
+use Rattle.pairs.specs.declared.Pair.{Pair}
+use Rattle.query.specs.Lookup.{entryFound}
+use Rattle.query.specs.Listing.{areaListed, rangeListed, areaPart, rangePart}
+use Rattle.query.specs.Count.{areaCounted, summarised}
+use Rattle.query.specs.Interest.{interestRange}
+
+-- A clause for each public entry that takes a path, by its name: what its contract has on the right-hand side, the answer and all that is left in a buffer.
+pub record Unseen (f : Figures) : Type 0 where
+  -- Path
+  pub is-legal : SameFor PathsAgree (legal f)
+  pub both-legal : SameForBoth PathsAgree PathsAgree (λ p q. legal f p && legal f q)
+  pub cmp : SameForBoth PathsAgree PathsAgree (λ p q. compared (legal f p && legal f q) (byComponents (components p) (components q)))
+  pub eq : SameForBoth PathsAgree PathsAgree (λ p q. answered (legal f p && legal f q) (samePath (components p) (components q)))
+  pub is-prefix-of : SameForBoth PathsAgree PathsAgree (λ p q. answered (legal f p && legal f q) (isPrefix (components p) (components q)))
+  pub is-prefixed-by : SameForBoth PathsAgree PathsAgree (λ p q. answered (legal f q && legal f p) (isPrefix (components q) (components p)))
+  pub greater-but-not-prefixed : SameFor PathsAgree (aboveAnswer f)
+  -- Entry
+  pub rank : SameFor EntriesAgree rankOf
+  pub is-newer-than : SameForBoth EntriesAgree EntriesAgree (λ a b. answered (legal f (a .path) && legal f (b .path)) (newer (entryOf a) (entryOf b)))
+  pub prunes-it : SameForBoth EntriesAgree EntriesAgree (λ a b. answered (legal f (a .path) && legal f (b .path)) (prunes (entryOf a) (entryOf b)))
+  pub is-pruned-by : SameForBoth EntriesAgree EntriesAgree (λ a b. answered (legal f (b .path) && legal f (a .path)) (prunes (entryOf b) (entryOf a)))
+  -- PathRange, Range3d, Area
+  pub is-legal-range : SameFor PathRangesAgree (legalRange f)
+  pub is-legal-with : SameForBoth PathRangesAgree PathsAgree (λ r p. legalRange f r && legal f p)
+  pub includes : SameForBoth PathRangesAgree PathsAgree (λ r p. answered (legalRange f r && legal f p) (pathsInclude r (components p)))
+  pub range-includes : (s : Subspace) (t : ℕ) → SameForBoth RangesAgree PathsAgree (λ r p. answered (legalRange f (r .paths) && legal f p) (rangeIncludes r s (components p) t))
+  pub area-includes : (s : Subspace) (t : ℕ) → SameForBoth AreasAgree PathsAgree (λ a p. answered (legal f (a .path) && legal f p) (areaIncludes a s (components p) t))
+  pub from : SameFor AreasAgree (areaRangeAnswer f)
+  -- Keys: the answer, and the buffer
+  pub encode-spt : (s : Subspace) (t : ℕ) (out : List ℕ) → SameFor PathsAgree (λ p. encoded (roomy f out) (legal f p) (sptKey (triple s (components p) t)))
+  pub encode-spt-in : (s : Subspace) (t : ℕ) (out : List ℕ) → SameFor PathsAgree (λ p. encodedIn (roomy f out) (legal f p) (sptKey (triple s (components p) t)) out)
+  pub encode-tsp : (s : Subspace) (t : ℕ) (out : List ℕ) → SameFor PathsAgree (λ p. encoded (roomy f out) (legal f p) (tspKey (triple s (components p) t)))
+  pub encode-tsp-in : (s : Subspace) (t : ℕ) (out : List ℕ) → SameFor PathsAgree (λ p. encodedIn (roomy f out) (legal f p) (tspKey (triple s (components p) t)) out)
+  -- Changes of a store: the answer, the store's buffers and the prune list. `ingest_entry_by_value` answers as `ingest_entry` does
+  pub ingest-entry-numbers : (s : Store) (prune token : List ℕ) (prevent : Bool) → SameFor EntriesAgree (λ e. ingested f s prune e token prevent)
+  pub ingest-entry : (s : Store) (prune : List Pair) (token : List ℕ) (prevent : Bool) → SameFor EntriesAgree (λ e. pairsIngested f s prune e token prevent)
+  pub forget-entry : (s : Store) (subspace : Subspace) (expects : Bool) (digest : List ℕ) → SameFor PathsAgree (λ p. entryForgotten f s subspace p expects digest)
+  pub forget-area : (s : Store) (protects : Bool) → SameForBoth AreasAgree (ProtectedAgree protects) (λ a protected. areaForgotten f s a protects protected)
+  -- Readings of a store
+  pub entry : (s : Store) (subspace : Subspace) (ignore : QueryIgnoreParams) → SameFor PathsAgree (λ p. entryFound f s subspace p ignore)
+  pub query-area-place : (s : Store) (ignore : QueryIgnoreParams) (place : ℕ) → SameFor AreasAgree (λ a. areaListed f s a ignore place)
+  pub query-area : (s : Store) (ignore : QueryIgnoreParams) (place : ℕ) → SameFor AreasAgree (λ a. areaPart f s a ignore place)
+  pub query-range-place : (s : Store) (ignore : QueryIgnoreParams) (place : ℕ) → SameFor RangesAgree (λ r. rangeListed f s r ignore place)
+  pub query-range : (s : Store) (ignore : QueryIgnoreParams) (place : ℕ) → SameFor RangesAgree (λ r. rangePart f s r ignore place)
+  pub count-area : (s : Store) → SameFor AreasAgree (areaCounted f s)
+  pub summarise : (s : Store) → SameFor RangesAgree (summarised f s)
+  pub area-of-interest-to-range : (s : Store) → SameFor InterestsAgree (interestRange f s)
