@@ -1,16 +1,17 @@
 -- What is found at a place by its first mark, and the record of a match is there. Assumes nothing.
-use Prim.Native.Nat.{ℕ, _+_, _≤_, _<_}
+use Prim.Native.Nat.{ℕ, _+_, _*_, _≤_, _<_}
 use mathlib.Core.Path.{_≡_, sym, ap, subst, _∙_}
 use mathlib.Core.Option.{some}
 use mathlib.Core.List.{List, []}
 use mathlib.Core.Bool.{Bool, true, false}
 use native.Mathlib.Omega.{arith}
 use lib.ListN.{take, drop}
+use lib.Seq.{getD-take, length-take-le}
 use lib.Dec.{eqb}
 use borrow.Author.Tests.{eqb-true}
 use Rattle.laws.specs.Lists.{put}
 use Rattle.laws.proofs.Truth.{split}
-use Rattle.layout.specs.Layout.{recordAt}
+use Rattle.layout.specs.Layout.{recordAt, offsetAt, partBegins}
 use Rattle.layout.specs.Marks.{marksOf, firstMark}
 use Rattle.layout.proofs.MarkLaws.{first-none}
 use Rattle.data_model.specs.Path.{Components, field}
@@ -30,7 +31,7 @@ use Rattle.store.proofs.CheckLaws.{Passed}
 use Rattle.store.proofs.DecideLaws.{marks-first}
 use Rattle.store.proofs.IngestLaws.{first-absent, first-at, stands-at}
 use Rattle.query.specs.Reading.{readRefusal}
-use Rattle.query.specs.Listing.{listed, part, partOf, HasPart, RecordThere}
+use Rattle.query.specs.Listing.{listed, part, partOf, offsetOf, HasPart, RecordThere}
 use Rattle.query.specs.Lookup.{notFound, foundOf, foundIn}
 use Rattle.query.specs.declared.answer.EntryFound.{EntryFound}
 use Rattle.query.specs.declared.answer.Listed.{Listed}
@@ -108,6 +109,25 @@ module _ (limit : ℕ) (dir tree : List ℕ) (l : Listed) where
   pub part-refused : (n : ℕ) → l ≡ Refused n → [] ≡ part field limit dir tree l
   unfolding part
   part-refused n e = sym (ap (part field limit dir tree) e)
+
+  -- Where each begins: the pair in the directory's room is the one in the whole directory.
+  pub begins-match : (k : ℕ) → l ≡ Match k → RecordThere limit dir tree k → (first at : ℕ) → at ≡ first + offsetAt k (take (dirRoom limit) dir) → at ≡ first + offsetOf dir l
+  unfolding offsetOf
+  begins-match k e h first at q =
+      let p = h .bounds .pair in
+      let d = length-take-le (dirRoom limit) dir (h .numbers) in
+      q ∙ ap (first +_) (getD-take (dirRoom limit) dir (2 * k) 0 (omega arith) ∙ sym (ap (offsetOf dir) e))
+
+  pub begins-finished : l ≡ Finished → (first : ℕ) → first ≡ first + offsetOf dir l
+  unfolding offsetOf
+  begins-finished e first = let z : 0 ≡ offsetOf dir l = sym (ap (offsetOf dir) e) in omega arith
+
+  pub begins-refused : (n : ℕ) → l ≡ Refused n → (first : ℕ) → first ≡ first + offsetOf dir l
+  unfolding offsetOf
+  begins-refused n e first = let z : 0 ≡ offsetOf dir l = sym (ap (offsetOf dir) e) in omega arith
+
+pub begins-listed : (dir : List ℕ) (l l′ : Listed) → l ≡ l′ → (whole part : ℕ × ℕ) → partBegins whole part (offsetOf dir l) → partBegins whole part (offsetOf dir l′)
+begins-listed dir l l′ e whole part h = subst (λ (x : Listed). partBegins whole part (offsetOf dir x)) e h
 
 pub part-listed : (s : Store) (l l′ : Listed) → l ≡ l′ → (r : List ℕ) → r ≡ part field (s .state .limit) (s .sptDir) (s .spt) l → r ≡ partOf field s l′
 unfolding partOf

@@ -4,7 +4,7 @@ use mathlib.Core.List.{List, [], _∷_}
 use mathlib.Core.Bool.{Bool, cond, _&&_}
 use lib.ListN.{length, take}
 use lib.Dec.{leb, eqb}
-use Rattle.layout.specs.Layout.{recordAt}
+use Rattle.layout.specs.Layout.{recordAt, offsetAt}
 use Rattle.data_model.specs.Path.{Figures, field}
 use Rattle.data_model.specs.declared.area.Area.{Area}
 use Rattle.data_model.specs.declared.«range_3d».Range3d.{Range3d}
@@ -53,6 +53,18 @@ areaPart f s area ignore place = partOf f s (areaListed f s area ignore place)
 
 abbrev pub rangePart : Figures → Store → Range3d → QueryIgnoreParams → (place : ℕ) → List ℕ
 rangePart f s range ignore place = partOf f s (rangeListed f s range ignore place)
+
+-- Where the part begins, counted from the tree's first byte: at the offset in the match's pair. Finished or refused, at that byte.
+unfoldable pub offsetOf : (dir : List ℕ) → Listed → ℕ
+offsetOf dir (Match k) = offsetAt k dir
+offsetOf dir Finished = 0
+offsetOf dir (Refused n) = 0
+
+abbrev pub areaOffset : Figures → Store → Area → QueryIgnoreParams → (place : ℕ) → ℕ
+areaOffset f s area ignore place = offsetOf (s .sptDir) (areaListed f s area ignore place)
+
+abbrev pub rangeOffset : Figures → Store → Range3d → QueryIgnoreParams → (place : ℕ) → ℕ
+rangeOffset f s range ignore place = offsetOf (s .sptDir) (rangeListed f s range ignore place)
 
 -- For the inner functions: a mark is 1; and the record of a match is there.
 abbrev pub isMark : ℕ → Bool

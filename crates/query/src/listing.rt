@@ -19,12 +19,13 @@ ghost use mathlib.Core.Bool.{true};
 ghost use Prim.Native.Nat.{_≤_};
 ghost use Rattle.data_model.specs.Path.{field, legal};
 ghost use Rattle.data_model.specs.Range.{legalRange};
+ghost use Rattle.layout.specs.Layout.{partBegins};
 ghost use Rattle.tree.specs.Tree.{Formed};
 ghost use Rattle.tree.specs.Matching.{listedInArea, listedInRange};
 ghost use Rattle.tree.specs.declared.stored.KeyOrder.the-variants.{Spt};
 ghost use Rattle.store.specs.Store.{storeOf, limitMost};
 ghost use Rattle.store.specs.Change.{inTree};
-ghost use Rattle.query.specs.Listing.{isMark, next, areaListed, rangeListed, part, areaPart, rangePart, HasPart};
+ghost use Rattle.query.specs.Listing.{isMark, next, areaListed, rangeListed, part, areaPart, rangePart, offsetOf, areaOffset, rangeOffset, HasPart};
 
 // The first mark at or after a place.
 fn next_marked(marks: &[u8], place: usize) -> Listed
@@ -158,10 +159,11 @@ pub fn query_range_place(
     )
 }
 
-// The record of a match, as a part of the tree; where there is none, nothing of it.
+// The record of a match, as a part of the tree: its bytes, and where they lie. Where there is none, nothing at the tree's first byte.
 fn part_of<'a>(limit: usize, spt: &'a [u8], spt_dir: &[u32], listed: Listed) -> &'a [u8]
     requires { ⌜ HasPart limit (now «spt_dir») (now spt) listed ⌝ }
     ensures { λ r. ⌜ now r ≡ part field limit (now («spt_dir» .entry)) (now (spt .entry)) listed ⌝ }
+    ensures { λ r. ⌜ partBegins (spt .entry .ptr) (r .ptr) (offsetOf (now («spt_dir» .entry)) listed) ⌝ }
 {
     match listed {
         Listed::Match(k) => {
@@ -186,6 +188,7 @@ pub fn query_area<'a>(
     place: usize,
 ) -> &'a [u8]
     ensures { λ r. ⌜ now r ≡ areaPart field (storeOf state (now (spt .entry)) (now («spt_dir» .entry)) (now (tsp .entry)) (now («tsp_dir» .entry))) area ignore place ⌝ }
+    ensures { λ r. ⌜ partBegins (spt .entry .ptr) (r .ptr) (areaOffset field (storeOf state (now (spt .entry)) (now («spt_dir» .entry)) (now (tsp .entry)) (now («tsp_dir» .entry))) area ignore place) ⌝ }
 {
     let listed = query_area_place(state, spt, spt_dir, tsp, tsp_dir, area, ignore, place);
     part_of(state.limit, spt, spt_dir, listed)
@@ -203,6 +206,7 @@ pub fn query_range<'a>(
     place: usize,
 ) -> &'a [u8]
     ensures { λ r. ⌜ now r ≡ rangePart field (storeOf state (now (spt .entry)) (now («spt_dir» .entry)) (now (tsp .entry)) (now («tsp_dir» .entry))) range ignore place ⌝ }
+    ensures { λ r. ⌜ partBegins (spt .entry .ptr) (r .ptr) (rangeOffset field (storeOf state (now (spt .entry)) (now («spt_dir» .entry)) (now (tsp .entry)) (now («tsp_dir» .entry))) range ignore place) ⌝ }
 {
     let listed = query_range_place(state, spt, spt_dir, tsp, tsp_dir, range, ignore, place);
     part_of(state.limit, spt, spt_dir, listed)

@@ -23,7 +23,7 @@ use Rattle.store.specs.declared.ingest.Ingested.{Ingested}
 use Rattle.pairs.specs.Pairs.{pairsOf, pairsOutcome, pairsIngested}
 use Rattle.pairs.specs.declared.Pair.{Pair}
 use Rattle.pairs.specs.declared.NumbersIngested.{NumbersIngested}
-use Rattle.query.specs.Listing.{areaListed, areaPart, rangeListed, rangePart, part}
+use Rattle.query.specs.Listing.{areaListed, areaPart, rangeListed, rangePart, part, partOf, offsetOf}
 use Rattle.query.specs.declared.answer.Listed.{Listed}
 use Rattle.query.proofs.FoundLaws.{part-listed}
 use Rattle.plain.specs.Answer.{plainAnswer, plainListed, plainIngested, plainNumbers}
@@ -64,8 +64,9 @@ module _ (s : Store) (l l′ : Listed) (el : l ≡ l′) where
   pub listed-told : (r : PlainListed) → r ≡ plainListed l → r ≡ plainListed l′
   listed-told r er = er ∙ ap plainListed el
 
-  pub part-named : (r : PlainPart) → r ≡ plainPart (s .sptDir) l → r ≡ plainPart (s .sptDir) l′
-  part-named r er = er ∙ ap (plainPart (s .sptDir)) el
+  pub part-named : (r : PlainPart) → r ≡ plainPart (offsetOf (s .sptDir) l) (part field (s .state .limit) (s .sptDir) (s .spt) l) → r ≡ plainPart (offsetOf (s .sptDir) l′) (partOf field s l′)
+  unfolding partOf
+  part-named r er = er ∙ ap (λ (x : Listed). plainPart (offsetOf (s .sptDir) x) (partOf field s x)) el
 
 module _ (s : Store) (i i′ : QueryIgnoreParams) (ei : i ≡ i′) (place : ℕ) (l : Listed) where
   pub same-area : (a a′ : Area) → a ≡ a′ → l ≡ areaListed field s a i place → l ≡ areaListed field s a′ i′ place

@@ -125,7 +125,7 @@ write-line-requires c κs =
     let k = c .before .before .before .l in
     let e : areaListed field (lent p) (area .result) (ignore .result) (l .place) ≡ Match (k .given .0 .0) = sym (m .ensures) ∙ k .given .1 in
     let r = c .before .query-area in
-    (omega (arith, ap (λ (x : List ℕ). length x) (r .ensures), match-long (lent p) (legal field (area .result .path)) (listedInArea (area .result) (ignore .result)) (l .place) (k .given .0 .0) e), omega (arith, t, l .inv .0, length-piece (l .at) (length (l .out)) (l .out) (le-refl (length (l .out)))))
+    (omega (arith, ap (λ (x : List ℕ). length x) (r .ensures .0), match-long (lent p) (legal field (area .result .path)) (listedInArea (area .result) (ignore .result)) (l .place) (k .given .0 .0) e), omega (arith, t, l .inv .0, length-piece (l .at) (length (l .out)) (l .out) (le-refl (length (l .out)))))
 
 add-at : tie.Need-add-at Inv-loop μ-loop
 add-at c =
@@ -169,7 +169,7 @@ loop-again c =
     let e : areaListed field (lent p) (area .result) (ignore .result) (l .place) ≡ Match (k .given .0 .0) = sym (m .ensures) ∙ k .given .1 in
     let r = c .before .before .before .before .query-area in
     let g = c .before .before .write-line in
-    let n = listing-turn (areaListed field (lent p) (area .result) (ignore .result)) (areaPart field (lent p) (area .result) (ignore .result)) (listText (held field Spt (lent p))) (f .last .1 .1 .0) (l .out) (l .place) (l .at) (l .left) (l .inv .3) (l .inv .0) t (k .given .0 .0) e _ (r .ensures) (g .result) (g .last .1 .0) (g .ensures .0) (g .ensures .1) (g .ensures .2) in
+    let n = listing-turn (areaListed field (lent p) (area .result) (ignore .result)) (areaPart field (lent p) (area .result) (ignore .result)) (listText (held field Spt (lent p))) (f .last .1 .1 .0) (l .out) (l .place) (l .at) (l .left) (l .inv .3) (l .inv .0) t (k .given .0 .0) e _ (r .ensures .0) (g .result) (g .last .1 .0) (g .ensures .0) (g .ensures .1) (g .ensures .2) in
     (omega (arith, n .wrote .size, l .inv .2, l .inv .0, g .ensures .1, t), omega (arith, l .inv .1, g .ensures .1, t), n .wrote .size, n)
 
 same-length-2 : tie.Need-same-length-2 Inv-loop μ-loop
