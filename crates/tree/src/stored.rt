@@ -24,7 +24,7 @@ ghost use lib.ListN.{length};
 ghost use Rattle.laws.specs.Lists.{put};
 ghost use Rattle.layout.specs.Layout.{recordAt, offsetAt, partBegins};
 ghost use Rattle.data_model.specs.Path.{field, legal, components};
-ghost use Rattle.keys.specs.Encode.{triple, keyMost};
+ghost use Rattle.keys.specs.Encode.{triple, keyMost, encodedSays};
 ghost use Rattle.keys.specs.Decode.{decoded};
 ghost use Rattle.tree.specs.Value.{valueLength, readValue};
 ghost use Rattle.tree.specs.Stored.{writtenLength, keyIn, readIn, keyOf, valuePart, isKey, isRecord, tripleRead, storedFrom, stored, recordOf, lengthy, storedOf};
@@ -54,7 +54,7 @@ pub fn decode_key(order: KeyOrder, key: &[u8]) -> Decoded
 }
 
 fn written_length(done: Encoded) -> usize
-    ensures { λ r. ⌜ r ≡ writtenLength done ⌝ }
+    ensures { λ r. ⌜ r ≡ writtenLength (encodedSays done) ⌝ }
 {
     match done {
         Encoded::Written(n) => n,
