@@ -2,11 +2,12 @@
 use Prim.Native.Nat.{ℕ, _≤_, _<_, _^_}
 use mathlib.Core.Path.{_≡_}
 use mathlib.Core.List.{List, [], _∷_}
-use mathlib.Core.Option.{Option, some, none}
 use mathlib.Core.Bool.{Bool, true, false, cond}
+use mathlib.Core.Option.{Option, some, none}
 use lib.ListN.{length}
 use lib.Dec.{eqb}
 use Rattle.laws.specs.Sorted.{_∈_}
+use Rattle.data_model.specs.Said.{Said, refuses, says}
 use Rattle.data_model.specs.Path.{Figures, components, isPrefix}
 use Rattle.data_model.specs.Entry.{Entry, entryOf}
 use Rattle.data_model.specs.declared.entry.Entry.{Entry as EntryValue}
@@ -17,9 +18,7 @@ use Rattle.key_laws.specs.Bytes.{Bytes}
 use Rattle.tree.specs.Stored.{Stored}
 use Rattle.tree.specs.Matching.{removes, standsAt, isForgotten}
 use Rattle.store.specs.Store.{dirRoom}
-use Rattle.store.specs.Ingest.{filing}
-use Rattle.store.specs.declared.ingest.IngestVerdict.{IngestVerdict}
-use Rattle.store.specs.declared.ingest.IngestVerdict.the-variants as verdict
+use Rattle.store.specs.Ingest.{Verdict as IngestVerdict, succeeds, is-obsolete, filing}
 
 -- An opening: whatever namespace, limit and buffers. Two are alike if namespace and limit are the same.
 pub record Opening : Type 0 where
@@ -104,10 +103,10 @@ pub data Verdict : Type 0 where
   obsolete done : Verdict
 
 -- The verdict of an ingestion, and that of a call that answers the number of a refusal, 0 for none.
-unfoldable pub ingestVerdict : IngestVerdict → Verdict
-ingestVerdict (verdict.Success n) = done
-ingestVerdict verdict.Obsolete = obsolete
-ingestVerdict (verdict.Refused n) = refused n
+unfoldable pub ingestVerdict : Said IngestVerdict → Verdict
+ingestVerdict (says (succeeds n)) = done
+ingestVerdict (says is-obsolete) = obsolete
+ingestVerdict (refuses n) = refused n
 
 unfoldable pub numberVerdict : ℕ → Verdict
 numberVerdict n = cond (eqb n 0) done (refused n)

@@ -1,3 +1,4 @@
+pub mod Said
 pub mod Refusal
 pub mod Path
 pub mod Above

@@ -1,7 +1,8 @@
--- The refusals that this layer gives, by 01's numbers, and the answers that carry them.
+-- The refusals that this layer gives, by 01's numbers, and what its answers say.
 use Prim.Native.Nat.{ℕ}
 use mathlib.Core.Bool.{Bool, true, false}
 use Rattle.laws.specs.Order.{Order, less, same, greater}
+use Rattle.data_model.specs.Said.{Said, refuses, says}
 use Rattle.data_model.specs.declared.answer.Answer.{Answer}
 use Rattle.data_model.specs.declared.answer.Answer.the-variants as answer
 use Rattle.data_model.specs.declared.answer.Compared.{Compared}
@@ -19,26 +20,26 @@ illegalPath = 4
 abbrev pub noKey : ℕ
 noKey = 5
 
--- A question about paths: 4 if one of them is illegal, else yes or no.
-unfoldable pub answered : (legal holds : Bool) → Answer
-answered false holds = answer.Refused illegalPath
-answered true true = answer.Yes
-answered true false = answer.No
+-- What each case of an answer says: its number and its values. A question: yes or no.
+unfoldable pub answerSays : Answer → Said Bool
+answerSays answer.Yes = says true
+answerSays answer.No = says false
+answerSays (answer.Refused n) = refuses n
 
--- A comparison of paths: 4 if one of them is illegal, else how the first stands to the second.
-unfoldable pub compared : (legal : Bool) → Order → Compared
-compared false o = compare.Refused illegalPath
-compared true less = compare.Less
-compared true same = compare.Equal
-compared true greater = compare.Greater
+-- A comparison: how the first stands to the second.
+unfoldable pub comparedSays : Compared → Said Order
+comparedSays compare.Less = says less
+comparedSays compare.Equal = says same
+comparedSays compare.Greater = says greater
+comparedSays (compare.Refused n) = refuses n
 
--- A comparison that nothing refuses.
-unfoldable pub ordered : Order → Ordering
-ordered less = ordering.Less
-ordered same = ordering.Equal
-ordered greater = ordering.Greater
+-- A comparison that nothing refuses: it has no number.
+unfoldable pub orderingSays : Ordering → Order
+orderingSays ordering.Less = less
+orderingSays ordering.Equal = same
+orderingSays ordering.Greater = greater
 
-unfoldable pub orderOf : Ordering → Order
-orderOf ordering.Less = less
-orderOf ordering.Equal = same
-orderOf ordering.Greater = greater
+-- What is answered to a question about paths, or to their comparison: 4 if one of them is illegal, else what holds.
+unfoldable pub answered : {A : Type 0} → (legal : Bool) → A → Said A
+answered false holds = refuses illegalPath
+answered true holds = says holds

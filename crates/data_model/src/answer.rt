@@ -2,7 +2,7 @@
 ghost use mathlib.Core.Path.{_≡_};
 ghost use mathlib.Core.Bool.{true};
 ghost use Rattle.laws.specs.Order.{isLess, isSame, isGreater, byNumber};
-ghost use Rattle.data_model.specs.Refusal.{answered, ordered, orderOf};
+ghost use Rattle.data_model.specs.Refusal.{answerSays, answered, orderingSays};
 
 // A lent buffer is too short; a path handed in is illegal; a key handed in is none that an encoder writes.
 pub const SHORT_BUFFER: u8 = 2;
@@ -31,7 +31,7 @@ pub enum Ordering {
 }
 
 pub fn yes_or_no(holds: bool) -> Answer
-    ensures { λ r. ⌜ r ≡ answered true holds ⌝ }
+    ensures { λ r. ⌜ answerSays r ≡ answered true holds ⌝ }
 {
     if holds {
         return Answer::Yes;
@@ -40,7 +40,7 @@ pub fn yes_or_no(holds: bool) -> Answer
 }
 
 pub fn is_less(o: Ordering) -> bool
-    ensures { λ r. ⌜ r ≡ isLess (orderOf o) ⌝ }
+    ensures { λ r. ⌜ r ≡ isLess (orderingSays o) ⌝ }
 {
     match o {
         Ordering::Less => true,
@@ -50,7 +50,7 @@ pub fn is_less(o: Ordering) -> bool
 }
 
 pub fn is_equal(o: Ordering) -> bool
-    ensures { λ r. ⌜ r ≡ isSame (orderOf o) ⌝ }
+    ensures { λ r. ⌜ r ≡ isSame (orderingSays o) ⌝ }
 {
     match o {
         Ordering::Less => false,
@@ -60,7 +60,7 @@ pub fn is_equal(o: Ordering) -> bool
 }
 
 pub fn is_greater(o: Ordering) -> bool
-    ensures { λ r. ⌜ r ≡ isGreater (orderOf o) ⌝ }
+    ensures { λ r. ⌜ r ≡ isGreater (orderingSays o) ⌝ }
 {
     match o {
         Ordering::Less => false,
@@ -70,7 +70,7 @@ pub fn is_greater(o: Ordering) -> bool
 }
 
 pub fn compare_numbers(a: u64, b: u64) -> Ordering
-    ensures { λ r. ⌜ r ≡ ordered (byNumber a b) ⌝ }
+    ensures { λ r. ⌜ orderingSays r ≡ byNumber a b ⌝ }
 {
     if a < b {
         return Ordering::Less;

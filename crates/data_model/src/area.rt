@@ -12,7 +12,7 @@ ghost use mathlib.Core.Path.{_≡_};
 ghost use mathlib.Core.Bool.{_&&_};
 ghost use Rattle.data_model.specs.Path.{field, legal, components};
 ghost use Rattle.data_model.specs.Area.{areaSubspace, areaIncludes};
-ghost use Rattle.data_model.specs.Refusal.{answered};
+ghost use Rattle.data_model.specs.Refusal.{answerSays, answered};
 
 pub enum AreaSubspace {
     Any,
@@ -44,7 +44,7 @@ impl AreaSubspace {
 
 impl Area {
     pub fn includes_triplet(self, subspace: Subspace, path: Path, timestamp: u64) -> Answer
-        ensures { λ r. ⌜ r ≡ answered (legal field (self .path) && legal field path) (areaIncludes self subspace (components path) timestamp) ⌝ }
+        ensures { λ r. ⌜ answerSays r ≡ answered (legal field (self .path) && legal field path) (areaIncludes self subspace (components path) timestamp) ⌝ }
     {
         let own = self.path;
         if !both_legal(own, path) {

@@ -20,11 +20,11 @@ ghost use Rattle.data_model.specs.Entry.{covers, entryOf, byRank, prunes
 ghost use Rattle.data_model.specs.Range.{legalRange, pathsInclude};
 ghost use Rattle.data_model.specs.Range3d.{rangeIncludes};
 ghost use Rattle.data_model.specs.Area.{areaIncludes};
-ghost use Rattle.data_model.specs.Refusal.{ordered};
+ghost use Rattle.data_model.specs.Refusal.{orderingSays};
 
 // How bytes compare: by the first that differs, a beginning being less.
 pub fn compare_bytes(a: &[u8], b: &[u8]) -> Ordering
-    ensures { λ r. ⌜ r ≡ ordered (byBytes (now (a .entry)) (now (b .entry))) ⌝ }
+    ensures { λ r. ⌜ orderingSays r ≡ byBytes (now (a .entry)) (now (b .entry)) ⌝ }
 {
     let mut i: usize = 0;
     while i < a.len() {
@@ -50,7 +50,7 @@ pub fn compare_bytes(a: &[u8], b: &[u8]) -> Ordering
 // How components compare that end at the ends given.
 fn compare_components(a: &[u8], a_ends: &[usize], b: &[u8], b_ends: &[usize]) -> Ordering
     requires { ⌜ (legalEnds (length (now a)) (length (now a)) 0 (now «a_ends») ≡ true) × (legalEnds (length (now b)) (length (now b)) 0 (now «b_ends») ≡ true) ⌝ }
-    ensures { λ r. ⌜ r ≡ ordered (byComponents (cut (now (a .entry)) 0 (now («a_ends» .entry))) (cut (now (b .entry)) 0 (now («b_ends» .entry)))) ⌝ }
+    ensures { λ r. ⌜ orderingSays r ≡ byComponents (cut (now (a .entry)) 0 (now («a_ends» .entry))) (cut (now (b .entry)) 0 (now («b_ends» .entry))) ⌝ }
 {
     let mut i: usize = 0;
     let mut a_from: usize = 0;
@@ -84,7 +84,7 @@ fn compare_components(a: &[u8], a_ends: &[usize], b: &[u8], b_ends: &[usize]) ->
 
 pub fn cmp(p: Path, q: Path) -> Ordering
     requires { ⌜ (legal field p ≡ true) × (legal field q ≡ true) ⌝ }
-    ensures { λ r. ⌜ r ≡ ordered (byComponents (components p) (components q)) ⌝ }
+    ensures { λ r. ⌜ orderingSays r ≡ byComponents (components p) (components q) ⌝ }
 {
     let m = p.count;
     let n = q.count;

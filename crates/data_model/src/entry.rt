@@ -12,7 +12,7 @@ ghost use mathlib.Core.Path.{_≡_};
 ghost use mathlib.Core.Bool.{_&&_};
 ghost use Rattle.data_model.specs.Path.{field, legal};
 ghost use Rattle.data_model.specs.Entry.{entryOf, rankOf, byRank, newer, prunes};
-ghost use Rattle.data_model.specs.Refusal.{answered, ordered};
+ghost use Rattle.data_model.specs.Refusal.{answerSays, answered, orderingSays};
 
 // What decides which of two entries is newer.
 pub struct Rank {
@@ -34,7 +34,7 @@ pub struct Entry {
 impl Rank {
     // By timestamp, then digest as bytes, then payload length.
     pub fn cmp(self, other: Rank) -> Ordering
-        ensures { λ r. ⌜ r ≡ ordered (byRank self other) ⌝ }
+        ensures { λ r. ⌜ orderingSays r ≡ byRank self other ⌝ }
     {
         let times = compare_numbers(self.timestamp, other.timestamp);
         match times {
@@ -67,7 +67,7 @@ impl Entry {
     }
 
     pub fn is_newer_than(self, other: Entry) -> Answer
-        ensures { λ r. ⌜ r ≡ answered (legal field (self .path) && legal field (other .path)) (newer (entryOf self) (entryOf other)) ⌝ }
+        ensures { λ r. ⌜ answerSays r ≡ answered (legal field (self .path) && legal field (other .path)) (newer (entryOf self) (entryOf other)) ⌝ }
     {
         let p = self.path;
         let q = other.path;
@@ -78,7 +78,7 @@ impl Entry {
     }
 
     pub fn prunes(self, other: Entry) -> Answer
-        ensures { λ r. ⌜ r ≡ answered (legal field (self .path) && legal field (other .path)) (prunes (entryOf self) (entryOf other)) ⌝ }
+        ensures { λ r. ⌜ answerSays r ≡ answered (legal field (self .path) && legal field (other .path)) (prunes (entryOf self) (entryOf other)) ⌝ }
     {
         let p = self.path;
         let q = other.path;
@@ -89,7 +89,7 @@ impl Entry {
     }
 
     pub fn is_pruned_by(self, other: Entry) -> Answer
-        ensures { λ r. ⌜ r ≡ answered (legal field (other .path) && legal field (self .path)) (prunes (entryOf other) (entryOf self)) ⌝ }
+        ensures { λ r. ⌜ answerSays r ≡ answered (legal field (other .path) && legal field (self .path)) (prunes (entryOf other) (entryOf self)) ⌝ }
     {
         other.prunes(self)
     }

@@ -4,7 +4,7 @@ use crate::answer::compare_numbers;
 use crate::answer::is_equal;
 use crate::range::SubspaceEnd;
 ghost use mathlib.Core.Path.{_≡_};
-ghost use Rattle.data_model.specs.Refusal.{ordered};
+ghost use Rattle.data_model.specs.Refusal.{orderingSays};
 ghost use Rattle.data_model.specs.Subspace.{sameSubspace, bySubspace, nextSubspace};
 
 #[repr(C)]
@@ -15,7 +15,7 @@ pub struct Subspace {
 
 impl Subspace {
     pub fn cmp(self, other: Subspace) -> Ordering
-        ensures { λ r. ⌜ r ≡ ordered (bySubspace self other) ⌝ }
+        ensures { λ r. ⌜ orderingSays r ≡ bySubspace self other ⌝ }
     {
         let high = compare_numbers(self.high, other.high);
         match high {

@@ -12,7 +12,7 @@ ghost use mathlib.Core.List.{[]};
 ghost use mathlib.Core.Bool.{_&&_};
 ghost use Rattle.data_model.specs.Path.{field, legal, legalEnds, components, pathOf, byComponents, samePath, isPrefix};
 ghost use Rattle.data_model.specs.Above.{aboveAnswer};
-ghost use Rattle.data_model.specs.Refusal.{answered, compared};
+ghost use Rattle.data_model.specs.Refusal.{answerSays, answered, comparedSays};
 
 // The most bytes of a component, components of a path, and bytes of a path.
 pub const MCL: usize = 64;
@@ -81,7 +81,7 @@ impl Path {
     }
 
     pub fn cmp(self, other: Path) -> Compared
-        ensures { λ r. ⌜ r ≡ compared (legal field self && legal field other) (byComponents (components self) (components other)) ⌝ }
+        ensures { λ r. ⌜ comparedSays r ≡ answered (legal field self && legal field other) (byComponents (components self) (components other)) ⌝ }
     {
         if !both_legal(self, other) {
             return Compared::Refused(ILLEGAL_PATH);
@@ -95,7 +95,7 @@ impl Path {
     }
 
     pub fn eq(self, other: Path) -> Answer
-        ensures { λ r. ⌜ r ≡ answered (legal field self && legal field other) (samePath (components self) (components other)) ⌝ }
+        ensures { λ r. ⌜ answerSays r ≡ answered (legal field self && legal field other) (samePath (components self) (components other)) ⌝ }
     {
         if !both_legal(self, other) {
             return Answer::Refused(ILLEGAL_PATH);
@@ -104,7 +104,7 @@ impl Path {
     }
 
     pub fn is_prefix_of(self, other: Path) -> Answer
-        ensures { λ r. ⌜ r ≡ answered (legal field self && legal field other) (isPrefix (components self) (components other)) ⌝ }
+        ensures { λ r. ⌜ answerSays r ≡ answered (legal field self && legal field other) (isPrefix (components self) (components other)) ⌝ }
     {
         if !both_legal(self, other) {
             return Answer::Refused(ILLEGAL_PATH);
@@ -113,7 +113,7 @@ impl Path {
     }
 
     pub fn is_prefixed_by(self, other: Path) -> Answer
-        ensures { λ r. ⌜ r ≡ answered (legal field other && legal field self) (isPrefix (components other) (components self)) ⌝ }
+        ensures { λ r. ⌜ answerSays r ≡ answered (legal field other && legal field self) (isPrefix (components other) (components self)) ⌝ }
     {
         other.is_prefix_of(self)
     }

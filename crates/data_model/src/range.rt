@@ -10,7 +10,7 @@ ghost use mathlib.Core.Path.{_≡_};
 ghost use mathlib.Core.Bool.{_&&_};
 ghost use Rattle.data_model.specs.Path.{field, legal, components};
 ghost use Rattle.data_model.specs.Range.{timesInclude, subspacesInclude, pathsInclude, legalRange};
-ghost use Rattle.data_model.specs.Refusal.{answered};
+ghost use Rattle.data_model.specs.Refusal.{answerSays, answered};
 
 pub enum RangeEnd {
     Closed(u64),
@@ -88,7 +88,7 @@ impl PathRange {
     }
 
     pub fn includes(self, value: Path) -> Answer
-        ensures { λ r. ⌜ r ≡ answered (legalRange field self && legal field value) (pathsInclude self (components value)) ⌝ }
+        ensures { λ r. ⌜ answerSays r ≡ answered (legalRange field self && legal field value) (pathsInclude self (components value)) ⌝ }
     {
         if !self.is_legal_with(value) {
             return Answer::Refused(ILLEGAL_PATH);

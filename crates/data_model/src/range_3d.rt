@@ -22,7 +22,7 @@ ghost use Rattle.data_model.specs.Above.{above};
 ghost use Rattle.data_model.specs.Range.{legalRange};
 ghost use Rattle.data_model.specs.Range3d.{rangeIncludes};
 ghost use Rattle.data_model.specs.Area.{subspacesOf, pathsUpTo, emptyRange, areaRangeAnswer};
-ghost use Rattle.data_model.specs.Refusal.{answered, illegalPath};
+ghost use Rattle.data_model.specs.Refusal.{answerSays, answered, illegalPath};
 
 pub struct Range3d {
     pub subspaces: SubspaceRange,
@@ -64,7 +64,7 @@ fn paths_of(path: Path) -> PathRange
 
 impl Range3d {
     pub fn includes_triplet(self, subspace: Subspace, path: Path, timestamp: u64) -> Answer
-        ensures { λ r. ⌜ r ≡ answered (legalRange field (self .paths) && legal field path) (rangeIncludes self subspace (components path) timestamp) ⌝ }
+        ensures { λ r. ⌜ answerSays r ≡ answered (legalRange field (self .paths) && legal field path) (rangeIncludes self subspace (components path) timestamp) ⌝ }
     {
         let paths = self.paths;
         if !paths.is_legal_with(path) {

@@ -7,8 +7,8 @@ use keys::decode::PathRead;
 ghost use mathlib.Core.Path.{_≡_};
 ghost use lib.ListN.{drop};
 ghost use Rattle.data_model.specs.Path.{field};
-ghost use Rattle.keys.specs.Decode.{readPath, componentRead, pathRead, readSpt, readTsp, decoded};
-ghost use Rattle.key_reader.specs.Reader.{behind, stepped};
+ghost use Rattle.keys.specs.Decode.{readPath, componentSays, componentRead, pathRead, readSpt, readTsp, decoded};
+ghost use Rattle.key_reader.specs.Reader.{behind, steppedSays, stepped};
 
 pub struct KeyReader<'a> {
     pub bytes: &'a [u8],
@@ -46,7 +46,7 @@ pub fn rest<'a>(r: KeyReader<'a>) -> &'a [u8]
 
 // Where a reader stands that took a component or the path's end; a refusal leaves it.
 fn position_behind(c: ComponentRead, at: usize) -> usize
-    ensures { λ n. ⌜ n ≡ behind c at ⌝ }
+    ensures { λ n. ⌜ n ≡ behind (componentSays c) at ⌝ }
 {
     let next = c.next;
     match next {
@@ -58,7 +58,7 @@ fn position_behind(c: ComponentRead, at: usize) -> usize
 
 // Takes the next component, or the path's end.
 pub fn next_component<'s, 'a>(r: &'s mut KeyReader<'a>) -> ComponentRead
-    ensures { λ c. ⌜ (c ≡ componentRead field (now (r .entry) .at) (drop (now (r .entry) .at) (now (now (r .entry) .bytes)))) × (now (r .exit) .bytes ≡ now (r .entry) .bytes) × (now (r .exit) .at ≡ behind c (now (r .entry) .at)) ⌝ }
+    ensures { λ c. ⌜ (componentSays c ≡ componentRead field (now (r .entry) .at) (drop (now (r .entry) .at) (now (now (r .entry) .bytes)))) × (now (r .exit) .bytes ≡ now (r .entry) .bytes) × (now (r .exit) .at ≡ behind (componentSays c) (now (r .entry) .at)) ⌝ }
 {
     let at = r.at;
     let c = keys::decode::component_bytes(r.bytes, at);
@@ -96,7 +96,7 @@ pub struct Stepped {
 
 // One step of a reader at a position of a key: for whoever cannot hold a reader.
 pub fn component_at(bytes: &[u8], at: usize) -> Stepped
-    ensures { λ s. ⌜ s ≡ stepped at (now (bytes .entry)) ⌝ }
+    ensures { λ s. ⌜ steppedSays s ≡ stepped at (now (bytes .entry)) ⌝ }
 {
     let mut r = KeyReader { bytes, at };
     let component = next_component(&mut r);

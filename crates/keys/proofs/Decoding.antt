@@ -11,7 +11,7 @@ use borrow.Author.Tests.{eq-eqb, ne-eqb, eqb-true}
 use Rattle.laws.proofs.Lists.{put-zeros}
 use Rattle.data_model.specs.Path.{Figures, field, Component, Components, joined, endsFrom, valueOf, pathOf}
 use Rattle.keys.specs.Encode.{Triple}
-use Rattle.keys.specs.Decode.{Taken, refused, took, bind, tokenOf, endsPath, readComponent, readPath, partOf, Filled, nextComponent, componentRead, pathRead, numberFrom, number, whole, decoded}
+use Rattle.keys.specs.Decode.{Taken, refused, took, bind, tokenOf, endsPath, readComponent, readPath, partOf, Filled, nextSays, componentSays, nextComponent, componentRead, pathRead, numberFrom, number, whole, decoded}
 use Rattle.data_model.specs.declared.path.Path.{Path}
 use Rattle.data_model.specs.declared.parameters.Subspace.{Subspace}
 use Rattle.keys.specs.declared.decode.Part.the-variants as part
@@ -22,8 +22,8 @@ use Rattle.keys.proofs.Walking.{PathFit, path-fit, path-empty}
 
 -- The next component: the path's end, a component, or neither.
 next-took : (at : ℕ) (t : Taken Component) (n u : ℕ) (bytes : List ℕ) → part.Took n u ≡ partOf t → Filled (λ c. c) t (replicate (field .mcl) 0) bytes
-    → record { next = next.Component n (at + u); bytes = bytes } ≡ nextComponent at t
-unfolding partOf nextComponent
+    → componentSays (record { next = next.Component n (at + u); bytes = bytes }) ≡ nextComponent at t
+unfolding partOf componentSays nextSays nextComponent
 next-took at refused n u bytes e b = absurd (let z : _≡_ {A = ℕ} 0 1 = cc in omega arith)
 next-took at (took c v) n u bytes e b =
     let en : n ≡ length c = cc in
@@ -37,13 +37,13 @@ next-refused at refused e = refl
 next-refused at (took c v) e = absurd (let z : _≡_ {A = ℕ} 0 1 = cc in omega arith)
 
 module _ (at : ℕ) (k : List ℕ) where
-  pub component-ended : endsPath (tokenOf k) ≡ true → record { next = next.PathEnd (at + 2); bytes = replicate (field .mcl) 0 } ≡ componentRead field at k
-  unfolding componentRead
+  pub component-ended : endsPath (tokenOf k) ≡ true → componentSays (record { next = next.PathEnd (at + 2); bytes = replicate (field .mcl) 0 }) ≡ componentRead field at k
+  unfolding componentSays nextSays componentRead
   component-ended e = rw e
 
   pub component-took : (n u : ℕ) (bytes : List ℕ) → endsPath (tokenOf k) ≡ false → part.Took n u ≡ partOf (readComponent (field .mcl) k)
       → Filled (λ c. c) (readComponent (field .mcl) k) (replicate (field .mcl) 0) bytes
-      → record { next = next.Component n (at + u); bytes = bytes } ≡ componentRead field at k
+      → componentSays (record { next = next.Component n (at + u); bytes = bytes }) ≡ componentRead field at k
   unfolding componentRead
   component-took n u bytes e p b = rw e (next-took at (readComponent (field .mcl) k) n u bytes p b)
 

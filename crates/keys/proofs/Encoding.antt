@@ -14,7 +14,8 @@ use lib.Seq.{drop-cons}
 use Rattle.laws.specs.Lists.{piece, put}
 use Rattle.laws.proofs.Truth.{and-true}
 use Rattle.data_model.specs.Path.{Figures, cut, components, legal, legalEnds}
-use Rattle.keys.specs.Encode.{escaped, componentKey, pathKey, componentEnd, pathEnd, be, subspaceKey, pathKeyMost, keyMost, roomy, encoded, encodedIn}
+use Rattle.data_model.specs.Said.{says}
+use Rattle.keys.specs.Encode.{escaped, componentKey, pathKey, componentEnd, pathEnd, be, subspaceKey, pathKeyMost, keyMost, roomy, encodedSays, encoded, encodedIn}
 use Rattle.data_model.specs.Refusal.{shortBuffer, illegalPath}
 use Rattle.data_model.specs.declared.path.Path.{Path}
 use Rattle.data_model.specs.declared.parameters.Subspace.{Subspace}
@@ -117,15 +118,15 @@ subspace-length s = simp (length-append, be-length)
 
 -- The three ways in which encoding a key ends.
 module _ (f : Figures) (l : Bool) (key old : List ℕ) where
-  pub encode-short : length old < keyMost f → (Refused shortBuffer ≡ encoded (roomy f old) l key) × (old ≡ encodedIn (roomy f old) l key old)
-  unfolding roomy encoded encodedIn
+  pub encode-short : length old < keyMost f → (encodedSays (Refused shortBuffer) ≡ encoded (roomy f old) l key) × (old ≡ encodedIn (roomy f old) l key old)
+  unfolding roomy encodedSays encoded encodedIn
   encode-short h = simp (lt-leb (keyMost f) (length old) h) (refl, refl)
 
-  pub encode-illegal : keyMost f ≤ length old → l ≡ false → (Refused illegalPath ≡ encoded (roomy f old) l key) × (old ≡ encodedIn (roomy f old) l key old)
-  unfolding roomy encoded encodedIn
+  pub encode-illegal : keyMost f ≤ length old → l ≡ false → (encodedSays (Refused illegalPath) ≡ encoded (roomy f old) l key) × (old ≡ encodedIn (roomy f old) l key old)
+  unfolding roomy encodedSays encoded encodedIn
   encode-illegal h e = simp (le-leb (keyMost f) (length old) h, e) (refl, refl)
 
   pub encode-done : (n : ℕ) (out : List ℕ) → keyMost f ≤ length old → l ≡ true → n ≡ length key → out ≡ put key old
-      → (Written n ≡ encoded (roomy f old) l key) × (out ≡ encodedIn (roomy f old) l key old)
-  unfolding roomy encoded encodedIn
-  encode-done n out h e k o = simp (le-leb (keyMost f) (length old) h, e) (ap Written k, o)
+      → (encodedSays (Written n) ≡ encoded (roomy f old) l key) × (out ≡ encodedIn (roomy f old) l key old)
+  unfolding roomy encodedSays encoded encodedIn
+  encode-done n out h e k o = simp (le-leb (keyMost f) (length old) h, e) (ap says k, o)

@@ -11,9 +11,8 @@ use lib.ListN.{length, drop, length-append, length-drop, drop-of-length-le}
 use lib.Seq.{drop-drop}
 use Rattle.data_model.specs.Path.{Components}
 use Rattle.keys.specs.Encode.{escaped, Triple}
-use Rattle.keys.specs.Decode.{Taken, refused, took, more, bind, tokenOf, endsPath, readComponent, readComponents, partOf, whole, wasRead, Takes}
-use Rattle.keys.specs.declared.decode.Token.{Token}
-use Rattle.keys.specs.declared.decode.Token.the-variants as token
+use Rattle.data_model.specs.Said.{Said, refuses, says}
+use Rattle.keys.specs.Decode.{Symbol, byte, component-mark, path-mark, Taken, refused, took, more, bind, tokenOf, endsPath, readComponent, readComponents, partOf, whole, wasRead, Takes}
 use Rattle.keys.specs.declared.decode.Part.the-variants as part
 use Rattle.keys.proofs.Reading.{stepComponent, component-step, token-within, component-fits, more-id, more-more, more-same}
 use Rattle.keys.proofs.Decoding.{whole-took}
@@ -61,36 +60,36 @@ module _ (lim : ℕ) (k : List ℕ) (at n : ℕ) (h : Passing lim k at n) where
   unfolding readComponent more
   passing-left g = h .so-far ∙ ap (λ (x : List ℕ). more (h .c ++_) at (readComponent (lim - n) x)) (drop-of-length-le k g)
 
-  pub passing-token : (t : Token) → tokenOf (drop at k) ≡ t → readComponent lim k ≡ more (h .c ++_) at (stepComponent (lim - n) (drop at k) t)
+  pub passing-token : (t : Said Symbol) → tokenOf (drop at k) ≡ t → readComponent lim k ≡ more (h .c ++_) at (stepComponent (lim - n) (drop at k) t)
   passing-token t e = h .so-far ∙ ap (more (h .c ++_) at) (component-step (lim - n) (drop at k) ∙ ap (stepComponent (lim - n) (drop at k)) e)
 
-  pub passing-full : (b : ℕ) → tokenOf (drop at k) ≡ token.Byte b → lim ≤ n → readComponent lim k ≡ refused
+  pub passing-full : (b : ℕ) → tokenOf (drop at k) ≡ says (byte b) → lim ≤ n → readComponent lim k ≡ refused
   unfolding more
   passing-full b e g =
       let z : lim - n ≡ 0 = omega arith in
-      passing-token (token.Byte b) e ∙ ap (λ (l : ℕ). more (h .c ++_) at (stepComponent l (drop at k) (token.Byte b))) z
+      passing-token (says (byte b)) e ∙ ap (λ (l : ℕ). more (h .c ++_) at (stepComponent l (drop at k) (says (byte b)))) z
 
-  pub passing-ends : tokenOf (drop at k) ≡ token.ComponentEnd → readComponent lim k ≡ took (h .c) (at + 2)
+  pub passing-ends : tokenOf (drop at k) ≡ says component-mark → readComponent lim k ≡ took (h .c) (at + 2)
   unfolding more
-  passing-ends e = passing-token token.ComponentEnd e ∙ ap (λ (c : List ℕ). took c (at + 2)) (append-nil (h .c))
+  passing-ends e = passing-token (says component-mark) e ∙ ap (λ (c : List ℕ). took c (at + 2)) (append-nil (h .c))
 
-  pub passing-stops : tokenOf (drop at k) ≡ token.PathEnd → readComponent lim k ≡ refused
+  pub passing-stops : tokenOf (drop at k) ≡ says path-mark → readComponent lim k ≡ refused
   unfolding more
-  passing-stops e = passing-token token.PathEnd e
+  passing-stops e = passing-token (says path-mark) e
 
-  pub passing-odd : (m : ℕ) → tokenOf (drop at k) ≡ token.Refused m → readComponent lim k ≡ refused
+  pub passing-odd : (m : ℕ) → tokenOf (drop at k) ≡ refuses m → readComponent lim k ≡ refused
   unfolding more
-  passing-odd m e = passing-token (token.Refused m) e
+  passing-odd m e = passing-token (refuses m) e
 
-  pub passing-more : (b w : ℕ) → tokenOf (drop at k) ≡ token.Byte b → w ≡ length (escaped b) → n < lim → Passing lim k (at + w) (n + 1)
+  pub passing-more : (b w : ℕ) → tokenOf (drop at k) ≡ says (byte b) → w ≡ length (escaped b) → n < lim → Passing lim k (at + w) (n + 1)
   passing-more b w e v l = record {
     c = h .c ++ b ∷ [];
-    within = omega (arith, token-within k at (token.Byte b) (h .within) e);
+    within = omega (arith, token-within k at (says (byte b)) (h .within) e);
     below = omega arith;
     long = rw (length-append, h .long);
     so-far =
-        passing-token (token.Byte b) e
-        ∙ ap (λ (m : ℕ). more (h .c ++_) at (stepComponent m (drop at k) (token.Byte b))) left
+        passing-token (says (byte b)) e
+        ∙ ap (λ (m : ℕ). more (h .c ++_) at (stepComponent m (drop at k) (says (byte b)))) left
         ∙ more-more (h .c ++_) (b ∷_) at (length (escaped b)) (readComponent (lim - (n + 1)) (drop (length (escaped b)) (drop at k)))
         ∙ more-same (λ (x : List ℕ). h .c ++ b ∷ x) ((h .c ++ b ∷ []) ++_) (at + length (escaped b)) (λ x. sym (append-assoc (h .c) (b ∷ []) x))
         (readComponent (lim - (n + 1)) (drop (length (escaped b)) (drop at k)))

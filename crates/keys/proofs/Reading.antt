@@ -17,10 +17,9 @@ use Rattle.laws.proofs.Truth.{clash}
 use Rattle.laws.proofs.Prefix.{number-equality, list-equality}
 use Rattle.data_model.specs.Path.{sameComponent}
 use Rattle.keys.specs.Encode.{escaped}
-use Rattle.keys.specs.Decode.{Taken, refused, took, more, mark, tokenOf, readComponent, partOf, Filled}
+use Rattle.data_model.specs.Said.{Said, refuses, says}
+use Rattle.keys.specs.Decode.{Symbol, byte, component-mark, path-mark, Taken, refused, took, more, mark, tokenOf, readComponent, partOf, Filled}
 use Rattle.data_model.specs.Refusal.{noKey}
-use Rattle.keys.specs.declared.decode.Token.{Token}
-use Rattle.keys.specs.declared.decode.Token.the-variants as token
 use Rattle.keys.specs.declared.decode.Part.the-variants as part
 use Rattle.keys.proofs.Encoding.{pair-is}
 
@@ -45,20 +44,20 @@ module _ (a b : List ℕ) (m : length a ≡ 2) (n : length b ≡ 2) where
   marks-differ e = rw (pair-is a m, pair-is b n) (rw (ne-eqb (getD a 0 0) (getD b 0 0) e))
 
 -- What stands at a place.
-token-front : (b : ℕ) (k : List ℕ) → (b ≡ 0 → ⊥) → tokenOf (b ∷ k) ≡ token.Byte b
+token-front : (b : ℕ) (k : List ℕ) → (b ≡ 0 → ⊥) → tokenOf (b ∷ k) ≡ says (byte b)
 unfolding tokenOf
 token-front zero k h = absurd (h refl)
 token-front (suc b) k h = refl
 
 module _ (k : List ℕ) (at : ℕ) where
-  pub token-past : length k ≤ at → tokenOf (drop at k) ≡ token.Refused noKey
+  pub token-past : length k ≤ at → tokenOf (drop at k) ≡ refuses noKey
   unfolding tokenOf
   token-past h = rw (drop-of-length-le k h)
 
-  pub token-byte : at < length k → (getD k at 0 ≡ 0 → ⊥) → tokenOf (drop at k) ≡ token.Byte (getD k at 0)
+  pub token-byte : at < length k → (getD k at 0 ≡ 0 → ⊥) → tokenOf (drop at k) ≡ says (byte (getD k at 0))
   token-byte h n = ap tokenOf (drop-cons k at 0 h) ∙ token-front (getD k at 0) (drop (suc at) k) n
 
-  pub token-cut : at + 1 ≡ length k → getD k at 0 ≡ 0 → tokenOf (drop at k) ≡ token.Refused noKey
+  pub token-cut : at + 1 ≡ length k → getD k at 0 ≡ 0 → tokenOf (drop at k) ≡ refuses noKey
   unfolding tokenOf
   token-cut h e =
       let z : drop (suc at) k ≡ [] = drop-of-length-le k {i = suc at} (omega arith) in
@@ -70,7 +69,7 @@ module _ (k : List ℕ) (at : ℕ) where
       let z : drop (suc at) k ≡ getD k (suc at) 0 ∷ drop (suc (suc at)) k = drop-cons k (suc at) 0 (omega arith) in
       ap tokenOf (drop-cons k at 0 (omega arith) ∙ ap₂ _∷_ e z) ∙ ap (λ (i : ℕ). mark (getD k i 0)) (sym (add-one at))
 
-pub mark-other : (m : ℕ) → (m ≡ 0 → ⊥) → (m ≡ 1 → ⊥) → (m ≡ 2 → ⊥) → mark m ≡ token.Refused noKey
+pub mark-other : (m : ℕ) → (m ≡ 0 → ⊥) → (m ≡ 1 → ⊥) → (m ≡ 2 → ⊥) → mark m ≡ refuses noKey
 unfolding mark
 mark-other zero a b c = absurd (a refl)
 mark-other (suc zero) a b c = absurd (b refl)
@@ -78,12 +77,12 @@ mark-other (suc (suc zero)) a b c = absurd (c refl)
 mark-other (suc (suc (suc m))) a b c = refl
 
 -- What a component's reading does, by the token that it meets.
-abbrev pub stepComponent : ℕ → List ℕ → Token → Taken (List ℕ)
-stepComponent lim k token.ComponentEnd = took [] 2
-stepComponent lim k token.PathEnd = refused
-stepComponent lim k (token.Refused n) = refused
-stepComponent zero k (token.Byte b) = refused
-stepComponent (suc lim) k (token.Byte b) = more (b ∷_) (length (escaped b)) (readComponent lim (drop (length (escaped b)) k))
+abbrev pub stepComponent : ℕ → List ℕ → Said Symbol → Taken (List ℕ)
+stepComponent lim k (says component-mark) = took [] 2
+stepComponent lim k (says path-mark) = refused
+stepComponent lim k (refuses n) = refused
+stepComponent zero k (says (byte b)) = refused
+stepComponent (suc lim) k (says (byte b)) = more (b ∷_) (length (escaped b)) (readComponent lim (drop (length (escaped b)) k))
 
 pub component-step : (lim : ℕ) (k : List ℕ) → readComponent lim k ≡ stepComponent lim k (tokenOf k)
 unfolding tokenOf mark readComponent escaped
@@ -98,11 +97,11 @@ component-step (suc lim) (zero ∷ suc (suc zero) ∷ k) = refl
 component-step lim (zero ∷ suc (suc (suc m)) ∷ k) = refl
 
 -- How many bytes a token takes.
-abbrev pub tokenSize : Token → ℕ
-tokenSize (token.Byte b) = length (escaped b)
-tokenSize token.ComponentEnd = 2
-tokenSize token.PathEnd = 2
-tokenSize (token.Refused n) = 0
+abbrev pub tokenSize : Said Symbol → ℕ
+tokenSize (says (byte b)) = length (escaped b)
+tokenSize (says component-mark) = 2
+tokenSize (says path-mark) = 2
+tokenSize (refuses n) = 0
 
 pub token-fits : (k : List ℕ) → tokenSize (tokenOf k) ≤ length k
 unfolding tokenOf mark escaped
@@ -114,8 +113,8 @@ token-fits (zero ∷ suc zero ∷ k) = omega arith
 token-fits (zero ∷ suc (suc zero) ∷ k) = omega arith
 token-fits (zero ∷ suc (suc (suc m)) ∷ k) = omega arith
 
-pub token-within : (k : List ℕ) (at : ℕ) (t : Token) → at ≤ length k → tokenOf (drop at k) ≡ t → at + tokenSize t ≤ length k
-token-within k at t h e = omega (arith, subst (λ (x : Token). tokenSize x ≤ length (drop at k)) e (token-fits (drop at k)), length-drop at k)
+pub token-within : (k : List ℕ) (at : ℕ) (t : Said Symbol) → at ≤ length k → tokenOf (drop at k) ≡ t → at + tokenSize t ≤ length k
+token-within k at t h e = omega (arith, subst (λ (x : Said Symbol). tokenSize x ≤ length (drop at k)) e (token-fits (drop at k)), length-drop at k)
 
 -- The part of a slice from a place on.
 pub rest : (k : List ℕ) (at : ℕ) → take (length k - at) (drop at k) ≡ drop at k
@@ -160,18 +159,18 @@ module _ (lim : ℕ) (k old bytes : List ℕ) (at n : ℕ) (h : Reading lim k ol
   reading-none-left g = h .so-far ∙ ap (λ (x : List ℕ). more (take n bytes ++_) at (readComponent (lim - n) x)) (drop-of-length-le k g)
 
   -- The token at the place settles how reading goes on.
-  pub reading-token : (t : Token) → tokenOf (drop at k) ≡ t → readComponent lim k ≡ more (take n bytes ++_) at (stepComponent (lim - n) (drop at k) t)
+  pub reading-token : (t : Said Symbol) → tokenOf (drop at k) ≡ t → readComponent lim k ≡ more (take n bytes ++_) at (stepComponent (lim - n) (drop at k) t)
   reading-token t e = h .so-far ∙ ap (more (take n bytes ++_) at) (component-step (lim - n) (drop at k) ∙ ap (stepComponent (lim - n) (drop at k)) e)
 
-  pub reading-full : (b : ℕ) → tokenOf (drop at k) ≡ token.Byte b → lim ≤ n → readComponent lim k ≡ refused
+  pub reading-full : (b : ℕ) → tokenOf (drop at k) ≡ says (byte b) → lim ≤ n → readComponent lim k ≡ refused
   unfolding more
   reading-full b e g =
       let z : lim - n ≡ 0 = omega arith in
-      reading-token (token.Byte b) e ∙ ap (λ (l : ℕ). more (take n bytes ++_) at (stepComponent l (drop at k) (token.Byte b))) z
+      reading-token (says (byte b)) e ∙ ap (λ (l : ℕ). more (take n bytes ++_) at (stepComponent l (drop at k) (says (byte b)))) z
 
-  pub reading-ends : tokenOf (drop at k) ≡ token.ComponentEnd → readComponent lim k ≡ took (take n bytes) (at + 2)
+  pub reading-ends : tokenOf (drop at k) ≡ says component-mark → readComponent lim k ≡ took (take n bytes) (at + 2)
   unfolding more
-  reading-ends e = reading-token token.ComponentEnd e ∙ ap (λ (c : List ℕ). took c (at + 2)) (append-nil (take n bytes))
+  reading-ends e = reading-token (says component-mark) e ∙ ap (λ (c : List ℕ). took c (at + 2)) (append-nil (take n bytes))
 
   pub reading-put : n ≤ length bytes → bytes ≡ put (take n bytes) old
   unfolding put
@@ -179,10 +178,10 @@ module _ (lim : ℕ) (k old bytes : List ℕ) (at n : ℕ) (h : Reading lim k ol
       sym (take-append-drop n bytes)
       ∙ ap (take n bytes ++_) (h .kept ∙ ap (λ (m : ℕ). drop m old) (sym (length-take-le n bytes g)))
 
-  pub reading-more : (b w : ℕ) → tokenOf (drop at k) ≡ token.Byte b → w ≡ length (escaped b) → n < lim → n < length bytes
+  pub reading-more : (b w : ℕ) → tokenOf (drop at k) ≡ says (byte b) → w ≡ length (escaped b) → n < lim → n < length bytes
       → Reading lim k old (set bytes n b) (at + w) (n + 1)
   reading-more b w e v l r = record {
-    within = omega (arith, token-within k at (token.Byte b) (h .within) e);
+    within = omega (arith, token-within k at (says (byte b)) (h .within) e);
     below = omega arith;
     size = length-set bytes n b ∙ h .size;
     kept =
@@ -191,8 +190,8 @@ module _ (lim : ℕ) (k old bytes : List ℕ) (at n : ℕ) (h : Reading lim k ol
         ∙ ap (drop 1) (h .kept)
         ∙ drop-drop 1 n old;
     so-far =
-        reading-token (token.Byte b) e
-        ∙ ap (λ (m : ℕ). more (take n bytes ++_) at (stepComponent m (drop at k) (token.Byte b))) left
+        reading-token (says (byte b)) e
+        ∙ ap (λ (m : ℕ). more (take n bytes ++_) at (stepComponent m (drop at k) (says (byte b)))) left
         ∙ more-more (take n bytes ++_) (b ∷_) at (length (escaped b)) (readComponent (lim - (n + 1)) (drop (length (escaped b)) (drop at k)))
         ∙ more-same (λ (x : List ℕ). take n bytes ++ b ∷ x) (take (n + 1) (set bytes n b) ++_) (at + length (escaped b)) same
         (readComponent (lim - (n + 1)) (drop (length (escaped b)) (drop at k)))

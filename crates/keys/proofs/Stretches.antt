@@ -10,10 +10,9 @@ use lib.ListN.{length, getD, drop}
 use lib.Seq.{drop-drop}
 use Rattle.laws.proofs.Truth.{split, and-true}
 use Rattle.keys.specs.Encode.{escaped}
-use Rattle.keys.specs.Decode.{took, mark, tokenOf, endsPath, readComponents, bit, sound, others, endings, kept, ended, closed, Takes}
+use Rattle.data_model.specs.Said.{Said, refuses, says}
+use Rattle.keys.specs.Decode.{Symbol, byte, component-mark, path-mark, took, mark, tokenOf, endsPath, readComponents, bit, sound, others, endings, kept, ended, closed, Takes}
 use Rattle.keys.specs.declared.judge.Tally.{Tally}
-use Rattle.keys.specs.declared.decode.Token.{Token}
-use Rattle.keys.specs.declared.decode.Token.the-variants as token
 use Rattle.keys.proofs.Encoding.{escaped-other}
 use Rattle.keys.proofs.Reading.{stepComponent, component-step, token-byte, token-mark}
 use Rattle.keys.proofs.Passing.{Passing, passing-start, passing-more, passing-ends, PassingAll, all-start, all-ends, all-more}
@@ -98,12 +97,12 @@ pub kept-none : (len ends : ℕ) → (ends ≡ 0 → ⊥) → 0 ≡ kept len end
 kept-none len ends e = rw (ne-eqb ends 0 e)
 
 -- Where a component was read, no path ended.
-goes-on : (lim : ℕ) (k : List ℕ) (t : Token) (c : List ℕ) (u : ℕ) → stepComponent lim k t ≡ took c u → endsPath t ≡ false
+goes-on : (lim : ℕ) (k : List ℕ) (t : Said Symbol) (c : List ℕ) (u : ℕ) → stepComponent lim k t ≡ took c u → endsPath t ≡ false
 unfolding endsPath
-goes-on lim k (token.Byte b) c u e = refl
-goes-on lim k token.ComponentEnd c u e = refl
-goes-on lim k token.PathEnd c u e = absurd (let z : _≡_ {A = ℕ} 0 1 = cc in omega arith)
-goes-on lim k (token.Refused n) c u e = refl
+goes-on lim k (says (byte b)) c u e = refl
+goes-on lim k (says component-mark) c u e = refl
+goes-on lim k (says path-mark) c u e = absurd (let z : _≡_ {A = ℕ} 0 1 = cc in omega arith)
+goes-on lim k (refuses n) c u e = refl
 
 module _ (mcl room most : ℕ) (k : List ℕ) where
   -- Between two tokens: m bytes of a component behind e whole ones, with n bytes so far that are not 00.
@@ -131,10 +130,10 @@ module _ (mcl room most : ℕ) (k : List ℕ) where
     sum = omega arith;
   }
 
-  at-token : (at m n e : ℕ) (h : Between at m n e) (t : Token) → tokenOf (drop at k) ≡ t → tokenOf (drop (h .used) (drop (h .start) k)) ≡ t
+  at-token : (at m n e : ℕ) (h : Between at m n e) (t : Said Symbol) → tokenOf (drop at k) ≡ t → tokenOf (drop (h .used) (drop (h .start) k)) ≡ t
   at-token at m n e h t q = ap tokenOf (drop-drop (h .used) (h .start) k ∙ ap (λ (i : ℕ). drop i k) (sym (h .place))) ∙ q
 
-  pub walk-byte : (at m n e b w : ℕ) → tokenOf (drop at k) ≡ token.Byte b → w ≡ length (escaped b) → m < mcl → Walk at m n e → Walk (at + w) (m + 1) (n + 1) e
+  pub walk-byte : (at m n e b w : ℕ) → tokenOf (drop at k) ≡ says (byte b) → w ≡ length (escaped b) → m < mcl → Walk at m n e → Walk (at + w) (m + 1) (n + 1) e
   walk-byte at m n e b w t v l h f g =
       let p = h (omega arith) g in
       record {
@@ -142,19 +141,19 @@ module _ (mcl room most : ℕ) (k : List ℕ) where
         total = p .total;
         used = p .used + w;
         all = p .all;
-        one = passing-more (min mcl (room - p .total)) (drop (p .start) k) (p .used) m (p .one) b w (at-token at m n e p (token.Byte b) t) v (omega (arith, p .sum));
+        one = passing-more (min mcl (room - p .total)) (drop (p .start) k) (p .used) m (p .one) b w (at-token at m n e p (says (byte b)) t) v (omega (arith, p .sum));
         place = omega (arith, p .place);
         sum = omega (arith, p .sum);
       }
 
   -- A component that ends.
-  behind-end : (at m n e : ℕ) (p : Between at m n e) → tokenOf (drop at k) ≡ token.ComponentEnd → e < most → PassingAll mcl room most k (p .start + (p .used + 2)) (p .total + m) (e + 1)
+  behind-end : (at m n e : ℕ) (p : Between at m n e) → tokenOf (drop at k) ≡ says component-mark → e < most → PassingAll mcl room most k (p .start + (p .used + 2)) (p .total + m) (e + 1)
   behind-end at m n e p t g =
-      let r = passing-ends (min mcl (room - p .total)) (drop (p .start) k) (p .used) m (p .one) (at-token at m n e p token.ComponentEnd t) in
+      let r = passing-ends (min mcl (room - p .total)) (drop (p .start) k) (p .used) m (p .one) (at-token at m n e p (says component-mark) t) in
       let q = sym (component-step (min mcl (room - p .total)) (drop (p .start) k)) ∙ r in
       all-more mcl room most k (p .start) (p .total) e (p .all) (p .one .c) m (p .used + 2) g (goes-on _ _ (tokenOf (drop (p .start) k)) _ _ q) r (p .one .long)
 
-  pub walk-end : (at m n e : ℕ) → tokenOf (drop at k) ≡ token.ComponentEnd → Walk at m n e → Walk (at + 2) 0 (n + 1) (e + 1)
+  pub walk-end : (at m n e : ℕ) → tokenOf (drop at k) ≡ says component-mark → Walk at m n e → Walk (at + 2) 0 (n + 1) (e + 1)
   walk-end at m n e t h f g =
       let p = h (omega arith) (omega arith) in
       record {
@@ -168,7 +167,7 @@ module _ (mcl room most : ℕ) (k : List ℕ) where
       }
 
   -- A component and the path end.
-  pub walk-closes : (at m n e : ℕ) → tokenOf (drop at k) ≡ token.ComponentEnd → endsPath (tokenOf (drop (at + 2) k)) ≡ true → n ≤ room + e → e < most
+  pub walk-closes : (at m n e : ℕ) → tokenOf (drop at k) ≡ says component-mark → endsPath (tokenOf (drop (at + 2) k)) ≡ true → n ≤ room + e → e < most
       → Walk at m n e → Takes (readComponents mcl room most k) (at + 4)
   walk-closes at m n e t z f g h =
       let p = h f (omega arith) in
@@ -193,11 +192,11 @@ module _ (mcl room most : ℕ) (k : List ℕ) where
     pub low : now ≤ m + p
     pub lower : (q ≡ 0 → ⊥) → now ≤ p
 
-  token-zero : (i : ℕ) → i + 1 < length k → getD k i 0 ≡ 0 → getD k (i + 1) 0 ≡ 2 → tokenOf (drop i k) ≡ token.Byte 0
+  token-zero : (i : ℕ) → i + 1 < length k → getD k i 0 ≡ 0 → getD k (i + 1) 0 ≡ 2 → tokenOf (drop i k) ≡ says (byte 0)
   unfolding mark
   token-zero i l z v = token-mark k i l z ∙ ap mark v
 
-  token-end : (i : ℕ) → i + 1 < length k → getD k i 0 ≡ 0 → getD k (i + 1) 0 ≡ 1 → tokenOf (drop i k) ≡ token.ComponentEnd
+  token-end : (i : ℕ) → i + 1 < length k → getD k i 0 ≡ 0 → getD k (i + 1) 0 ≡ 1 → tokenOf (drop i k) ≡ says component-mark
   unfolding mark
   token-end i l z v = token-mark k i l z ∙ ap mark v
 

@@ -12,9 +12,8 @@ use borrow.Rule.Slice.PartMut.{putMid, midOf}
 use Rattle.laws.specs.Lists.{put}
 use Rattle.laws.proofs.Lists.{put-snoc, length-put, wrote-first, wrote-last}
 use Rattle.data_model.specs.Path.{joined, endsFrom}
-use Rattle.keys.specs.Decode.{Taken, refused, took, more, bind, tokenOf, endsPath, readComponent, readComponents, partOf, Filled}
-use Rattle.keys.specs.declared.decode.Token.{Token}
-use Rattle.keys.specs.declared.decode.Token.the-variants as token
+use Rattle.data_model.specs.Said.{Said, refuses, says}
+use Rattle.keys.specs.Decode.{Symbol, byte, component-mark, path-mark, Taken, refused, took, more, bind, tokenOf, endsPath, readComponent, readComponents, partOf, Filled}
 use Rattle.keys.specs.declared.decode.Part.the-variants as part
 use Rattle.data_model.proofs.Values.{joined-more, ends-more, ends-length}
 use Rattle.keys.proofs.Reading.{Fit, component-fit, component-fits, TookIt, tokenSize, token-within, more-id, more-more, more-same}
@@ -73,12 +72,12 @@ unfolding readComponents readComponent bind tokenOf endsPath
 path-empty mcl room zero = refl
 path-empty mcl room (suc n) = refl
 
-ends-path-size : (t : Token) → endsPath t ≡ true → 2 ≤ tokenSize t
+ends-path-size : (t : Said Symbol) → endsPath t ≡ true → 2 ≤ tokenSize t
 unfolding endsPath
-ends-path-size (token.Byte b) e = absurd (let z : _≡_ {A = ℕ} 0 1 = cc in omega arith)
-ends-path-size token.ComponentEnd e = absurd (let z : _≡_ {A = ℕ} 0 1 = cc in omega arith)
-ends-path-size token.PathEnd e = omega arith
-ends-path-size (token.Refused n) e = absurd (let z : _≡_ {A = ℕ} 0 1 = cc in omega arith)
+ends-path-size (says (byte b)) e = absurd (let z : _≡_ {A = ℕ} 0 1 = cc in omega arith)
+ends-path-size (says component-mark) e = absurd (let z : _≡_ {A = ℕ} 0 1 = cc in omega arith)
+ends-path-size (says path-mark) e = omega arith
+ends-path-size (refuses n) e = absurd (let z : _≡_ {A = ℕ} 0 1 = cc in omega arith)
 
 pub ends-within : (k : List ℕ) (at : ℕ) → at ≤ length k → endsPath (tokenOf (drop at k)) ≡ true → at + 2 ≤ length k
 ends-within k at h e = omega (arith, token-within k at (tokenOf (drop at k)) h refl, ends-path-size (tokenOf (drop at k)) e)

@@ -9,35 +9,50 @@ use Rattle.laws.specs.Lists.{put}
 use Rattle.data_model.specs.Path.{Figures, field, Component, Components, pathOf}
 use Rattle.data_model.specs.Subspace.{firstSubspace}
 use Rattle.keys.specs.Encode.{Triple}
+use Rattle.data_model.specs.Said.{Said, refuses, says}
 use Rattle.data_model.specs.Refusal.{noKey}
 use Rattle.data_model.specs.declared.parameters.Subspace.{Subspace}
 use Rattle.keys.specs.declared.decode.Token.{Token}
 use Rattle.keys.specs.declared.decode.Token.the-variants as token
 use Rattle.keys.specs.declared.decode.Part.{Part}
 use Rattle.keys.specs.declared.decode.Part.the-variants as part
+use Rattle.keys.specs.declared.decode.Next.{Next}
 use Rattle.keys.specs.declared.decode.Next.the-variants as next
 use Rattle.keys.specs.declared.decode.ComponentRead.{ComponentRead}
 use Rattle.keys.specs.declared.decode.PathRead.{PathRead}
 use Rattle.keys.specs.declared.decode.Decoded.{Decoded}
 
--- What stands at the front: 00 00 ends a path, 00 01 a component, 00 02 is the byte 00, any other byte is itself.
-unfoldable pub mark : ℕ → Token
-mark zero = token.PathEnd
-mark (suc zero) = token.ComponentEnd
-mark (suc (suc zero)) = token.Byte 0
-mark (suc (suc (suc m))) = token.Refused noKey
+-- What stands at a position of a path's bytes: a byte of a component, or an end.
+pub data Symbol : Type 0 where
+  byte : ℕ → Symbol
+  component-mark : Symbol
+  path-mark : Symbol
 
-unfoldable pub tokenOf : List ℕ → Token
-tokenOf [] = token.Refused noKey
-tokenOf (suc b ∷ k) = token.Byte (suc b)
-tokenOf (zero ∷ []) = token.Refused noKey
+-- What each case of a token says: its number and its values.
+unfoldable pub tokenSays : Token → Said Symbol
+tokenSays (token.Byte b) = says (byte b)
+tokenSays token.ComponentEnd = says component-mark
+tokenSays token.PathEnd = says path-mark
+tokenSays (token.Refused n) = refuses n
+
+-- What stands at the front: 00 00 ends a path, 00 01 a component, 00 02 is the byte 00, any other byte is itself. Else 5.
+unfoldable pub mark : ℕ → Said Symbol
+mark zero = says path-mark
+mark (suc zero) = says component-mark
+mark (suc (suc zero)) = says (byte 0)
+mark (suc (suc (suc m))) = refuses noKey
+
+unfoldable pub tokenOf : List ℕ → Said Symbol
+tokenOf [] = refuses noKey
+tokenOf (suc b ∷ k) = says (byte (suc b))
+tokenOf (zero ∷ []) = refuses noKey
 tokenOf (zero ∷ m ∷ k) = mark m
 
-unfoldable pub endsPath : Token → Bool
-endsPath (token.Byte b) = false
-endsPath token.ComponentEnd = false
-endsPath token.PathEnd = true
-endsPath (token.Refused n) = false
+unfoldable pub endsPath : Said Symbol → Bool
+endsPath (refuses n) = false
+endsPath (says (byte b)) = false
+endsPath (says component-mark) = false
+endsPath (says path-mark) = true
 
 -- What was read and how many bytes it took; or refused.
 pub data Taken (A : Type 0) : Type 0 where
@@ -117,14 +132,32 @@ unfoldable pub pathRead : ℕ → Taken Components → PathRead
 pathRead at refused = record { refusal = noKey; path = pathOf []; next = 0 }
 pathRead at (took cs u) = record { refusal = 0; path = pathOf cs; next = at + u }
 
--- The next component and the position behind it, or the path's end.
-unfoldable pub nextComponent : ℕ → Taken Component → ComponentRead
-nextComponent at refused = record { next = next.Refused noKey; bytes = replicate (field .mcl) 0 }
-nextComponent at (took c u) = record { next = next.Component (length c) (at + u); bytes = c ++ replicate (field .mcl - length c) 0 }
+-- A step in a path: a component, its length and the position behind it; or the position behind the path's end.
+pub data Step : Type 0 where
+  component : (len position : ℕ) → Step
+  end-of-path : (position : ℕ) → Step
 
-unfoldable pub componentRead : Figures → ℕ → List ℕ → ComponentRead
+-- What each case of a step says: its number and its values; and the whole answer, with the component's bytes.
+unfoldable pub nextSays : Next → Said Step
+nextSays (next.Component len n) = says (component len n)
+nextSays (next.PathEnd n) = says (end-of-path n)
+nextSays (next.Refused k) = refuses k
+
+pub record StepRead : Type 0 where
+  pub next : Said Step
+  pub bytes : List ℕ
+
+unfoldable pub componentSays : ComponentRead → StepRead
+componentSays c = record { next = nextSays (c .next); bytes = c .bytes }
+
+-- The next component and the position behind it, or the path's end. Refused, the bytes are 0.
+unfoldable pub nextComponent : ℕ → Taken Component → StepRead
+nextComponent at refused = record { next = refuses noKey; bytes = replicate (field .mcl) 0 }
+nextComponent at (took c u) = record { next = says (component (length c) (at + u)); bytes = c ++ replicate (field .mcl - length c) 0 }
+
+unfoldable pub componentRead : Figures → ℕ → List ℕ → StepRead
 componentRead f at k =
-    cond (endsPath (tokenOf k)) (record { next = next.PathEnd (at + 2); bytes = replicate (field .mcl) 0 })
+    cond (endsPath (tokenOf k)) (record { next = says (end-of-path (at + 2)); bytes = replicate (field .mcl) 0 })
     (nextComponent at (readComponent (f .mcl) k))
 
 -- For the inner functions: how many elements were read and how many bytes they took; the buffer is filled with them from the front,

@@ -6,6 +6,7 @@ use lib.ListN.{length}
 use lib.Dec.{leb}
 use Rattle.laws.specs.Lists.{put}
 use Rattle.data_model.specs.Path.{Figures, Component, Components}
+use Rattle.data_model.specs.Said.{Said, refuses, says}
 use Rattle.data_model.specs.Refusal.{shortBuffer, illegalPath}
 use Rattle.data_model.specs.declared.parameters.Subspace.{Subspace}
 use Rattle.keys.specs.declared.encode.Encoded.{Encoded}
@@ -62,11 +63,16 @@ pathKeyMost f = 2 * f .mpl + 2 * f .mcc + 2
 abbrev pub keyMost : Figures → ℕ
 keyMost f = 16 + pathKeyMost f + 8
 
+-- What each case of an encoder's answer says: its number, and how many bytes were written.
+unfoldable pub encodedSays : Encoded → Said ℕ
+encodedSays (Written n) = says n
+encodedSays (Refused n) = refuses n
+
 -- The answer and the buffer: 2 for a buffer that some key would not fit, then 4 for an illegal path; a refusal changes nothing.
-unfoldable pub encoded : (room legal : Bool) → List ℕ → Encoded
-encoded false legal key = Refused shortBuffer
-encoded true false key = Refused illegalPath
-encoded true true key = Written (length key)
+unfoldable pub encoded : (room legal : Bool) → List ℕ → Said ℕ
+encoded false legal key = refuses shortBuffer
+encoded true false key = refuses illegalPath
+encoded true true key = says (length key)
 
 unfoldable pub encodedIn : (room legal : Bool) → List ℕ → List ℕ → List ℕ
 encodedIn false legal key old = old

@@ -15,7 +15,7 @@ ghost use Prim.Native.Nat.{_≤_, min};
 ghost use lib.ListN.{length, drop};
 ghost use Rattle.data_model.specs.Path.{field, sameComponent, joined, endsFrom};
 ghost use Rattle.keys.specs.Encode.{escaped};
-ghost use Rattle.keys.specs.Decode.{tokenOf, endsPath, readComponent, readComponents, readPath, partOf, Filled, refused, componentRead, pathRead, readSpt, readTsp, decoded};
+ghost use Rattle.keys.specs.Decode.{tokenSays, tokenOf, endsPath, readComponent, readComponents, readPath, partOf, Filled, refused, componentSays, componentRead, pathRead, readSpt, readTsp, decoded};
 
 // What stands at a position of a path's bytes.
 pub enum Token {
@@ -71,7 +71,7 @@ fn same_mark(a: [u8; 2], b: [u8; 2]) -> bool
 
 // Past the end of the key stands nothing: 5.
 pub fn token_at(key: &[u8], at: usize) -> Token
-    ensures { λ r. ⌜ r ≡ tokenOf (drop at (now (key .entry))) ⌝ }
+    ensures { λ r. ⌜ tokenSays r ≡ tokenOf (drop at (now (key .entry))) ⌝ }
 {
     if key.len() <= at {
         return Token::Refused(NO_KEY);
@@ -187,7 +187,7 @@ fn decode_components(k: &[u8], mcl: usize, bytes: &mut [u8], ends: &mut [usize])
 // What comes next in a path that is read at a position. A component's own length is judged; how many components and bytes a path
 // may have is `decode_path`'s to judge.
 pub fn component_bytes(key: &[u8], at: usize) -> ComponentRead
-    ensures { λ r. ⌜ r ≡ componentRead field at (drop at (now (key .entry))) ⌝ }
+    ensures { λ r. ⌜ componentSays r ≡ componentRead field at (drop at (now (key .entry))) ⌝ }
 {
     if key.len() < at {
         return ComponentRead {

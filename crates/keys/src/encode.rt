@@ -13,7 +13,7 @@ ghost use Prim.Native.Nat.{_+_, _*_, _≤_};
 ghost use lib.ListN.{length};
 ghost use Rattle.laws.specs.Lists.{put};
 ghost use Rattle.data_model.specs.Path.{field, cut, components, legal, legalEnds};
-ghost use Rattle.keys.specs.Encode.{escaped, componentKey, pathKey, triple, sptKey, tspKey, pathKeyMost, keyMost, roomy, encoded, encodedIn};
+ghost use Rattle.keys.specs.Encode.{escaped, componentKey, pathKey, triple, sptKey, tspKey, pathKeyMost, keyMost, roomy, encodedSays, encoded, encodedIn};
 
 // A component ends 00 01, a path 00 00, and a component's byte 00 is written 00 02.
 pub const COMPONENT_END: [u8; 2] = [0, 1];
@@ -121,7 +121,7 @@ pub fn encode_spt_entry_key(
     timestamp: u64,
     out: &mut [u8],
 ) -> Encoded
-    ensures { λ r. ⌜ r ≡ encoded (roomy field (now (out .entry))) (legal field path) (sptKey (triple subspace (components path) timestamp)) ⌝ }
+    ensures { λ r. ⌜ encodedSays r ≡ encoded (roomy field (now (out .entry))) (legal field path) (sptKey (triple subspace (components path) timestamp)) ⌝ }
     ensures { λ r. ⌜ now (out .exit) ≡ encodedIn (roomy field (now (out .entry))) (legal field path) (sptKey (triple subspace (components path) timestamp)) (now (out .entry)) ⌝ }
 {
     if out.len() < KEY_MOST {
@@ -140,7 +140,7 @@ pub fn encode_tsp_entry_key(
     timestamp: u64,
     out: &mut [u8],
 ) -> Encoded
-    ensures { λ r. ⌜ r ≡ encoded (roomy field (now (out .entry))) (legal field path) (tspKey (triple subspace (components path) timestamp)) ⌝ }
+    ensures { λ r. ⌜ encodedSays r ≡ encoded (roomy field (now (out .entry))) (legal field path) (tspKey (triple subspace (components path) timestamp)) ⌝ }
     ensures { λ r. ⌜ now (out .exit) ≡ encodedIn (roomy field (now (out .entry))) (legal field path) (tspKey (triple subspace (components path) timestamp)) (now (out .entry)) ⌝ }
 {
     if out.len() < KEY_MOST {

@@ -3,6 +3,7 @@ use Prim.Native.Nat.{ℕ, _+_, _-_, _*_, _≤_, _<_}
 use mathlib.Core.Path.{_≡_, refl, sym, ap, subst, _∙_}
 use mathlib.Core.List.{List, [], _∷_, _++_, append-assoc}
 use mathlib.Core.Bool.{Bool, true}
+use mathlib.Core.Option.{Option, some}
 use native.Mathlib.Omega.{arith}
 use lib.ListN.{length, drop, length-append}
 use lib.Seq.{drop-at, drop-drop}
@@ -15,6 +16,7 @@ use Rattle.laws.specs.Prefix.{prefixOf}
 use Rattle.laws.specs.Sorted.{all, keep}
 use Rattle.laws.proofs.Truth.{split}
 use Rattle.laws.proofs.Lists.{Wrote, wrote-first, wrote-lent, wrote-length, wrote-all}
+use Rattle.data_model.specs.Said.{Said, says}
 use Rattle.data_model.specs.Path.{field, legal, joined, isPath, pathOf}
 use Rattle.data_model.specs.Range.{timesInclude, includes, beforeEnd, timesEnd}
 use Rattle.data_model.specs.Area.{areaSubspace, areaIncludes}
@@ -33,8 +35,6 @@ use Rattle.query.specs.Listing.{areaListed, areaPart}
 use Rattle.query.specs.Count.{counted, areaCounted}
 use Rattle.query.specs.Walk.{Walks, matching}
 use Rattle.query.specs.declared.answer.Counted.{Counted}
-use Rattle.query.specs.declared.answer.Listed.{Listed}
-use Rattle.query.specs.declared.answer.Listed.the-variants.{Match}
 use Rattle.query.proofs.Tested.{read-tested, formed-spt}
 use Rattle.query.proofs.NextLaws.{unflagged-area}
 use Rattle.query.proofs.Walked.{area-lists, area-counts}
@@ -118,28 +118,28 @@ module _ (s : Store) where
           ∙ ap (λ (x : List ℕ). numbered listWord (length (held field Spt s)) ++ x) (record-lines (s .state .«namespace_id») recs ∙ ap entryLines all-held)
 
 -- How far the list is written: the records left are as many as are still to come, and walked from the place.
-pub record Listing (places : ℕ → Listed) (parts : ℕ → List ℕ) (whole old out : List ℕ) (place at left : ℕ) : Type 0 where
+pub record Listing (places : ℕ → Said (Option ℕ)) (parts : ℕ → List ℕ) (whole old out : List ℕ) (place at left : ℕ) : Type 0 where
   pub rs : List (List ℕ)
   pub walks : Walks places parts place rs
   pub many : length rs ≡ left
   pub wrote : Wrote whole (recordLines rs) old out at
 
-module _ (places : ℕ → Listed) (parts : ℕ → List ℕ) where
-  walked-next : (place : ℕ) (rs : List (List ℕ)) → Walks places parts place rs → 0 < length rs → (k : ℕ) × (places place ≡ Match k)
+module _ (places : ℕ → Said (Option ℕ)) (parts : ℕ → List ℕ) where
+  walked-next : (place : ℕ) (rs : List (List ℕ)) → Walks places parts place rs → 0 < length rs → (k : ℕ) × (places place ≡ says (some k))
   walked-next place [] w h = absurd (omega arith)
   walked-next place (r ∷ rs) w h = (w .0, w .1)
 
   module _ (whole old out : List ℕ) (place at left : ℕ) where
     -- There is a next one as long as some are left.
-    pub listing-next : Listing places parts whole old out place at left → 0 < left → (k : ℕ) × (places place ≡ Match k)
+    pub listing-next : Listing places parts whole old out place at left → 0 < left → (k : ℕ) × (places place ≡ says (some k))
     listing-next g h = walked-next place (g .rs) (g .walks) (omega (arith, g .many))
 
     turn : (rs : List (List ℕ)) → Walks places parts place rs → length rs ≡ left → Wrote whole (recordLines rs) old out at → at + entryLineMost * left ≤ length out → 0 < left
-        → (k : ℕ) → places place ≡ Match k → (rec : List ℕ) → rec ≡ parts place → (n : ℕ) (last : List ℕ) → n ≡ length (lineOf rec) → n ≤ entryLineMost
+        → (k : ℕ) → places place ≡ says (some k) → (rec : List ℕ) → rec ≡ parts place → (n : ℕ) (last : List ℕ) → n ≡ length (lineOf rec) → n ≤ entryLineMost
         → last ≡ put (lineOf rec) (midOf at (length out - at) out) → Listing places parts whole old (putMid at (length out - at) out last) (k + 1) (at + n) (left - 1)
     turn [] w m wr room h k e rec er n last en most l = absurd (omega arith)
     turn (r ∷ rs) w m wr room h k e rec er n last en most l =
-        let q : Match (w .0) ≡ Match k = sym (w .1) ∙ e in
+        let q : says (some (w .0)) ≡ says (some k) = sym (w .1) ∙ e in
         let g : w .0 ≡ k = cc in
         let x : rec ≡ r = er ∙ w .2 in
         let next = wrote-lent whole (lineOf r) (recordLines rs) old out last at n wr (omega arith) (en ∙ ap (λ (y : List ℕ). length (lineOf y)) x) (l ∙ ap (λ (y : List ℕ). put (lineOf y) (midOf at (length out - at) out)) x) in
@@ -151,7 +151,7 @@ module _ (places : ℕ → Listed) (parts : ℕ → List ℕ) where
         }
 
     pub listing-turn : Listing places parts whole old out place at left → at + entryLineMost * left ≤ length out → 0 < left
-        → (k : ℕ) → places place ≡ Match k → (rec : List ℕ) → rec ≡ parts place → (n : ℕ) (last : List ℕ) → n ≡ length (lineOf rec) → n ≤ entryLineMost
+        → (k : ℕ) → places place ≡ says (some k) → (rec : List ℕ) → rec ≡ parts place → (n : ℕ) (last : List ℕ) → n ≡ length (lineOf rec) → n ≤ entryLineMost
         → last ≡ put (lineOf rec) (midOf at (length out - at) out) → Listing places parts whole old (putMid at (length out - at) out last) (k + 1) (at + n) (left - 1)
     listing-turn g r h = turn (g .rs) (g .walks) (g .many) (g .wrote) r h
 

@@ -4,14 +4,13 @@ use mathlib.Core.Path.{_≡_}
 use mathlib.Core.List.{List, [], _∷_}
 use mathlib.Core.Bool.{false}
 use lib.ListN.{replicate}
+use Rattle.data_model.specs.Said.{Said, refuses, says}
 use Rattle.data_model.specs.Path.{Figures}
 use Rattle.data_model.specs.Refusal.{illegalPath}
 use Rattle.data_model.specs.declared.entry.Entry.{Entry as EntryValue}
 use Rattle.store.specs.Store.{Store, storeOf}
-use Rattle.store.specs.Ingest.{IngestOutcome, ingested}
+use Rattle.store.specs.Ingest.{Verdict, succeeds, is-obsolete, IngestOutcome, ingested}
 use Rattle.store.specs.declared.state.State.{State}
-use Rattle.store.specs.declared.ingest.IngestVerdict.{IngestVerdict}
-use Rattle.store.specs.declared.ingest.IngestVerdict.the-variants as verdict
 use Rattle.text.specs.EntryLine.{lineRead}
 use Rattle.text.specs.declared.path.Outcome.{Outcome}
 use Rattle.text.specs.declared.path.Outcome.the-variants as outcome
@@ -32,10 +31,10 @@ entryOfLine e = record {
 }
 
 -- `ok`, `obsolete`, or `refused` and the number.
-unfoldable pub answerOf : IngestVerdict → Answer
-answerOf (verdict.Success n) = answer.Ok
-answerOf verdict.Obsolete = answer.Obsolete
-answerOf (verdict.Refused n) = answer.Refused n
+unfoldable pub answerOf : Said Verdict → Answer
+answerOf (says (succeeds n)) = answer.Ok
+answerOf (says is-obsolete) = answer.Obsolete
+answerOf (refuses n) = answer.Refused n
 
 -- The answer to a line that says no entry.
 unfoldable pub answerWithout : Outcome → Answer

@@ -11,6 +11,7 @@ use text::path::Outcome;
 ghost use mathlib.Core.Path.{_≡_};
 ghost use Rattle.data_model.specs.Path.{field};
 ghost use Rattle.store.specs.Store.{storeOf};
+ghost use Rattle.store.specs.Ingest.{verdictSays};
 ghost use Rattle.listing.specs.Carry.{entryOfLine, answerOf, answerWithout, lineOutcome, lineCarried};
 
 pub enum Answer {
@@ -51,7 +52,7 @@ fn entry_of(e: EntryLine) -> Entry
 }
 
 fn answer_of(verdict: IngestVerdict) -> Answer
-    ensures { λ r. ⌜ r ≡ answerOf verdict ⌝ }
+    ensures { λ r. ⌜ r ≡ answerOf (verdictSays verdict) ⌝ }
 {
     match verdict {
         IngestVerdict::Success(_) => Answer::Ok,

@@ -14,6 +14,7 @@ use Rattle.laws.specs.Sorted.{keep}
 use Rattle.laws.proofs.Truth.{split}
 use Rattle.layout.specs.Marks.{marksOf}
 use Rattle.layout.proofs.MarkLaws.{length-marks, count-marks, length-marked}
+use Rattle.data_model.specs.Said.{says}
 use Rattle.data_model.specs.Path.{field}
 use Rattle.data_model.specs.Entry.{entryOf}
 use Rattle.data_model.specs.declared.entry.Entry.{Entry as EntryValue}
@@ -22,9 +23,7 @@ use Rattle.tree.specs.declared.stored.KeyOrder.the-variants.{Spt}
 use Rattle.tree.proofs.FormedContents.{formed-many}
 use Rattle.store.specs.Store.{Store, limitMost, dirRoom, dirOf, held}
 use Rattle.store.specs.Refusal.{unless, _orElse_, limitOk, storeRefusal}
-use Rattle.store.specs.Ingest.{Decision, refuse, obsolete, take-it, ingestRefusal, judged, MayFile, IngestOutcome, ingestOutcome, prunedPairs, carried, ingested}
-use Rattle.store.specs.declared.ingest.IngestVerdict.the-variants as verdict
-use Rattle.store.specs.declared.ingest.Ingested.{Ingested}
+use Rattle.store.specs.Ingest.{succeeds, IngestSaid, Decision, refuse, obsolete, take-it, ingestRefusal, judged, MayFile, IngestOutcome, ingestOutcome, prunedPairs, carried, ingested}
 use Rattle.store.proofs.CheckLaws.{limit-most}
 use Rattle.store.proofs.IngestLaws.{Ready}
 use Rattle.store.proofs.FileLaws.{may-ready, success-may}
@@ -41,7 +40,7 @@ zeros-front (suc i) zero g = absurd (let y : suc i ≤ 0 = g in omega arith)
 zeros-front (suc i) (suc j) g = ap (0 ∷_) (zeros-front i j (omega arith))
 
 -- The front of an array of zeros that the core was lent, and is back.
-pub with-front : (r : Ingested) (a b c d part : List ℕ) (n m : ℕ) (s : Store) (e : EntryValue) (token : List ℕ) (prevent : Bool)
+pub with-front : (r : IngestSaid) (a b c d part : List ℕ) (n m : ℕ) (s : Store) (e : EntryValue) (token : List ℕ) (prevent : Bool)
     → n ≡ m → n ≤ 2 * limitMost → length part ≡ length (take n (zeros 2048))
     → ingestOutcome r a b c d part ≡ ingested field s (take n (zeros 2048)) e token prevent
     → ingestOutcome r a b c d (take m (part ++ drop n (zeros 2048))) ≡ ingested field s (zeros m) e token prevent
@@ -105,11 +104,11 @@ module _ (s : Store) (prune : List ℕ) (e : EntryValue) (may : MayFile field s 
       omega (arith, holds)
 
 -- The outcome with pairs, and that the pairs have room for what is counted.
-pub record Layered (s : Store) (ps : List Pair) (e : EntryValue) (token : List ℕ) (prevent : Bool) (r : Ingested) (a b c d ns : List ℕ) (n : ℕ) : Type 0 where
+pub record Layered (s : Store) (ps : List Pair) (e : EntryValue) (token : List ℕ) (prevent : Bool) (r : IngestSaid) (a b c d ns : List ℕ) (n : ℕ) : Type 0 where
   pub few : 2 * n ≤ numbersUsed (length ps)
   pub done : (w : List Pair) → w ≡ put (pairsOf (take (2 * n) ns)) ps → pairsOutcome r a b c d w ≡ pairsIngested field s ps e token prevent
 
-module _ (s : Store) (ps : List Pair) (e : EntryValue) (token : List ℕ) (prevent : Bool) (r : Ingested) (a b c d ns : List ℕ) (n : ℕ)
+module _ (s : Store) (ps : List Pair) (e : EntryValue) (token : List ℕ) (prevent : Bool) (r : IngestSaid) (a b c d ns : List ℕ) (n : ℕ)
     (eq : ingestOutcome r a b c d (take (numbersUsed (length ps)) ns) ≡ ingested field s (zeros (numbersUsed (length ps))) e token prevent) (en : n ≡ prunedCount (r .verdict)) where
   abbrev own : List ℕ
   own = zeros (numbersUsed (length ps))
@@ -153,7 +152,7 @@ module _ (s : Store) (ps : List Pair) (e : EntryValue) (token : List ℕ) (preve
       let m = removedBy s e in
       let pruned = prunedPairs field s (entryOf e) in
       let q : ingestOutcome r a b c d (take (numbersUsed (length ps)) ns) ≡ carried field s own (entryOf e) token take-it = eq ∙ ap (carried field s own (entryOf e) token) j in
-      let v : r .verdict ≡ verdict.Success m = ap (λ (x : IngestOutcome). x .answer .verdict) q in
+      let v : r .verdict ≡ says (succeeds m) = ap (λ (x : IngestOutcome). x .answer .verdict) q in
       let z : n ≡ m = en ∙ ap prunedCount v in
       let may = success-may s own e token prevent r (ap (λ (x : IngestOutcome). x .answer) eq) m v in
       let l = pruned-length s own e may in

@@ -13,6 +13,7 @@ use Rattle.laws.specs.Lists.{put}
 use Rattle.laws.specs.Prefix.{sameNumber, sameList}
 use Rattle.laws.specs.Sorted.{any, keep}
 use Rattle.laws.proofs.Truth.{split}
+use Rattle.data_model.specs.Said.{refuses, says, numberOf}
 use Rattle.data_model.specs.Path.{field, legal}
 use Rattle.data_model.specs.Entry.{Entry, entryOf}
 use Rattle.data_model.specs.Refusal.{shortBuffer, illegalPath}
@@ -22,28 +23,20 @@ use Rattle.tree.specs.Matching.{outdates, removes}
 use Rattle.tree.specs.declared.stored.KeyOrder.the-variants.{Spt}
 use Rattle.store.specs.Store.{Store, dirRoom, held, wellFormedStore}
 use Rattle.store.specs.Refusal.{badLimit, notWellFormed, otherNamespace, pruningPrevented, full, unless, _orElse_, limitOk, roomy, storeRefusal}
-use Rattle.store.specs.Ingest.{Decision, refuse, obsolete, take-it, stays, firstThat, decidedOf, decided, ingestRefusal, judged, MayFile, prunedPairs, plainAnswer, carried, ingested}
-use Rattle.store.specs.declared.ingest.IngestVerdict.{IngestVerdict}
-use Rattle.store.specs.declared.ingest.IngestVerdict.the-variants as verdict
+use Rattle.store.specs.Ingest.{succeeds, Decision, refuse, obsolete, take-it, stays, firstThat, decidedOf, decided, ingestRefusal, judged, MayFile, prunedPairs, plainAnswer, carried, ingested}
 use Rattle.store.proofs.FileLaws.{success-may}
 use Rattle.pairs.specs.Pairs.{pairsOf, numbersOf, pairsIngested}
 use Rattle.pairs.specs.declared.Pair.{Pair}
 use Rattle.pairs.proofs.PairLaws.{pairs-again, length-numbers, pairs-put, length-pairs}
 use Rattle.pairs.proofs.OutcomeLaws.{removedBy, pruned-length}
 
--- The number of a refusal, 0 for what is none.
-abbrev numberIn : IngestVerdict → ℕ
-numberIn (verdict.Success n) = 0
-numberIn verdict.Obsolete = 0
-numberIn (verdict.Refused n) = n
-
 abbrev refusalIn : Decision → ℕ
 refusalIn (refuse n) = n
 refusalIn (obsolete x) = 0
 refusalIn take-it = 0
 
-carried-number : (s : Store) (prune : List ℕ) (e : Entry) (token : List ℕ) (d : Decision) → numberIn (carried field s prune e token d .answer .verdict) ≡ refusalIn d
-unfolding carried
+carried-number : (s : Store) (prune : List ℕ) (e : Entry) (token : List ℕ) (d : Decision) → numberOf (carried field s prune e token d .answer .verdict) ≡ refusalIn d
+unfolding numberOf carried
 carried-number s prune e token (refuse n) = refl
 carried-number s prune e token (obsolete x) = refl
 carried-number s prune e token take-it = refl
@@ -69,12 +62,12 @@ module _ (s : Store) (ps : List Pair) (e : EntryValue) (token : List ℕ) (preve
   abbrev pruned : List Pair
   pruned = pairsOf (prunedPairs field s (entryOf e))
 
-  pub success-writes : (n : ℕ) → pairsIngested field s ps e token prevent .answer .verdict ≡ verdict.Success n
+  pub success-writes : (n : ℕ) → pairsIngested field s ps e token prevent .answer .verdict ≡ says (succeeds n)
       → (pairsIngested field s ps e token prevent .pairs ≡ put pruned ps) × (length pruned ≡ n)
   unfolding pairsIngested ingested
   success-writes n q = go (judged field s (numbersOf ps) e prevent) q (success-may s (numbersOf ps) e token prevent (ingested field s (numbersOf ps) e token prevent .answer) refl n q)
     where
-      go : (d : Decision) → carried field s (numbersOf ps) (entryOf e) token d .answer .verdict ≡ verdict.Success n → MayFile field s (numbersOf ps) e
+      go : (d : Decision) → carried field s (numbersOf ps) (entryOf e) token d .answer .verdict ≡ says (succeeds n) → MayFile field s (numbersOf ps) e
           → (pairsOf (carried field s (numbersOf ps) (entryOf e) token d .prune) ≡ put pruned ps) × (length pruned ≡ n)
       go (refuse k) h may = unfold carried in absurd (let z : _≡_ {A = ℕ} 0 1 = cc in omega arith)
       go (obsolete x) h may = unfold carried in absurd (let z : _≡_ {A = ℕ} 0 1 = cc in omega arith)
@@ -83,11 +76,11 @@ module _ (s : Store) (ps : List Pair) (e : EntryValue) (token : List ℕ) (preve
         length-pairs (removedBy s e) (prunedPairs field s (entryOf e)) (pruned-length s (numbersOf ps) e may) ∙ cc,
       )
 
-  pub others-write-none : ((n : ℕ) → pairsIngested field s ps e token prevent .answer .verdict ≡ verdict.Success n → ⊥) → pairsIngested field s ps e token prevent .pairs ≡ ps
+  pub others-write-none : ((n : ℕ) → pairsIngested field s ps e token prevent .answer .verdict ≡ says (succeeds n) → ⊥) → pairsIngested field s ps e token prevent .pairs ≡ ps
   unfolding pairsIngested ingested
   others-write-none h = go (judged field s (numbersOf ps) e prevent) h
     where
-      go : (d : Decision) → ((n : ℕ) → carried field s (numbersOf ps) (entryOf e) token d .answer .verdict ≡ verdict.Success n → ⊥) → pairsOf (carried field s (numbersOf ps) (entryOf e) token d .prune) ≡ ps
+      go : (d : Decision) → ((n : ℕ) → carried field s (numbersOf ps) (entryOf e) token d .answer .verdict ≡ says (succeeds n) → ⊥) → pairsOf (carried field s (numbersOf ps) (entryOf e) token d .prune) ≡ ps
       go (refuse k) g = unfold carried in pairs-again ps
       go (obsolete x) g = unfold carried in pairs-again ps
       go take-it g = unfold carried in absurd (g (removedBy s e) refl)
@@ -102,7 +95,7 @@ module _ (s : Store) (ps : List Pair) (e : EntryValue) (token : List ℕ) (preve
   same-store = refl
 
   -- 2 comes behind 1: the limit is one of 1 to 1,024.
-  pub short-refused : limitOk (s .state .limit) ≡ true → length ps < s .state .limit → pairsIngested field s ps e token prevent .answer ≡ plainAnswer (verdict.Refused shortBuffer) (s .state)
+  pub short-refused : limitOk (s .state .limit) ≡ true → length ps < s .state .limit → pairsIngested field s ps e token prevent .answer ≡ plainAnswer (refuses shortBuffer) (s .state)
   unfolding pairsIngested ingested judged carried ingestRefusal storeRefusal unless _orElse_
   short-refused l h =
       let z = lt-leb (dirRoom (s .state .limit)) (length (numbersOf ps)) (omega (arith, length-numbers ps)) in
@@ -131,6 +124,6 @@ module _ (s : Store) (ps : List Pair) (e : EntryValue) (token : List ℕ) (preve
         (λ t. refusal-not-2 (ap (λ (b : Bool). refusalIn (cond b d (refuse r))) (sym t) ∙ z))
 
     -- And 2 is no answer where the store's own buffers have room and the pairs number the limit at least.
-    pub room-not-refused : pairsIngested field s ps e token prevent .answer .verdict ≡ verdict.Refused shortBuffer → ⊥
-    unfolding pairsIngested ingested
-    room-not-refused v = judged-not-2 (sym (carried-number s (numbersOf ps) (entryOf e) token (judged field s (numbersOf ps) e prevent)) ∙ ap numberIn v)
+    pub room-not-refused : pairsIngested field s ps e token prevent .answer .verdict ≡ refuses shortBuffer → ⊥
+    unfolding numberOf pairsIngested ingested
+    room-not-refused v = judged-not-2 (sym (carried-number s (numbersOf ps) (entryOf e) token (judged field s (numbersOf ps) e prevent)) ∙ ap numberOf v)

@@ -3,13 +3,11 @@
 use Prim.Native.Nat.{ℕ, _*_, min}
 use mathlib.Core.List.{List, [], _∷_}
 use mathlib.Core.Bool.{Bool}
+use Rattle.data_model.specs.Said.{Said, refuses, says}
 use Rattle.data_model.specs.Path.{Figures}
 use Rattle.data_model.specs.declared.entry.Entry.{Entry as EntryValue}
 use Rattle.store.specs.Store.{Store, storeOf, limitMost}
-use Rattle.store.specs.Ingest.{IngestOutcome, ingested}
-use Rattle.store.specs.declared.ingest.IngestVerdict.{IngestVerdict}
-use Rattle.store.specs.declared.ingest.IngestVerdict.the-variants as verdict
-use Rattle.store.specs.declared.ingest.Ingested.{Ingested}
+use Rattle.store.specs.Ingest.{Verdict, succeeds, is-obsolete, IngestSaid, IngestOutcome, ingested}
 use Rattle.pairs.specs.declared.Pair.{Pair}
 
 abbrev pub pair : ℕ → ℕ → Pair
@@ -26,10 +24,10 @@ numbersOf [] = []
 numbersOf (p ∷ ps) = p .offset ∷ p .length ∷ numbersOf ps
 
 -- How many pairs a verdict counts.
-abbrev pub prunedCount : IngestVerdict → ℕ
-prunedCount (verdict.Success n) = n
-prunedCount verdict.Obsolete = 0
-prunedCount (verdict.Refused n) = 0
+abbrev pub prunedCount : Said Verdict → ℕ
+prunedCount (says (succeeds n)) = n
+prunedCount (says is-obsolete) = 0
+prunedCount (refuses n) = 0
 
 -- How many numbers so many pairs are, as far as an entry may need them.
 unfoldable pub numbersUsed : (pairs : ℕ) → ℕ
@@ -37,11 +35,11 @@ numbersUsed n = 2 * min n limitMost
 
 -- The answer, the store and the pairs afterwards.
 pub record PairsOutcome : Type 0 where
-  pub answer : Ingested
+  pub answer : IngestSaid
   pub store : Store
   pub pairs : List Pair
 
-abbrev pub pairsOutcome : Ingested → List ℕ → List ℕ → List ℕ → List ℕ → List Pair → PairsOutcome
+abbrev pub pairsOutcome : IngestSaid → List ℕ → List ℕ → List ℕ → List ℕ → List Pair → PairsOutcome
 pairsOutcome r a b c d pairs = record { answer = r; store = storeOf (r .state) a b c d; pairs = pairs }
 
 -- The core's outcome, with pairs in place of numbers.

@@ -12,7 +12,7 @@ ghost use lib.ListN.{length, take, replicate};
 ghost use Rattle.laws.specs.Lists.{put};
 ghost use Rattle.data_model.specs.Path.{field};
 ghost use Rattle.store.specs.Store.{limitMost, storeOf};
-ghost use Rattle.store.specs.Ingest.{ingestOutcome, ingested};
+ghost use Rattle.store.specs.Ingest.{verdictSays, ingestedSays, ingestOutcome, ingested};
 ghost use Rattle.pairs.specs.Pairs.{pairsOf, numbersOf, prunedCount, numbersUsed, pairsOutcome, pairsIngested};
 
 // Offset and length of a record.
@@ -33,7 +33,7 @@ pub struct NumbersIngested {
 }
 
 fn pruned_count(verdict: IngestVerdict) -> usize
-    ensures { λ n. ⌜ n ≡ prunedCount verdict ⌝ }
+    ensures { λ n. ⌜ n ≡ prunedCount (verdictSays verdict) ⌝ }
 {
     match verdict {
         IngestVerdict::Success(n) => n,
@@ -64,7 +64,7 @@ pub fn ingest_with_room(
     token: [u8; 64],
     prevent_pruning: bool,
 ) -> NumbersIngested
-    ensures { λ r. ⌜ (ingestOutcome (r .ingested) (now (spt .exit)) (now («spt_dir» .exit)) (now (tsp .exit)) (now («tsp_dir» .exit)) (take (numbersUsed room) (r .numbers)) ≡ ingested field (storeOf state (now (spt .entry)) (now («spt_dir» .entry)) (now (tsp .entry)) (now («tsp_dir» .entry))) (replicate (numbersUsed room) 0) entry token «prevent_pruning») × (r .count ≡ prunedCount (r .ingested .verdict)) ⌝ }
+    ensures { λ r. ⌜ (ingestOutcome (ingestedSays (r .ingested)) (now (spt .exit)) (now («spt_dir» .exit)) (now (tsp .exit)) (now («tsp_dir» .exit)) (take (numbersUsed room) (r .numbers)) ≡ ingested field (storeOf state (now (spt .entry)) (now («spt_dir» .entry)) (now (tsp .entry)) (now («tsp_dir» .entry))) (replicate (numbersUsed room) 0) entry token «prevent_pruning») × (r .count ≡ prunedCount (verdictSays (r .ingested .verdict))) ⌝ }
 {
     let mut numbers = [0u32; NUMBERS_MOST];
     let n = numbers_used(room);
@@ -90,7 +90,7 @@ pub fn ingest_with_room(
 
 // An answer, its count, and the numbers of its pairs.
 fn in_numbers(ingested: Ingested, pairs: [Pair; LIMIT_MOST]) -> NumbersIngested
-    ensures { λ r. ⌜ (r .ingested ≡ ingested) × (r .numbers ≡ numbersOf pairs) × (r .count ≡ prunedCount (r .ingested .verdict)) ⌝ }
+    ensures { λ r. ⌜ (r .ingested ≡ ingested) × (r .numbers ≡ numbersOf pairs) × (r .count ≡ prunedCount (verdictSays (r .ingested .verdict))) ⌝ }
 {
     let mut numbers = [0u32; NUMBERS_MOST];
     let mut k = 0;
@@ -135,7 +135,7 @@ pub fn ingest_entry(
     token: [u8; 64],
     prevent_pruning: bool,
 ) -> Ingested
-    ensures { λ r. ⌜ pairsOutcome r (now (spt .exit)) (now («spt_dir» .exit)) (now (tsp .exit)) (now («tsp_dir» .exit)) (now (pairs .exit)) ≡ pairsIngested field (storeOf state (now (spt .entry)) (now («spt_dir» .entry)) (now (tsp .entry)) (now («tsp_dir» .entry))) (now (pairs .entry)) entry token «prevent_pruning» ⌝ }
+    ensures { λ r. ⌜ pairsOutcome (ingestedSays r) (now (spt .exit)) (now («spt_dir» .exit)) (now (tsp .exit)) (now («tsp_dir» .exit)) (now (pairs .exit)) ≡ pairsIngested field (storeOf state (now (spt .entry)) (now («spt_dir» .entry)) (now (tsp .entry)) (now («tsp_dir» .entry))) (now (pairs .entry)) entry token «prevent_pruning» ⌝ }
 {
     let r = ingest_with_room(
         state,
@@ -164,7 +164,7 @@ pub fn ingest_entry_by_value(
     token: [u8; 64],
     prevent_pruning: bool,
 ) -> NumbersIngested
-    ensures { λ r. ⌜ (pairsOutcome (r .ingested) (now (spt .exit)) (now («spt_dir» .exit)) (now (tsp .exit)) (now («tsp_dir» .exit)) (pairsOf (r .numbers)) ≡ pairsIngested field (storeOf state (now (spt .entry)) (now («spt_dir» .entry)) (now (tsp .entry)) (now («tsp_dir» .entry))) pairs entry token «prevent_pruning») × (r .count ≡ prunedCount (r .ingested .verdict)) ⌝ }
+    ensures { λ r. ⌜ (pairsOutcome (ingestedSays (r .ingested)) (now (spt .exit)) (now («spt_dir» .exit)) (now (tsp .exit)) (now («tsp_dir» .exit)) (pairsOf (r .numbers)) ≡ pairsIngested field (storeOf state (now (spt .entry)) (now («spt_dir» .entry)) (now (tsp .entry)) (now («tsp_dir» .entry))) pairs entry token «prevent_pruning») × (r .count ≡ prunedCount (verdictSays (r .ingested .verdict))) ⌝ }
 {
     let mut lent = pairs;
     let ingested = ingest_entry(

@@ -1,3 +1,4 @@
+pub mod SaysOnce
 mod PartLaws
 pub mod RowLaws
 mod RangeBack

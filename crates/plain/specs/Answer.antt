@@ -1,21 +1,14 @@
--- Answers in plain values: for each case of an enum its number, which is the refusal's or 0, and its values; what a case does not have is 0.
+-- Answers in plain values: their number, which is the refusal's or 0, and their values; what an answer does not have is 0.
 use Prim.Native.Nat.{ℕ}
 use mathlib.Core.Bool.{Bool, true, false}
-use Rattle.data_model.specs.declared.answer.Answer.{Answer}
-use Rattle.data_model.specs.declared.answer.Answer.the-variants as answer
-use Rattle.data_model.specs.declared.answer.Compared.{Compared}
-use Rattle.data_model.specs.declared.answer.Compared.the-variants as compared
-use Rattle.keys.specs.declared.encode.Encoded.{Encoded}
-use Rattle.keys.specs.declared.encode.Encoded.the-variants as encoded
-use Rattle.keys.specs.declared.decode.Next.{Next}
-use Rattle.keys.specs.declared.decode.Next.the-variants as next
-use Rattle.key_reader.specs.declared.Stepped.{Stepped}
-use Rattle.store.specs.declared.ingest.IngestVerdict.{IngestVerdict}
-use Rattle.store.specs.declared.ingest.IngestVerdict.the-variants as verdict
-use Rattle.store.specs.declared.ingest.Ingested.{Ingested}
+use mathlib.Core.Option.{Option, some, none}
+use Rattle.laws.specs.Order.{Order, isLess, isGreater}
+use Rattle.data_model.specs.Said.{Said, refuses, says, numberOf}
+use Rattle.keys.specs.Decode.{Step, component, end-of-path}
+use Rattle.key_reader.specs.Reader.{StepSaid}
+use Rattle.store.specs.Ingest.{Verdict, succeeds, is-obsolete, IngestSaid, ingestedSays}
+use Rattle.pairs.specs.Pairs.{prunedCount}
 use Rattle.pairs.specs.declared.NumbersIngested.{NumbersIngested}
-use Rattle.query.specs.declared.answer.Listed.{Listed}
-use Rattle.query.specs.declared.answer.Listed.the-variants as listed
 use Rattle.plain.specs.declared.answer.PlainAnswer.{PlainAnswer}
 use Rattle.plain.specs.declared.answer.PlainCompared.{PlainCompared}
 use Rattle.plain.specs.declared.answer.PlainEncoded.{PlainEncoded}
@@ -25,51 +18,37 @@ use Rattle.plain.specs.declared.answer.PlainNumbersIngested.{PlainNumber
 use Rattle.plain.specs.declared.answer.PlainStepped.{PlainStepped}
 
 -- A question: yes, no, or the refusal.
-abbrev pub plainAnswer : Answer → PlainAnswer
-plainAnswer answer.Yes = record { refusal = 0; yes = true }
-plainAnswer answer.No = record { refusal = 0; yes = false }
-plainAnswer (answer.Refused n) = record { refusal = n; yes = false }
+abbrev pub plainAnswer : Said Bool → PlainAnswer
+plainAnswer (says holds) = record { refusal = 0; yes = holds }
+plainAnswer (refuses n) = record { refusal = n; yes = false }
 
 -- A comparison: less, equal (neither), greater, or the refusal.
-abbrev pub plainCompared : Compared → PlainCompared
-plainCompared compared.Less = record { refusal = 0; less = true; greater = false }
-plainCompared compared.Equal = record { refusal = 0; less = false; greater = false }
-plainCompared compared.Greater = record { refusal = 0; less = false; greater = true }
-plainCompared (compared.Refused n) = record { refusal = n; less = false; greater = false }
+abbrev pub plainCompared : Said Order → PlainCompared
+plainCompared (says o) = record { refusal = 0; less = isLess o; greater = isGreater o }
+plainCompared (refuses n) = record { refusal = n; less = false; greater = false }
 
 -- A key written: its length, or the refusal.
-abbrev pub plainEncoded : Encoded → PlainEncoded
-plainEncoded (encoded.Written n) = record { refusal = 0; length = n }
-plainEncoded (encoded.Refused n) = record { refusal = n; length = 0 }
+abbrev pub plainEncoded : Said ℕ → PlainEncoded
+plainEncoded (says n) = record { refusal = 0; length = n }
+plainEncoded (refuses n) = record { refusal = n; length = 0 }
 
 -- A listing: the match's place, finished, or the refusal.
-abbrev pub plainListed : Listed → PlainListed
-plainListed (listed.Match k) = record { refusal = 0; found = true; place = k }
-plainListed listed.Finished = record { refusal = 0; found = false; place = 0 }
-plainListed (listed.Refused n) = record { refusal = n; found = false; place = 0 }
+abbrev pub plainListed : Said (Option ℕ) → PlainListed
+plainListed (says (some k)) = record { refusal = 0; found = true; place = k }
+plainListed (says none) = record { refusal = 0; found = false; place = 0 }
+plainListed (refuses n) = record { refusal = n; found = false; place = 0 }
 
--- An ingestion's verdict: success and how many it pruned, obsolete, or the refusal.
-abbrev pub verdictRefusal : IngestVerdict → ℕ
-verdictRefusal (verdict.Success n) = 0
-verdictRefusal verdict.Obsolete = 0
-verdictRefusal (verdict.Refused n) = n
+-- An ingestion: success and how many it pruned, obsolete, or the refusal; and the rest of its answer.
+abbrev pub isObsolete : Said Verdict → Bool
+isObsolete (says (succeeds n)) = false
+isObsolete (says is-obsolete) = true
+isObsolete (refuses n) = false
 
-abbrev pub isObsolete : IngestVerdict → Bool
-isObsolete (verdict.Success n) = false
-isObsolete verdict.Obsolete = true
-isObsolete (verdict.Refused n) = false
-
-abbrev pub prunedBy : IngestVerdict → ℕ
-prunedBy (verdict.Success n) = n
-prunedBy verdict.Obsolete = 0
-prunedBy (verdict.Refused n) = 0
-
--- The whole answer of an ingestion.
-abbrev pub plainIngested : Ingested → PlainIngested
+abbrev pub plainIngested : IngestSaid → PlainIngested
 plainIngested i = record {
-  refusal = verdictRefusal (i .verdict);
+  refusal = numberOf (i .verdict);
   obsolete = isObsolete (i .verdict);
-  pruned = prunedBy (i .verdict);
+  pruned = prunedCount (i .verdict);
   state = i .state;
   newer = i .newer;
   token = i .token;
@@ -77,28 +56,23 @@ plainIngested i = record {
 
 -- The count beside the numbers is the verdict's.
 abbrev pub plainNumbers : NumbersIngested → PlainNumbersIngested
-plainNumbers n = record { ingested = plainIngested (n .ingested); numbers = n .numbers }
+plainNumbers n = record { ingested = plainIngested (ingestedSays (n .ingested)); numbers = n .numbers }
 
 -- A reader's step: a component and its length, the path's end, or the refusal; the position in them is the step's own.
-abbrev pub stepRefusal : Next → ℕ
-stepRefusal (next.Component len n) = 0
-stepRefusal (next.PathEnd n) = 0
-stepRefusal (next.Refused k) = k
+abbrev pub isComponent : Said Step → Bool
+isComponent (says (component len n)) = true
+isComponent (says (end-of-path n)) = false
+isComponent (refuses k) = false
 
-abbrev pub isComponent : Next → Bool
-isComponent (next.Component len n) = true
-isComponent (next.PathEnd n) = false
-isComponent (next.Refused k) = false
-
-abbrev pub componentLength : Next → ℕ
-componentLength (next.Component len n) = len
-componentLength (next.PathEnd n) = 0
-componentLength (next.Refused k) = 0
+abbrev pub componentLength : Said Step → ℕ
+componentLength (says (component len n)) = len
+componentLength (says (end-of-path n)) = 0
+componentLength (refuses k) = 0
 
 -- The whole answer of a step.
-abbrev pub plainStepped : Stepped → PlainStepped
+abbrev pub plainStepped : StepSaid → PlainStepped
 plainStepped s = record {
-  refusal = stepRefusal (s .component .next);
+  refusal = numberOf (s .component .next);
   component = isComponent (s .component .next);
   length = componentLength (s .component .next);
   bytes = s .component .bytes;

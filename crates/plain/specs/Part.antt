@@ -1,12 +1,8 @@
--- Where the record of a listing's match lies: the pair at its place in the subspace-first directory; 0 and 0 where there is no match.
-use Prim.Native.Nat.{ℕ, _+_, _*_}
+-- A part of a tree told as offset and length: where it begins, counted from the tree's first byte, and how many bytes it has.
+use Prim.Native.Nat.{ℕ}
 use mathlib.Core.List.{List}
-use lib.ListN.{getD}
-use Rattle.query.specs.declared.answer.Listed.{Listed}
-use Rattle.query.specs.declared.answer.Listed.the-variants as listed
+use lib.ListN.{length}
 use Rattle.plain.specs.declared.part.PlainPart.{PlainPart}
 
-unfoldable pub plainPart : (dir : List ℕ) → Listed → PlainPart
-plainPart dir (listed.Match k) = record { offset = getD dir (2 * k) 0; length = getD dir (2 * k + 1) 0 }
-plainPart dir listed.Finished = record { offset = 0; length = 0 }
-plainPart dir (listed.Refused n) = record { offset = 0; length = 0 }
+abbrev pub plainPart : (offset : ℕ) → (part : List ℕ) → PlainPart
+plainPart offset part = record { offset = offset; length = length part }

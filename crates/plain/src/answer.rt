@@ -13,6 +13,11 @@ use store::ingest::IngestVerdict;
 use store::ingest::Ingested;
 use store::state::State;
 ghost use mathlib.Core.Path.{_≡_};
+ghost use Rattle.data_model.specs.Refusal.{answerSays, comparedSays};
+ghost use Rattle.keys.specs.Encode.{encodedSays};
+ghost use Rattle.key_reader.specs.Reader.{steppedSays};
+ghost use Rattle.store.specs.Ingest.{ingestedSays};
+ghost use Rattle.query.specs.Listing.{listedSays};
 ghost use Rattle.plain.specs.Answer.{plainAnswer, plainCompared, plainEncoded, plainListed, plainIngested, plainNumbers, plainStepped};
 
 // Refusal 0 and whether it holds; or the refusal.
@@ -77,7 +82,7 @@ pub struct PlainStepped {
 
 // The answer to a question about paths.
 pub fn plain_answer(a: Answer) -> PlainAnswer
-    ensures { λ r. ⌜ r ≡ plainAnswer a ⌝ }
+    ensures { λ r. ⌜ r ≡ plainAnswer (answerSays a) ⌝ }
 {
     match a {
         Answer::Yes => PlainAnswer {
@@ -97,7 +102,7 @@ pub fn plain_answer(a: Answer) -> PlainAnswer
 
 // The answer of a comparison.
 pub fn plain_compared(c: Compared) -> PlainCompared
-    ensures { λ r. ⌜ r ≡ plainCompared c ⌝ }
+    ensures { λ r. ⌜ r ≡ plainCompared (comparedSays c) ⌝ }
 {
     match c {
         Compared::Less => PlainCompared {
@@ -125,7 +130,7 @@ pub fn plain_compared(c: Compared) -> PlainCompared
 
 // The answer of an encoder.
 pub fn plain_encoded(e: Encoded) -> PlainEncoded
-    ensures { λ r. ⌜ r ≡ plainEncoded e ⌝ }
+    ensures { λ r. ⌜ r ≡ plainEncoded (encodedSays e) ⌝ }
 {
     match e {
         Encoded::Written(n) => PlainEncoded {
@@ -141,7 +146,7 @@ pub fn plain_encoded(e: Encoded) -> PlainEncoded
 
 // The answer of a listing.
 pub fn plain_listed(l: Listed) -> PlainListed
-    ensures { λ r. ⌜ r ≡ plainListed l ⌝ }
+    ensures { λ r. ⌜ r ≡ plainListed (listedSays l) ⌝ }
 {
     match l {
         Listed::Match(k) => PlainListed {
@@ -164,7 +169,7 @@ pub fn plain_listed(l: Listed) -> PlainListed
 
 // The answer of an ingestion.
 pub fn plain_ingested(i: Ingested) -> PlainIngested
-    ensures { λ r. ⌜ r ≡ plainIngested i ⌝ }
+    ensures { λ r. ⌜ r ≡ plainIngested (ingestedSays i) ⌝ }
 {
     let verdict = i.verdict;
     let state = i.state;
@@ -210,7 +215,7 @@ pub fn plain_numbers(n: NumbersIngested) -> PlainNumbersIngested
 
 // The answer of a reader's step.
 pub fn plain_stepped(s: Stepped) -> PlainStepped
-    ensures { λ r. ⌜ r ≡ plainStepped s ⌝ }
+    ensures { λ r. ⌜ r ≡ plainStepped (steppedSays s) ⌝ }
 {
     let taken = s.component;
     let next = taken.next;

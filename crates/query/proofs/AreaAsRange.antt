@@ -30,7 +30,6 @@ use Rattle.store.proofs.CheckLaws.{Passed}
 use Rattle.query.specs.Reading.{readRefusal, areaRefusal, rangeRefusal}
 use Rattle.query.specs.Listing.{next, listed, areaListed, rangeListed, partOf, areaPart, rangePart}
 use Rattle.query.specs.Count.{counted, areaCounted, summarised}
-use Rattle.query.specs.declared.answer.Listed.the-variants.{Match}
 use Rattle.query.proofs.Tested.{read-tested}
 
 -- Tests that answer the same of each element of a list.
@@ -39,7 +38,7 @@ module _ {A : Type 0} (p q : A → Bool) where
   unfolding next
   next-alike place [] e at = refl
   next-alike place (x ∷ l) e at =
-      ap₂ (λ (b : Bool) r. cond (leb place at && b) (Match at) r) (e x (here refl)) (next-alike place l (λ y m. e y (there m)) (suc at))
+      ap₂ (λ (b : Bool) r. cond (leb place at && b) (some at) r) (e x (here refl)) (next-alike place l (λ y m. e y (there m)) (suc at))
 
   keep-alike : (l : List A) → ((x : A) → x ∈ l → p x ≡ q x) → keep p l ≡ keep q l
   unfolding keep

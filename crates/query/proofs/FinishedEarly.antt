@@ -4,6 +4,7 @@ use mathlib.Core.Path.{_≡_, refl, sym, ap, _∙_}
 use mathlib.Core.Logic.{_↔_}
 use mathlib.Core.List.{List, [], _∷_, List·Memᴰ·not-nil as none-in, List·Memᴰ·eq-of-singleton as eq-of-singleton}
 use mathlib.Core.Bool.{Bool, true, false, _&&_}
+use mathlib.Core.Option.{Option, some, none}
 use native.Mathlib.Omega.{arith}
 use lib.ListN.{length, getD, replicate}
 use lib.Dec.{leb, ltb, eqb}
@@ -13,6 +14,7 @@ use Rattle.laws.specs.Prefix.{prefixOf}
 use Rattle.laws.specs.Sorted.{all, keep, insert}
 use Rattle.laws.proofs.Truth.{split, clash, and-true}
 use Rattle.layout.specs.Layout.{recordAt}
+use Rattle.data_model.specs.Said.{Said, refuses, says}
 use Rattle.data_model.specs.Path.{field, cut, components, legal, joined, endsFrom, isPath, valueOf, pathOf}
 use Rattle.data_model.specs.Subspace.{firstSubspace}
 use Rattle.data_model.specs.Range.{beforeEnd, includes, timesEnd, timesInclude, legalRange}
@@ -36,20 +38,17 @@ use Rattle.store.proofs.IngestLaws.{stands-at}
 use Rattle.query.specs.Reading.{areaRefusal, noFlags}
 use Rattle.query.specs.Listing.{next, listed}
 use Rattle.query.specs.EarlyFinish.{Wanted, of-area, of-range, refusalOf, isWanted, Matches, RightAnswer, EarlyFinish}
-use Rattle.query.specs.declared.answer.Listed.{Listed}
-use Rattle.query.specs.declared.answer.Listed.the-variants.{Match, Finished, Refused}
 use Rattle.query.proofs.Tested.{read-passes, read-tested, formed-spt}
 
 -- What the next match says of the elements from `at` up to `end`, which match where `m` holds of their number.
-abbrev Told : (m : ℕ → Bool) → (place at end : ℕ) → Listed → Type 0
-Told m place at end (Match k) = (place ≤ k) × (k < end) × (m k ≡ true) × ((j : ℕ) → at ≤ j → place ≤ j → j < k → m j ≡ false)
-Told m place at end Finished = (j : ℕ) → at ≤ j → place ≤ j → j < end → m j ≡ false
-Told m place at end (Refused n) = ⊥
+abbrev Told : (m : ℕ → Bool) → (place at end : ℕ) → Option ℕ → Type 0
+Told m place at end (some k) = (place ≤ k) × (k < end) × (m k ≡ true) × ((j : ℕ) → at ≤ j → place ≤ j → j < k → m j ≡ false)
+Told m place at end none = (j : ℕ) → at ≤ j → place ≤ j → j < end → m j ≡ false
 
 module _ (m : ℕ → Bool) (place end : ℕ) where
   -- One element earlier, which does not match at or after the place.
-  told-earlier : (at : ℕ) (r : Listed) → (place ≤ at → m at ≡ false) → Told m place (suc at) end r → Told m place at end r
-  told-earlier at (Match k) f t = (
+  told-earlier : (at : ℕ) (r : Option ℕ) → (place ≤ at → m at ≡ false) → Told m place (suc at) end r → Told m place at end r
+  told-earlier at (some k) f t = (
     t .0,
     t .1,
     t .2,
@@ -57,10 +56,9 @@ module _ (m : ℕ → Bool) (place end : ℕ) where
         (λ q. let g = ltb-true at j q in t .3 j (omega arith) b c)
         (λ q. let g = ltb-false at j q in let e : j ≡ at = omega arith in rw e (f (omega arith))),
   )
-  told-earlier at Finished f t = λ j a b c. split (ltb at j)
+  told-earlier at none f t = λ j a b c. split (ltb at j)
       (λ q. let g = ltb-true at j q in t j (omega arith) b c)
       (λ q. let g = ltb-false at j q in let e : j ≡ at = omega arith in rw e (f (omega arith)))
-  told-earlier at (Refused n) f t = t
 
   told : {A : Type 0} (test : A → Bool) (d : A) (l : List A) (at : ℕ) → at + length l ≡ end → ((i : ℕ) → i < length l → test (getD l i d) ≡ m (at + i)) → Told m place at end (next test place at l)
   unfolding next
@@ -103,22 +101,21 @@ module _ (s : Store) (w : Wanted) (place : ℕ) where
       let e : i ≡ 0 + i = omega arith in
       ap (isWanted w) (held-said s p i (omega arith) (said s 0)) ∙ ap (λ (n : ℕ). isWanted w (said s n)) e)
 
-  told-right : refusalOf s w ≡ 0 → (r : Listed) → Told (λ n. isWanted w (said s n)) place 0 (s .state .count) r → RightAnswer s w place r
-  told-right z (Match k) t = record {
+  told-right : refusalOf s w ≡ 0 → (r : Option ℕ) → Told (λ n. isWanted w (said s n)) place 0 (s .state .count) r → RightAnswer s w place (says r)
+  told-right z (some k) t = record {
     refused = λ n. (λ e. absurd (let y : _≡_ {A = ℕ} 0 1 = cc in omega arith), λ e. absurd (e .1 (sym (e .0) ∙ z)));
     matched = λ n e. let g : k ≡ n = cc in rw (← g) (t .0, (t .1, t .2), λ j a b c. clash (c .1) (t .3 j (omega arith) a b));
     finished = λ e. absurd (let y : _≡_ {A = ℕ} 0 1 = cc in omega arith);
   }
-  told-right z Finished t = record {
+  told-right z none t = record {
     refused = λ n. (λ e. absurd (let y : _≡_ {A = ℕ} 0 1 = cc in omega arith), λ e. absurd (e .1 (sym (e .0) ∙ z)));
     matched = λ n e. absurd (let y : _≡_ {A = ℕ} 0 1 = cc in omega arith);
     finished = λ e n a c. clash (c .1) (t n (omega arith) a (c .0));
   }
-  told-right z (Refused n) t = absurd t
 
-  refused-right : (refusalOf s w ≡ 0 → ⊥) → RightAnswer s w place (Refused (refusalOf s w))
+  refused-right : (refusalOf s w ≡ 0 → ⊥) → RightAnswer s w place (refuses (refusalOf s w))
   refused-right z = record {
-    refused = λ n. (λ e. let g : refusalOf s w ≡ n = cc in (g, λ y. z (g ∙ y)), λ e. ap Refused (e .0));
+    refused = λ n. (λ e. let g : refusalOf s w ≡ n = cc in (g, λ y. z (g ∙ y)), λ e. ap refuses (e .0));
     matched = λ n e. absurd (let y : _≡_ {A = ℕ} 0 1 = cc in omega arith);
     finished = λ e. absurd (let y : _≡_ {A = ℕ} 0 1 = cc in omega arith);
   }
@@ -129,25 +126,25 @@ module _ (s : Store) (w : Wanted) (place : ℕ) where
       (λ q. let z = eqb-true (refusalOf s w) 0 q in rw q (told-right z (next (isWanted w) place 0 (held field Spt s)) (next-told z)))
       (λ q. rw q (refused-right (eqb-false (refusalOf s w) 0 q)))
 
-  one-answer : (a b : Listed) → RightAnswer s w place a → RightAnswer s w place b → a ≡ b
-  one-answer (Match n) (Match k) p q =
+  one-answer : (a b : Said (Option ℕ)) → RightAnswer s w place a → RightAnswer s w place b → a ≡ b
+  one-answer (says (some n)) (says (some k)) p q =
       let u = p .matched n refl in
       let v = q .matched k refl in
       split (ltb n k)
       (λ g. absurd (v .2 n (u .0) (ltb-true n k g) (u .1)))
       (λ g. split (ltb k n)
       (λ h. absurd (u .2 k (v .0) (ltb-true k n h) (v .1)))
-      (λ h. let a = ltb-false n k g in let b = ltb-false k n h in let e : n ≡ k = omega arith in ap Match e))
-  one-answer (Match n) Finished p q = let u = p .matched n refl in absurd (q .finished refl n (u .0) (u .1))
-  one-answer (Match n) (Refused k) p q = p .refused k .1 (q .refused k .0 refl)
-  one-answer Finished (Match k) p q = let v = q .matched k refl in absurd (p .finished refl k (v .0) (v .1))
-  one-answer Finished Finished p q = refl
-  one-answer Finished (Refused k) p q = p .refused k .1 (q .refused k .0 refl)
-  one-answer (Refused n) (Match k) p q = sym (q .refused n .1 (p .refused n .0 refl))
-  one-answer (Refused n) Finished p q = sym (q .refused n .1 (p .refused n .0 refl))
-  one-answer (Refused n) (Refused k) p q = p .refused k .1 (q .refused k .0 refl)
+      (λ h. let a = ltb-false n k g in let b = ltb-false k n h in let e : n ≡ k = omega arith in ap (λ (i : ℕ). says (some i)) e))
+  one-answer (says (some n)) (says none) p q = let u = p .matched n refl in absurd (q .finished refl n (u .0) (u .1))
+  one-answer (says (some n)) (refuses k) p q = p .refused k .1 (q .refused k .0 refl)
+  one-answer (says none) (says (some k)) p q = let v = q .matched k refl in absurd (p .finished refl k (v .0) (v .1))
+  one-answer (says none) (says none) p q = refl
+  one-answer (says none) (refuses k) p q = p .refused k .1 (q .refused k .0 refl)
+  one-answer (refuses n) (says (some k)) p q = sym (q .refused n .1 (p .refused n .0 refl))
+  one-answer (refuses n) (says none) p q = sym (q .refused n .1 (p .refused n .0 refl))
+  one-answer (refuses n) (refuses k) p q = p .refused k .1 (q .refused k .0 refl)
 
-  only-ours : (r : Listed) → RightAnswer s w place r ↔ (r ≡ listed field s (refusalOf s w) (isWanted w) place)
+  only-ours : (r : Said (Option ℕ)) → RightAnswer s w place r ↔ (r ≡ listed field s (refusalOf s w) (isWanted w) place)
   only-ours r = (λ v. one-answer r _ v ours-right, λ e. rw e ours-right)
 
 -- A store of limit 1 that holds an entry of zeros, and the area of everything.

@@ -4,10 +4,12 @@ use Prim.Native.Nat.{ℕ}
 use mathlib.Core.Path.{_≡_, sym, ap, _∙_}
 use mathlib.Core.List.{List}
 use mathlib.Core.Bool.{Bool, true, false}
+use mathlib.Core.Option.{Option}
 use native.Mathlib.Omega.{arith}
 use lib.ListN.{length, take}
 use borrow.Author.Tests.{ne-eqb}
 use Rattle.laws.specs.Sorted.{keep}
+use Rattle.data_model.specs.Said.{Said, refuses, says}
 use Rattle.data_model.specs.Path.{field, legal, components}
 use Rattle.data_model.specs.Area.{areaRange, areaRangeAnswer, emptyRange}
 use Rattle.data_model.specs.declared.path.Path.{Path}
@@ -28,8 +30,6 @@ use Rattle.query.specs.Listing.{next, listed}
 use Rattle.query.specs.Count.{counted}
 use Rattle.query.specs.Lookup.{notFound, foundIn, entryFound}
 use Rattle.query.specs.Interest.{interestTime, startingAt, interestRange}
-use Rattle.query.specs.declared.answer.Listed.{Listed}
-use Rattle.query.specs.declared.answer.Listed.the-variants.{Refused}
 use Rattle.query.specs.declared.answer.EntryFound.{EntryFound}
 use Rattle.query.specs.declared.answer.InterestRange.{InterestRange}
 
@@ -74,11 +74,11 @@ module _ (s : Store) (t b : Bool) (q : t ≡ b) (n : ℕ) (e : n ≡ readRefusal
   pub tested : n ≡ 0 → Passed s × (b ≡ true)
   tested z = read-tested s b (refusal ∙ z)
 
-  pub list-refused : (test : Stored → Bool) (place : ℕ) → (n ≡ 0 → ⊥) → Refused n ≡ listed field s (readRefusal field s b) test place
+  pub list-refused : (test : Stored → Bool) (place : ℕ) → (n ≡ 0 → ⊥) → refuses n ≡ listed field s (readRefusal field s b) test place
   unfolding listed
   list-refused test place h = rw (refusal, ne-eqb n 0 h)
 
-  pub list-next : (test : Stored → Bool) (place : ℕ) → n ≡ 0 → (r : Listed) → r ≡ next test place 0 (heldSpt s) → r ≡ listed field s (readRefusal field s b) test place
+  pub list-next : (test : Stored → Bool) (place : ℕ) → n ≡ 0 → (r : Said (Option ℕ)) → r ≡ says (next test place 0 (heldSpt s)) → r ≡ listed field s (readRefusal field s b) test place
   unfolding listed held treeOf dirOf
   list-next test place z r er = rw (refusal, z) er
 

@@ -2,9 +2,9 @@
 -- a count is the length of the listing without flags; what is found is the entry that stands there. Assumes nothing.
 use Prim.Native.Nat.{ℕ, suc, _+_, _-_, _≤_}
 use mathlib.Core.Path.{_≡_, refl, sym, ap, _∙_}
-use mathlib.Core.Option.{some}
 use mathlib.Core.List.{List, [], _∷_, List·Memᴰ·head as here, List·Memᴰ·tail as there}
 use mathlib.Core.Bool.{Bool, true, false, cond, _&&_}
+use mathlib.Core.Option.{Option, some, none}
 use native.Mathlib.Omega.{arith}
 use native.Mathlib.Numerals.{add-one}
 use lib.ListN.{length, drop, length-drop, getD}
@@ -16,6 +16,7 @@ use Rattle.laws.proofs.Truth.{split, clash}
 use Rattle.laws.proofs.Sorted.{keep-ascends, any-make}
 use Rattle.layout.specs.Layout.{records, recordAt}
 use Rattle.layout.proofs.LaidLaws.{records-many, records-at}
+use Rattle.data_model.specs.Said.{Said, says, numberOf}
 use Rattle.data_model.specs.Path.{field, legal, components}
 use Rattle.data_model.specs.Range.{legalRange}
 use Rattle.data_model.specs.declared.path.Path.{Path}
@@ -35,31 +36,22 @@ use Rattle.store.proofs.CheckLaws.{Passed}
 use Rattle.store.proofs.IngestLaws.{first-absent}
 use Rattle.store.proofs.ForgetLaws.{only-one}
 use Rattle.query.specs.Reading.{readRefusal, areaRefusal, rangeRefusal, noFlags}
-use Rattle.query.specs.Listing.{listedNumber, next, listed, areaListed, rangeListed, part, partOf, areaPart, rangePart}
+use Rattle.query.specs.Listing.{next, listed, areaListed, rangeListed, part, partOf, areaPart, rangePart}
 use Rattle.query.specs.Count.{counted, areaCounted, summarised}
 use Rattle.query.specs.Lookup.{notFound, foundOf, entryFound}
 use Rattle.query.specs.Walk.{Walks, matching, Lists, Finds}
 use Rattle.query.specs.declared.answer.EntryFound.{EntryFound}
-use Rattle.query.specs.declared.answer.Listed.{Listed}
-use Rattle.query.specs.declared.answer.Listed.the-variants.{Match, Finished}
 use Rattle.query.proofs.Tested.{read-tested, formed-spt}
 use Rattle.query.proofs.FoundLaws.{match-below}
 use Rattle.query.proofs.NextLaws.{next-drop, keep-same, unflagged-area, unflagged-range}
 
 -- The number of what a listing answers is the refusal, 0 for none.
-next-number : {A : Type 0} (test : A → Bool) (place : ℕ) (l : List A) (at : ℕ) → listedNumber (next test place at l) ≡ 0
-unfolding listedNumber next
-next-number test place [] at = refl
-next-number test place (x ∷ l) at = let i = next-number test place l (suc at) in split (leb place at && test x) (λ q. rw q) (λ q. rw q i)
-
-pub listed-number : (s : Store) (refusal : ℕ) (test : Stored → Bool) (place : ℕ) → listedNumber (listed field s refusal test place) ≡ refusal
-unfolding listed listedNumber
-listed-number s refusal test place = split (eqb refusal 0)
-    (λ q. rw q (next-number test place (held field Spt s) 0 ∙ sym (eqb-true refusal 0 q)))
-    (λ q. rw q)
+pub listed-number : (s : Store) (refusal : ℕ) (test : Stored → Bool) (place : ℕ) → numberOf (listed field s refusal test place) ≡ refusal
+unfolding listed numberOf
+listed-number s refusal test place = split (eqb refusal 0) (λ q. rw q (sym (eqb-true refusal 0 q))) (λ q. rw q)
 
 -- The part of a match is a record, and so is not empty: it is empty exactly where the listing is finished or refused.
-pub match-long : (s : Store) (b : Bool) (test : Stored → Bool) (place k : ℕ) → listed field s (readRefusal field s b) test place ≡ Match k
+pub match-long : (s : Store) (b : Bool) (test : Stored → Bool) (place k : ℕ) → listed field s (readRefusal field s b) test place ≡ says (some k)
     → valueLength ≤ length (partOf field s (listed field s (readRefusal field s b) test place))
 unfolding partOf part
 match-long s b test place k e =
@@ -72,38 +64,38 @@ unfolding next
 next-reached test place place′ [] at h h′ = refl
 next-reached test place place′ (x ∷ l) at h h′ =
     let i = next-reached test place place′ l (suc at) (omega arith) (omega arith) in
-    rw (le-leb place at h, le-leb place′ at h′) (ap (cond (test x) (Match at)) i)
+    rw (le-leb place at h, le-leb place′ at h′) (ap (cond (test x) (some at)) i)
 
 -- A step that answers as the next one does begins the same walk; and calls that answer the same have the same walks.
-walks-earlier : (places : ℕ → Listed) (parts : ℕ → List ℕ) (from on : ℕ) (rs : List (List ℕ)) → places from ≡ places on → parts from ≡ parts on → Walks places parts on rs → Walks places parts from rs
+walks-earlier : (places : ℕ → Said (Option ℕ)) (parts : ℕ → List ℕ) (from on : ℕ) (rs : List (List ℕ)) → places from ≡ places on → parts from ≡ parts on → Walks places parts on rs → Walks places parts from rs
 walks-earlier places parts from on [] e q w = (e ∙ w .0, q ∙ w .1)
 walks-earlier places parts from on (r ∷ rs) e q w = (w .0, e ∙ w .1, q ∙ w .2, w .3)
 
-walks-same : (places places′ : ℕ → Listed) (parts parts′ : ℕ → List ℕ) → ((k : ℕ) → places′ k ≡ places k) → ((k : ℕ) → parts′ k ≡ parts k)
+walks-same : (places places′ : ℕ → Said (Option ℕ)) (parts parts′ : ℕ → List ℕ) → ((k : ℕ) → places′ k ≡ places k) → ((k : ℕ) → parts′ k ≡ parts k)
     → (from : ℕ) (rs : List (List ℕ)) → Walks places parts from rs → Walks places′ parts′ from rs
 walks-same places places′ parts parts′ e q from [] w = (e from ∙ w .0, q from ∙ w .1)
 walks-same places places′ parts parts′ e q from (r ∷ rs) w = (w .0, e from ∙ w .1, q from ∙ w .2, walks-same places places′ parts parts′ e q (w .0 + 1) rs (w .3))
 
 -- There is one walk from a place.
-pub walks-once : (places : ℕ → Listed) (parts : ℕ → List ℕ) (from : ℕ) (rs rs′ : List (List ℕ)) → Walks places parts from rs → Walks places parts from rs′ → rs ≡ rs′
+pub walks-once : (places : ℕ → Said (Option ℕ)) (parts : ℕ → List ℕ) (from : ℕ) (rs rs′ : List (List ℕ)) → Walks places parts from rs → Walks places parts from rs′ → rs ≡ rs′
 walks-once places parts from [] [] w w′ = refl
-walks-once places parts from [] (r ∷ rs) w w′ = absurd (let q : Finished ≡ Match (w′ .0) = sym (w .0) ∙ w′ .1 in let z : _≡_ {A = ℕ} 0 1 = cc in omega arith)
-walks-once places parts from (r ∷ rs) [] w w′ = absurd (let q : Finished ≡ Match (w .0) = sym (w′ .0) ∙ w .1 in let z : _≡_ {A = ℕ} 0 1 = cc in omega arith)
+walks-once places parts from [] (r ∷ rs) w w′ = absurd (let q : says none ≡ says (some (w′ .0)) = sym (w .0) ∙ w′ .1 in let z : _≡_ {A = ℕ} 0 1 = cc in omega arith)
+walks-once places parts from (r ∷ rs) [] w w′ = absurd (let q : says none ≡ says (some (w .0)) = sym (w′ .0) ∙ w .1 in let z : _≡_ {A = ℕ} 0 1 = cc in omega arith)
 walks-once places parts from (r ∷ rs) (r′ ∷ rs′) w w′ =
-    let q : Match (w .0) ≡ Match (w′ .0) = sym (w .1) ∙ w′ .1 in
+    let q : says (some (w .0)) ≡ says (some (w′ .0)) = sym (w .1) ∙ w′ .1 in
     let g : w .0 ≡ w′ .0 = cc in
     let h : r ≡ r′ = sym (w .2) ∙ w′ .2 in
     let i = walks-once places parts (w .0 + 1) rs rs′ (w .3) (walks-earlier places parts (w .0 + 1) (w′ .0 + 1) rs′ (ap (λ (k : ℕ). places (k + 1)) g) (ap (λ (k : ℕ). parts (k + 1)) g) (w′ .3)) in
     cc
 
 -- A walk over a list whose elements the parts are.
-module _ (recs : List (List ℕ)) (test : List ℕ → Bool) (part-at : Listed → List ℕ) (nothing : part-at Finished ≡ [])
-    (found : (k : ℕ) (x : List ℕ) (l : List (List ℕ)) → drop k recs ≡ x ∷ l → part-at (Match k) ≡ x) where
-  abbrev places : ℕ → Listed
-  places k = next test k 0 recs
+module _ (recs : List (List ℕ)) (test : List ℕ → Bool) (part-at : Said (Option ℕ) → List ℕ) (nothing : part-at (says none) ≡ [])
+    (found : (k : ℕ) (x : List ℕ) (l : List (List ℕ)) → drop k recs ≡ x ∷ l → part-at (says (some k)) ≡ x) where
+  abbrev places : ℕ → Said (Option ℕ)
+  places k = says (next test k 0 recs)
 
   abbrev parts : ℕ → List ℕ
-  parts k = part-at (next test k 0 recs)
+  parts k = part-at (says (next test k 0 recs))
 
   drop-next : (from : ℕ) (x : List ℕ) (l : List (List ℕ)) → drop from recs ≡ x ∷ l → drop (from + 1) recs ≡ l
   drop-next from x l e =
@@ -117,18 +109,18 @@ module _ (recs : List (List ℕ)) (test : List ℕ → Bool) (part-at : Listed �
 
   pub walk-from : (l : List (List ℕ)) (from : ℕ) → drop from recs ≡ l → Walks places parts from (keep test l)
   unfolding keep next
-  walk-from [] from e = let q = at-place from [] e in (q, ap part-at q ∙ nothing)
+  walk-from [] from e = let q = ap says (at-place from [] e) in (q, ap part-at q ∙ nothing)
   walk-from (x ∷ l) from e =
       let i = walk-from l (from + 1) (drop-next from x l e) in
       let a = at-place from (x ∷ l) e in
       split (test x)
       (λ q.
-      let m : next test from 0 recs ≡ Match from = a ∙ rw (le-leb from from (omega arith), q) in
+      let m : says (next test from 0 recs) ≡ says (some from) = ap says (a ∙ rw (le-leb from from (omega arith), q)) in
       rw q (from, m, ap part-at m ∙ found from x l e, i))
       (λ q.
       let m : next test from 0 recs ≡ next test from (suc from) l = a ∙ rw (le-leb from from (omega arith), q) in
       let j : next test (from + 1) 0 recs ≡ next test (from + 1) (suc from) l = at-place (from + 1) l (drop-next from x l e) ∙ ap (λ (k : ℕ). next test (from + 1) k l) (add-one from) in
-      let w : next test from 0 recs ≡ next test (from + 1) 0 recs = m ∙ next-reached test from (from + 1) l (suc from) (omega arith) (omega arith) ∙ sym j in
+      let w : says (next test from 0 recs) ≡ says (next test (from + 1) 0 recs) = ap says (m ∙ next-reached test from (from + 1) l (suc from) (omega arith) (omega arith) ∙ sym j) in
       rw q (walks-earlier places parts from (from + 1) (keep test l) w (ap part-at w) i))
 
 -- What records say, and the test of an entry as one of its record.
@@ -154,14 +146,14 @@ module _ (s : Store) (b : Bool) (test : Stored → Bool) (z : readRefusal field 
   passes : Passed s
   passes = read-tested s b z .0
 
-  abbrev at-match : Listed → List ℕ
+  abbrev at-match : Said (Option ℕ) → List ℕ
   at-match l = partOf field s l
 
-  no-part : at-match Finished ≡ []
+  no-part : at-match (says none) ≡ []
   unfolding partOf part
   no-part = refl
 
-  match-part : (k : ℕ) (x : List ℕ) (l : List (List ℕ)) → drop k recs ≡ x ∷ l → at-match (Match k) ≡ x
+  match-part : (k : ℕ) (x : List ℕ) (l : List (List ℕ)) → drop k recs ≡ x ∷ l → at-match (says (some k)) ≡ x
   unfolding partOf part treeOf dirOf
   match-part k x l e =
       let v = formed-spt s passes in
@@ -171,9 +163,9 @@ module _ (s : Store) (b : Bool) (test : Stored → Bool) (z : readRefusal field 
       let w : recordAt k (dirOf Spt s) (treeOf field Spt s) ≡ x = cc in
       w
 
-  places-are : (k : ℕ) → listed field s (readRefusal field s b) test k ≡ next (of-record (s .state .«namespace_id») test) k 0 recs
+  places-are : (k : ℕ) → listed field s (readRefusal field s b) test k ≡ says (next (of-record (s .state .«namespace_id») test) k 0 recs)
   unfolding listed held
-  places-are k = rw (eq-eqb (readRefusal field s b) 0 z) (next-contents (s .state .«namespace_id») test k recs 0)
+  places-are k = rw (eq-eqb (readRefusal field s b) 0 z) (ap says (next-contents (s .state .«namespace_id») test k recs 0))
 
   pub lists : Lists field s test (λ k. listed field s (readRefusal field s b) test k) (λ k. partOf field s (listed field s (readRefusal field s b) test k))
   unfolding held treeOf dirOf

@@ -17,18 +17,20 @@ use tree::stored::record_at;
 ghost use mathlib.Core.Path.{_≡_};
 ghost use mathlib.Core.Bool.{true};
 ghost use Prim.Native.Nat.{_≤_};
+ghost use Rattle.data_model.specs.Said.{says};
 ghost use Rattle.data_model.specs.Path.{field, legal};
 ghost use Rattle.data_model.specs.Range.{legalRange};
+ghost use Rattle.layout.specs.Layout.{partBegins};
 ghost use Rattle.tree.specs.Tree.{Formed};
 ghost use Rattle.tree.specs.Matching.{listedInArea, listedInRange};
 ghost use Rattle.tree.specs.declared.stored.KeyOrder.the-variants.{Spt};
 ghost use Rattle.store.specs.Store.{storeOf, limitMost};
 ghost use Rattle.store.specs.Change.{inTree};
-ghost use Rattle.query.specs.Listing.{isMark, next, areaListed, rangeListed, part, areaPart, rangePart, HasPart};
+ghost use Rattle.query.specs.Listing.{isMark, listedSays, next, areaListed, rangeListed, part, areaPart, rangePart, offsetOf, areaOffset, rangeOffset, HasPart};
 
 // The first mark at or after a place.
 fn next_marked(marks: &[u8], place: usize) -> Listed
-    ensures { λ r. ⌜ r ≡ next isMark place 0 (now (marks .entry)) ⌝ }
+    ensures { λ r. ⌜ listedSays r ≡ says (next isMark place 0 (now (marks .entry))) ⌝ }
 {
     let n = marks.len();
     if n <= place {
@@ -52,7 +54,7 @@ fn next_in_area(
     place: usize,
 ) -> Listed
     requires { ⌜ (Formed Spt count (now «spt_dir») (now spt)) × (count ≤ limitMost) × (legal field (area .path) ≡ true) ⌝ }
-    ensures { λ r. ⌜ r ≡ next (listedInArea area ignore) place 0 (inTree Spt namespace count (now («spt_dir» .entry)) (now (spt .entry))) ⌝ }
+    ensures { λ r. ⌜ listedSays r ≡ says (next (listedInArea area ignore) place 0 (inTree Spt namespace count (now («spt_dir» .entry)) (now (spt .entry)))) ⌝ }
 {
     let mut marks = [0u8; LIMIT_MOST];
     mark_area(KeyOrder::Spt, count, spt_dir, spt, area, ignore, &mut marks);
@@ -69,7 +71,7 @@ fn next_in_range(
     place: usize,
 ) -> Listed
     requires { ⌜ (Formed Spt count (now «spt_dir») (now spt)) × (count ≤ limitMost) × (legalRange field (range .paths) ≡ true) ⌝ }
-    ensures { λ r. ⌜ r ≡ next (listedInRange range ignore) place 0 (inTree Spt namespace count (now («spt_dir» .entry)) (now (spt .entry))) ⌝ }
+    ensures { λ r. ⌜ listedSays r ≡ says (next (listedInRange range ignore) place 0 (inTree Spt namespace count (now («spt_dir» .entry)) (now (spt .entry)))) ⌝ }
 {
     let mut marks = [0u8; LIMIT_MOST];
     mark_range(
@@ -95,7 +97,7 @@ pub fn query_area_place(
     ignore: QueryIgnoreParams,
     place: usize,
 ) -> Listed
-    ensures { λ r. ⌜ r ≡ areaListed field (storeOf state (now (spt .entry)) (now («spt_dir» .entry)) (now (tsp .entry)) (now («tsp_dir» .entry))) area ignore place ⌝ }
+    ensures { λ r. ⌜ listedSays r ≡ areaListed field (storeOf state (now (spt .entry)) (now («spt_dir» .entry)) (now (tsp .entry)) (now («tsp_dir» .entry))) area ignore place ⌝ }
 {
     let path = area.path;
     let refusal = read_refusal(state, spt, spt_dir, tsp, tsp_dir, is_legal(path));
@@ -127,7 +129,7 @@ pub fn query_range_place(
     ignore: QueryIgnoreParams,
     place: usize,
 ) -> Listed
-    ensures { λ r. ⌜ r ≡ rangeListed field (storeOf state (now (spt .entry)) (now («spt_dir» .entry)) (now (tsp .entry)) (now («tsp_dir» .entry))) range ignore place ⌝ }
+    ensures { λ r. ⌜ listedSays r ≡ rangeListed field (storeOf state (now (spt .entry)) (now («spt_dir» .entry)) (now (tsp .entry)) (now («tsp_dir» .entry))) range ignore place ⌝ }
 {
     let paths = range.paths;
     let refusal = read_refusal(state, spt, spt_dir, tsp, tsp_dir, is_legal_range(paths));
@@ -148,10 +150,11 @@ pub fn query_range_place(
     )
 }
 
-// The record of a match, as a part of the tree; where there is none, nothing of it.
+// The record of a match, as a part of the tree: its bytes, and where they lie. Where there is none, nothing at the tree's first byte.
 fn part_of<'a>(limit: usize, spt: &'a [u8], spt_dir: &[u32], listed: Listed) -> &'a [u8]
-    requires { ⌜ HasPart limit (now «spt_dir») (now spt) listed ⌝ }
-    ensures { λ r. ⌜ now r ≡ part field limit (now («spt_dir» .entry)) (now (spt .entry)) listed ⌝ }
+    requires { ⌜ HasPart limit (now «spt_dir») (now spt) (listedSays listed) ⌝ }
+    ensures { λ r. ⌜ now r ≡ part field limit (now («spt_dir» .entry)) (now (spt .entry)) (listedSays listed) ⌝ }
+    ensures { λ r. ⌜ partBegins (spt .entry .ptr) (r .ptr) (offsetOf (now («spt_dir» .entry)) (listedSays listed)) ⌝ }
 {
     match listed {
         Listed::Match(k) => {
@@ -176,6 +179,7 @@ pub fn query_area<'a>(
     place: usize,
 ) -> &'a [u8]
     ensures { λ r. ⌜ now r ≡ areaPart field (storeOf state (now (spt .entry)) (now («spt_dir» .entry)) (now (tsp .entry)) (now («tsp_dir» .entry))) area ignore place ⌝ }
+    ensures { λ r. ⌜ partBegins (spt .entry .ptr) (r .ptr) (areaOffset field (storeOf state (now (spt .entry)) (now («spt_dir» .entry)) (now (tsp .entry)) (now («tsp_dir» .entry))) area ignore place) ⌝ }
 {
     let listed = query_area_place(state, spt, spt_dir, tsp, tsp_dir, area, ignore, place);
     part_of(state.limit, spt, spt_dir, listed)
@@ -193,6 +197,7 @@ pub fn query_range<'a>(
     place: usize,
 ) -> &'a [u8]
     ensures { λ r. ⌜ now r ≡ rangePart field (storeOf state (now (spt .entry)) (now («spt_dir» .entry)) (now (tsp .entry)) (now («tsp_dir» .entry))) range ignore place ⌝ }
+    ensures { λ r. ⌜ partBegins (spt .entry .ptr) (r .ptr) (rangeOffset field (storeOf state (now (spt .entry)) (now («spt_dir» .entry)) (now (tsp .entry)) (now («tsp_dir» .entry))) range ignore place) ⌝ }
 {
     let listed = query_range_place(state, spt, spt_dir, tsp, tsp_dir, range, ignore, place);
     part_of(state.limit, spt, spt_dir, listed)

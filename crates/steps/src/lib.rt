@@ -24,6 +24,7 @@ ghost use mathlib.Core.Path.{_≡_};
 ghost use Rattle.data_model.specs.Path.{field};
 ghost use Rattle.key_laws.specs.Bytes.{Bytes};
 ghost use Rattle.store.specs.Store.{storeOf};
+ghost use Rattle.store.specs.Ingest.{verdictSays};
 ghost use Rattle.pairs.specs.Pairs.{numbersOf, prunedCount};
 ghost use Rattle.call_laws.specs.Calls.{IsValue, ingest, forget-entry, forget-area, ingestVerdict, numberVerdict};
 ghost use Rattle.call_laws.specs.Outcomes.{outcome, opens, outcomeOf, openingOf, ingestionOf};
@@ -54,7 +55,7 @@ pub fn numbers_listed(
     token: [u8; 64],
     prevent_pruning: bool,
 ) -> Ingested
-    ensures { λ r. ⌜ outcomeOf (ingestVerdict (r .verdict)) (prunedCount (r .verdict)) (r .state) (now (spt .exit)) (now («spt_dir» .exit)) (now (tsp .exit)) (now («tsp_dir» .exit)) ≡ outcome field (storeOf state (now (spt .entry)) (now («spt_dir» .entry)) (now (tsp .entry)) (now («tsp_dir» .entry))) (ingest (ingestionOf (now (prune .entry)) entry token «prevent_pruning»)) ⌝ }
+    ensures { λ r. ⌜ outcomeOf (ingestVerdict (verdictSays (r .verdict))) (prunedCount (verdictSays (r .verdict))) (r .state) (now (spt .exit)) (now («spt_dir» .exit)) (now (tsp .exit)) (now («tsp_dir» .exit)) ≡ outcome field (storeOf state (now (spt .entry)) (now («spt_dir» .entry)) (now (tsp .entry)) (now («tsp_dir» .entry))) (ingest (ingestionOf (now (prune .entry)) entry token «prevent_pruning»)) ⌝ }
 {
     ingest_entry_numbers(
         state,
@@ -81,7 +82,7 @@ pub fn pairs_listed(
     token: [u8; 64],
     prevent_pruning: bool,
 ) -> NumbersIngested
-    ensures { λ r. ⌜ outcomeOf (ingestVerdict (r .ingested .verdict)) (prunedCount (r .ingested .verdict)) (r .ingested .state) (now (spt .exit)) (now («spt_dir» .exit)) (now (tsp .exit)) (now («tsp_dir» .exit)) ≡ outcome field (storeOf state (now (spt .entry)) (now («spt_dir» .entry)) (now (tsp .entry)) (now («tsp_dir» .entry))) (ingest (ingestionOf (numbersOf pairs) entry token «prevent_pruning»)) ⌝ }
+    ensures { λ r. ⌜ outcomeOf (ingestVerdict (verdictSays (r .ingested .verdict))) (prunedCount (verdictSays (r .ingested .verdict))) (r .ingested .state) (now (spt .exit)) (now («spt_dir» .exit)) (now (tsp .exit)) (now («tsp_dir» .exit)) ≡ outcome field (storeOf state (now (spt .entry)) (now («spt_dir» .entry)) (now (tsp .entry)) (now («tsp_dir» .entry))) (ingest (ingestionOf (numbersOf pairs) entry token «prevent_pruning»)) ⌝ }
 {
     ingest_entry_by_value(
         state,

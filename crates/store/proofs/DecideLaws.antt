@@ -23,7 +23,7 @@ use Rattle.tree.specs.declared.stored.KeyOrder.the-variants.{Spt}
 use Rattle.tree.specs.declared.stored.LengthyAuthorisedEntry.{LengthyAuthorisedEntry}
 use Rattle.tree.proofs.FormedContents.{formed-many}
 use Rattle.store.specs.Refusal.{pruningPrevented, full}
-use Rattle.store.specs.Ingest.{placeDecided, removedFrom, outdatedAt, obsoleteAnswer}
+use Rattle.store.specs.Ingest.{placeDecided, removedFrom, outdatedAt, verdictSays, ingestedSays, obsoleteAnswer}
 use Rattle.store.specs.declared.state.State.{State}
 use Rattle.store.specs.declared.ingest.Ingested.{Ingested}
 use Rattle.store.specs.declared.ingest.IngestVerdict.the-variants as verdict
@@ -84,9 +84,9 @@ module _ {count : ℕ} {dir tree : List ℕ} (v : Formed Spt count dir tree) (ns
 
 -- What is handed out with an obsolete verdict.
 pub answer-obsolete : (s : State) (x : Stored) (a : LengthyAuthorisedEntry) → a ≡ lengthy x
-    → record { verdict = verdict.Obsolete; state = s; newer = a .entry; token = a .token } ≡ obsoleteAnswer s x
-unfolding lengthy
-answer-obsolete s x a e = ap (λ (b : LengthyAuthorisedEntry). obsoleteOf b) e
+    → ingestedSays (record { verdict = verdict.Obsolete; state = s; newer = a .entry; token = a .token }) ≡ obsoleteAnswer s x
+unfolding verdictSays lengthy
+answer-obsolete s x a e = ap (λ (b : LengthyAuthorisedEntry). ingestedSays (obsoleteOf b)) e
   where
     obsoleteOf : LengthyAuthorisedEntry → Ingested
     obsoleteOf b = record { verdict = verdict.Obsolete; state = s; newer = b .entry; token = b .token }

@@ -14,6 +14,7 @@ use Rattle.laws.specs.Sorted.{any, keep}
 use Rattle.laws.proofs.Truth.{split, clash, refute}
 use Rattle.laws.proofs.Sorted.{any-view, any-make}
 use Rattle.layout.specs.Marks.{marksOf, markedPairs}
+use Rattle.data_model.specs.Said.{says}
 use Rattle.data_model.specs.Path.{field, legal}
 use Rattle.data_model.specs.Entry.{Entry, entryOf}
 use Rattle.data_model.specs.declared.entry.Entry.{Entry as EntryValue}
@@ -26,11 +27,9 @@ use Rattle.tree.specs.declared.stored.KeyOrder.{KeyOrder}
 use Rattle.tree.specs.declared.stored.KeyOrder.the-variants.{Spt, Tsp}
 use Rattle.tree.specs.declared.stored.LengthyAuthorisedEntry.{LengthyAuthorisedEntry}
 use Rattle.store.specs.Store.{Store, storeOf, limitMost, treeRoom, dirRoom, treeOf, dirOf, held, heldBy, holding}
-use Rattle.store.specs.Ingest.{stays, filing, filedIn, filed, Decision, refuse, obsolete, take-it, decidedOf, decided, ingestRefusal, judged, MayFile, storeFiled, ingestOutcome, prunedPairs, carried, ingested}
+use Rattle.store.specs.Ingest.{succeeds, IngestSaid, stays, filing, filedIn, filed, Decision, refuse, obsolete, take-it, decidedOf, decided, ingestRefusal, judged, MayFile, storeFiled, ingestOutcome, prunedPairs, carried, ingested}
 use Rattle.store.specs.Forget.{without}
 use Rattle.store.specs.Change.{inTree, Changed, FilesIn}
-use Rattle.store.specs.declared.ingest.Ingested.{Ingested}
-use Rattle.store.specs.declared.ingest.IngestVerdict.the-variants as verdict
 use Rattle.store.proofs.Meaning.{SoundHeld, sound-without, sound-length}
 use Rattle.store.proofs.WellStore.{held-fit}
 use Rattle.store.proofs.HoldingLaws.{tree-holds, dir-holds}
@@ -169,7 +168,7 @@ module _ (limit : ℕ) (l : List Stored) (e : Entry) (prevent : Bool) (d : decid
       (λ r. refuse-taken (rw (n, r, q) at d))
 
 -- The public call, by its answer: filed if it is a success, and nothing changed if not.
-module _ (s : Store) (prune : List ℕ) (e : EntryValue) (token : List ℕ) (prevent : Bool) (r : Ingested) (er : r ≡ ingested field s prune e token prevent .answer) where
+module _ (s : Store) (prune : List ℕ) (e : EntryValue) (token : List ℕ) (prevent : Bool) (r : IngestSaid) (er : r ≡ ingested field s prune e token prevent .answer) where
   judged-may : judged field s prune e prevent ≡ take-it → MayFile field s prune e
   unfolding judged
   judged-may j = split (eqb (ingestRefusal field s prune e) 0)
@@ -182,36 +181,36 @@ module _ (s : Store) (prune : List ℕ) (e : EntryValue) (token : List ℕ) (pre
       })
       (λ q. refuse-taken (rw q at j))
 
-  success-taken : (n : ℕ) → r .verdict ≡ verdict.Success n → judged field s prune e prevent ≡ take-it
+  success-taken : (n : ℕ) → r .verdict ≡ says (succeeds n) → judged field s prune e prevent ≡ take-it
   unfolding ingested
-  success-taken n q = go (judged field s prune e prevent) (ap (λ (a : Ingested). a .verdict) (sym er) ∙ q)
+  success-taken n q = go (judged field s prune e prevent) (ap (λ (a : IngestSaid). a .verdict) (sym er) ∙ q)
     where
-      go : (d : Decision) → carried field s prune (entryOf e) token d .answer .verdict ≡ verdict.Success n → d ≡ take-it
+      go : (d : Decision) → carried field s prune (entryOf e) token d .answer .verdict ≡ says (succeeds n) → d ≡ take-it
       go (refuse k) h = unfold carried in absurd (let z : _≡_ {A = ℕ} 0 1 = cc in omega arith)
       go (obsolete x) h = unfold carried in absurd (let z : _≡_ {A = ℕ} 0 1 = cc in omega arith)
       go take-it h = refl
 
-  pub success-may : (n : ℕ) → r .verdict ≡ verdict.Success n → MayFile field s prune e
+  pub success-may : (n : ℕ) → r .verdict ≡ says (succeeds n) → MayFile field s prune e
   success-may n q = judged-may (success-taken n q)
 
-  pub outcome-filed : (n : ℕ) → r .verdict ≡ verdict.Success n → (spt sptDir tsp tspDir out : List ℕ)
+  pub outcome-filed : (n : ℕ) → r .verdict ≡ says (succeeds n) → (spt sptDir tsp tspDir out : List ℕ)
       → storeOf (storeFiled field s (entryOf e) token .state) spt sptDir tsp tspDir ≡ storeFiled field s (entryOf e) token → out ≡ put (prunedPairs field s (entryOf e)) prune
       → ingestOutcome r spt sptDir tsp tspDir out ≡ ingested field s prune e token prevent
   unfolding ingested carried
   outcome-filed n q spt sptDir tsp tspDir out es eo =
       let j = success-taken n q in
       let a : r ≡ carried field s prune (entryOf e) token take-it .answer = er ∙ ap (λ (d : Decision). carried field s prune (entryOf e) token d .answer) j in
-      ap (λ (x : Ingested). ingestOutcome x spt sptDir tsp tspDir out) a
+      ap (λ (x : IngestSaid). ingestOutcome x spt sptDir tsp tspDir out) a
       ∙ (λ i. record { answer = carried field s prune (entryOf e) token take-it .answer; store = es i; prune = eo i })
       ∙ sym (ap (carried field s prune (entryOf e) token) j)
 
-  pub outcome-same : ((n : ℕ) → r .verdict ≡ verdict.Success n → ⊥) → ingestOutcome r (s .spt) (s .sptDir) (s .tsp) (s .tspDir) prune ≡ ingested field s prune e token prevent
+  pub outcome-same : ((n : ℕ) → r .verdict ≡ says (succeeds n) → ⊥) → ingestOutcome r (s .spt) (s .sptDir) (s .tsp) (s .tspDir) prune ≡ ingested field s prune e token prevent
   unfolding ingested
   outcome-same h =
-      ap (λ (x : Ingested). ingestOutcome x (s .spt) (s .sptDir) (s .tsp) (s .tspDir) prune) er
-      ∙ go (judged field s prune e prevent) λ n q. h n (ap (λ (a : Ingested). a .verdict) er ∙ q)
+      ap (λ (x : IngestSaid). ingestOutcome x (s .spt) (s .sptDir) (s .tsp) (s .tspDir) prune) er
+      ∙ go (judged field s prune e prevent) λ n q. h n (ap (λ (a : IngestSaid). a .verdict) er ∙ q)
     where
-      go : (d : Decision) → ((n : ℕ) → carried field s prune (entryOf e) token d .answer .verdict ≡ verdict.Success n → ⊥)
+      go : (d : Decision) → ((n : ℕ) → carried field s prune (entryOf e) token d .answer .verdict ≡ says (succeeds n) → ⊥)
           → ingestOutcome (carried field s prune (entryOf e) token d .answer) (s .spt) (s .sptDir) (s .tsp) (s .tspDir) prune ≡ carried field s prune (entryOf e) token d
       go (refuse k) g = unfold carried in refl
       go (obsolete x) g = unfold carried in refl

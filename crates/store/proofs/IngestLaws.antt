@@ -16,6 +16,7 @@ use Rattle.laws.proofs.Truth.{split, clash}
 use Rattle.layout.specs.Layout.{records, recordAt}
 use Rattle.layout.specs.Marks.{marksOf, firstMark}
 use Rattle.layout.proofs.MarkLaws.{length-marks, kept-marks, count-marks, length-kept, first-none}
+use Rattle.data_model.specs.Said.{refuses, says}
 use Rattle.data_model.specs.Path.{field, legal}
 use Rattle.data_model.specs.Entry.{Entry, entryOf}
 use Rattle.data_model.specs.declared.entry.Entry.{Entry as EntryValue}
@@ -28,9 +29,7 @@ use Rattle.tree.proofs.FormedLaws.{formed-bounds}
 use Rattle.tree.proofs.FormedContents.{formed-many, formed-next}
 use Rattle.store.specs.Store.{Store, dirRoom, treeOf, dirOf, held, heldBy, holding, treeRoom}
 use Rattle.store.specs.Refusal.{unless, _orElse_, storeRefusal}
-use Rattle.store.specs.Ingest.{Decision, refuse, obsolete, take-it, firstThat, decidedOf, decided, stays, outdatedAt, removedFrom, placeDecided, ingestRefusal, judged, plainAnswer, obsoleteAnswer, stateWith, filed, filedIn, filing, carried, ingested}
-use Rattle.store.specs.declared.ingest.Ingested.{Ingested}
-use Rattle.store.specs.declared.ingest.IngestVerdict.the-variants as verdict
+use Rattle.store.specs.Ingest.{succeeds, IngestSaid, Decision, refuse, obsolete, take-it, firstThat, decidedOf, decided, stays, outdatedAt, removedFrom, placeDecided, ingestRefusal, judged, plainAnswer, obsoleteAnswer, stateWith, filed, filedIn, filing, carried, ingested}
 use Rattle.store.specs.declared.ingest.PlaceDecision.{PlaceDecision}
 use Rattle.store.specs.declared.ingest.PlaceDecision.the-variants as place
 use Rattle.store.proofs.CheckLaws.{or-none, unless-none, Passed, passed}
@@ -179,7 +178,7 @@ ready-formed s prune e v = v .passes .formed Spt
 
 -- The answers.
 module _ (s : Store) (prune : List ℕ) (e : EntryValue) (token : List ℕ) (prevent : Bool) where
-  pub answers-refused : (n : ℕ) → n ≡ ingestRefusal field s prune e → (n ≡ 0 → ⊥) → (r : Ingested) → r ≡ plainAnswer (verdict.Refused n) (s .state) → r ≡ ingested field s prune e token prevent .answer
+  pub answers-refused : (n : ℕ) → n ≡ ingestRefusal field s prune e → (n ≡ 0 → ⊥) → (r : IngestSaid) → r ≡ plainAnswer (refuses n) (s .state) → r ≡ ingested field s prune e token prevent .answer
   unfolding ingested judged carried
   answers-refused n q h r er = rw (er, ← q, ne-eqb n 0 h)
 
@@ -195,7 +194,7 @@ module _ (s : Store) (prune : List ℕ) (e : EntryValue) (token : List ℕ) (pre
     unfolding ingested
     answers x = ap (λ (j : Decision). carried field s prune (entryOf e) token j .answer) (judged-place x)
 
-    pub answers-late : (k : ℕ) → d ≡ place.Refuse k → (r : Ingested) → r ≡ plainAnswer (verdict.Refused k) (s .state) → r ≡ ingested field s prune e token prevent .answer
+    pub answers-late : (k : ℕ) → d ≡ place.Refuse k → (r : IngestSaid) → r ≡ plainAnswer (refuses k) (s .state) → r ≡ ingested field s prune e token prevent .answer
     unfolding meant carried
     answers-late k q r er =
         let x = stored Spt field (s .state .«namespace_id») [] in
@@ -204,7 +203,7 @@ module _ (s : Store) (prune : List ℕ) (e : EntryValue) (token : List ℕ) (pre
     pub old-bounds : (k : ℕ) → d ≡ place.Old k → InBounds k (sptDirIn s) (sptIn s)
     old-bounds k q = formed-bounds formed k (omega (arith, place-old (s .state .limit) (inSpt s) (entryOf e) prevent k (sym ed ∙ q), formed-many formed (s .state .«namespace_id»)))
 
-    pub answers-old : (k : ℕ) → d ≡ place.Old k → (r : Ingested) → r ≡ obsoleteAnswer (s .state) (stored Spt field (s .state .«namespace_id») (recordAt k (sptDirIn s) (sptIn s)))
+    pub answers-old : (k : ℕ) → d ≡ place.Old k → (r : IngestSaid) → r ≡ obsoleteAnswer (s .state) (stored Spt field (s .state .«namespace_id») (recordAt k (sptDirIn s) (sptIn s)))
         → r ≡ ingested field s prune e token prevent .answer
     unfolding meant carried
     answers-old k q r er =
@@ -221,7 +220,7 @@ module _ (s : Store) (prune : List ℕ) (e : EntryValue) (token : List ℕ) (pre
         let m = formed-many formed (s .state .«namespace_id») in
         (omega (arith, left-number (removes (entryOf e)) (inSpt s)), omega arith)
 
-    pub answers-take : (n : ℕ) → d ≡ place.Take n → (r : Ingested) → r ≡ plainAnswer (verdict.Success n) (stateWith (s .state) (s .state .count - n + 1))
+    pub answers-take : (n : ℕ) → d ≡ place.Take n → (r : IngestSaid) → r ≡ plainAnswer (says (succeeds n)) (stateWith (s .state) (s .state .count - n + 1))
         → r ≡ ingested field s prune e token prevent .answer
     unfolding meant carried holding filed filedIn heldBy held treeOf dirOf
     answers-take n q r er =
@@ -232,8 +231,8 @@ module _ (s : Store) (prune : List ℕ) (e : EntryValue) (token : List ℕ) (pre
         let c : s .state .count - n + 1 ≡ length (filedIn Spt (filing (entryOf e) token) (inSpt s)) =
         omega (arith, stay-number (s .state .limit) (inSpt s) (entryOf e) prevent, files-length (filing (entryOf e) token) (inSpt s)) in
         er
-        ∙ ap (λ (i : ℕ). plainAnswer (verdict.Success n) (stateWith (s .state) i)) c
-        ∙ ap (λ (i : ℕ). plainAnswer (verdict.Success i) (stateWith (s .state) (length (filedIn Spt (filing (entryOf e) token) (inSpt s))))) (sym a)
+        ∙ ap (λ (i : ℕ). plainAnswer (says (succeeds n)) (stateWith (s .state) i)) c
+        ∙ ap (λ (i : ℕ). plainAnswer (says (succeeds i)) (stateWith (s .state) (length (filedIn Spt (filing (entryOf e) token) (inSpt s))))) (sym a)
         ∙ sym (answers x ∙ ap (λ (j : PlaceDecision). carried field s prune (entryOf e) token (meant (inSpt s) x j) .answer) q)
       where
         files-length : (y : Stored) (l : List Stored) → length (filedIn Spt y l) ≡ suc (length (keep (stays (y .entry)) l))

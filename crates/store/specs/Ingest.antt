@@ -12,6 +12,7 @@ use Rattle.laws.specs.Prefix.{sameNumber, sameList}
 use Rattle.laws.specs.Sorted.{any, keep, insert}
 use Rattle.layout.specs.Layout.{records}
 use Rattle.layout.specs.Marks.{marksOf, firstMark, markedPairs}
+use Rattle.data_model.specs.Said.{Said, refuses, says}
 use Rattle.data_model.specs.Path.{Figures, legal, pathOf}
 use Rattle.data_model.specs.Subspace.{firstSubspace}
 use Rattle.data_model.specs.Entry.{Entry, entryOf}
@@ -31,11 +32,26 @@ use Rattle.store.specs.declared.ingest.Ingested.{Ingested}
 use Rattle.store.specs.declared.ingest.PlaceDecision.{PlaceDecision}
 use Rattle.store.specs.declared.ingest.PlaceDecision.the-variants as place
 
--- 01's number of each case: 0, unless it is refused.
-unfoldable pub verdictNumber : IngestVerdict → ℕ
-verdictNumber (verdict.Success n) = 0
-verdictNumber verdict.Obsolete = 0
-verdictNumber (verdict.Refused n) = n
+-- What an ingestion that is not refused says: success, and how many entries it pruned; or that the entry is obsolete.
+pub data Verdict : Type 0 where
+  succeeds : (pruned : ℕ) → Verdict
+  is-obsolete : Verdict
+
+-- What each case of a verdict says: its number and its values.
+unfoldable pub verdictSays : IngestVerdict → Said Verdict
+verdictSays (verdict.Success n) = says (succeeds n)
+verdictSays verdict.Obsolete = says is-obsolete
+verdictSays (verdict.Refused n) = refuses n
+
+-- The whole answer: the verdict, the state, and the newer entry and its token.
+pub record IngestSaid : Type 0 where
+  pub verdict : Said Verdict
+  pub state : State
+  pub newer : EntryValue
+  pub token : List ℕ
+
+abbrev pub ingestedSays : Ingested → IngestSaid
+ingestedSays r = record { verdict = verdictSays (r .verdict); state = r .state; newer = r .newer; token = r .token }
 
 -- The orders of the two trees, on entries.
 abbrev pub sptLess : Stored → Stored → Bool
@@ -124,11 +140,11 @@ noEntry = record {
   «payload_digest» = replicate 32 0;
 }
 
-abbrev pub plainAnswer : IngestVerdict → State → Ingested
+abbrev pub plainAnswer : Said Verdict → State → IngestSaid
 plainAnswer v s = record { verdict = v; state = s; newer = noEntry; token = replicate 64 0 }
 
-abbrev pub obsoleteAnswer : State → Stored → Ingested
-obsoleteAnswer s x = record { verdict = verdict.Obsolete; state = s; newer = lengthy x .entry; token = x .token }
+abbrev pub obsoleteAnswer : State → Stored → IngestSaid
+obsoleteAnswer s x = record { verdict = says is-obsolete; state = s; newer = lengthy x .entry; token = x .token }
 
 -- A state with another count.
 abbrev pub stateWith : State → (count : ℕ) → State
@@ -140,11 +156,11 @@ storeFiled f s e token = holding f (filed (filing e token) (heldBy f s)) s
 
 -- The answer, the store and the prune list afterwards.
 pub record IngestOutcome : Type 0 where
-  pub answer : Ingested
+  pub answer : IngestSaid
   pub store : Store
   pub prune : List ℕ
 
-abbrev pub ingestOutcome : Ingested → List ℕ → List ℕ → List ℕ → List ℕ → List ℕ → IngestOutcome
+abbrev pub ingestOutcome : IngestSaid → List ℕ → List ℕ → List ℕ → List ℕ → List ℕ → IngestOutcome
 ingestOutcome r a b c d prune = record { answer = r; store = storeOf (r .state) a b c d; prune = prune }
 
 -- The pairs of what an entry removes, as they stand in the subspace-first tree, in key order.
@@ -160,10 +176,10 @@ pub record Pruned (f : Figures) (s : Store) (e : Entry) : Type 0 where
   pub entries : contents Spt f (s .state .«namespace_id») (records (length (keep (removes e) (held f Spt s))) (prunedPairs f s e) (treeOf f Spt s)) ≡ keep (removes e) (held f Spt s)
 
 unfoldable pub carried : Figures → Store → (prune : List ℕ) → Entry → (token : List ℕ) → Decision → IngestOutcome
-carried f s prune e token (refuse n) = record { answer = plainAnswer (verdict.Refused n) (s .state); store = s; prune = prune }
+carried f s prune e token (refuse n) = record { answer = plainAnswer (refuses n) (s .state); store = s; prune = prune }
 carried f s prune e token (obsolete x) = record { answer = obsoleteAnswer (s .state) x; store = s; prune = prune }
 carried f s prune e token take-it = record {
-  answer = plainAnswer (verdict.Success (length (keep (removes e) (held f Spt s)))) (holding f (filed (filing e token) (heldBy f s)) s .state);
+  answer = plainAnswer (says (succeeds (length (keep (removes e) (held f Spt s))))) (holding f (filed (filing e token) (heldBy f s)) s .state);
   store = holding f (filed (filing e token) (heldBy f s)) s;
   prune = put (prunedPairs f s e) prune;
 }

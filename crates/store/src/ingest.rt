@@ -39,7 +39,7 @@ ghost use Rattle.tree.specs.Matching.{removes};
 ghost use Rattle.tree.specs.Tree.{Formed, InBounds};
 ghost use Rattle.tree.specs.declared.stored.KeyOrder.the-variants.{Spt};
 ghost use Rattle.store.specs.Store.{limitMost, storeOf};
-ghost use Rattle.store.specs.Ingest.{MayFile, noEntry, plainAnswer, obsoleteAnswer, stateWith, storeFiled, placeDecided, prunedPairs, ingestRefusal, ingestOutcome, ingested};
+ghost use Rattle.store.specs.Ingest.{verdictSays, ingestedSays, MayFile, noEntry, plainAnswer, obsoleteAnswer, stateWith, storeFiled, placeDecided, prunedPairs, ingestRefusal, ingestOutcome, ingested};
 ghost use Rattle.store.specs.declared.ingest.IngestVerdict.the-variants as verdict;
 
 // Success says how many entries were pruned.
@@ -169,7 +169,7 @@ pub fn zero_entry() -> Entry
 }
 
 fn plain_answer(verdict: IngestVerdict, state: State) -> Ingested
-    ensures { λ r. ⌜ r ≡ plainAnswer verdict state ⌝ }
+    ensures { λ r. ⌜ ingestedSays r ≡ plainAnswer (verdictSays verdict) state ⌝ }
 {
     let newer = zero_entry();
     Ingested {
@@ -183,7 +183,7 @@ fn plain_answer(verdict: IngestVerdict, state: State) -> Ingested
 // The answer to an entry that the one at a place outdates.
 fn obsolete_answer(state: State, spt: &[u8], spt_dir: &[u32], k: usize) -> Ingested
     requires { ⌜ InBounds k (now «spt_dir») (now spt) ⌝ }
-    ensures { λ r. ⌜ r ≡ obsoleteAnswer state (stored Spt field (state .«namespace_id») (recordAt k (now («spt_dir» .entry)) (now (spt .entry)))) ⌝ }
+    ensures { λ r. ⌜ ingestedSays r ≡ obsoleteAnswer state (stored Spt field (state .«namespace_id») (recordAt k (now («spt_dir» .entry)) (now (spt .entry)))) ⌝ }
 {
     let namespace = state.namespace_id;
     let a = stored_at(KeyOrder::Spt, namespace, spt_dir, spt, k);
@@ -199,7 +199,7 @@ fn obsolete_answer(state: State, spt: &[u8], spt_dir: &[u32], k: usize) -> Inges
 
 fn taken_answer(state: State, n: usize) -> Ingested
     requires { ⌜ (n ≤ state .count) × (state .count - n < state .limit) ⌝ }
-    ensures { λ r. ⌜ r ≡ plainAnswer (verdict.Success n) (stateWith state (state .count - n + 1)) ⌝ }
+    ensures { λ r. ⌜ ingestedSays r ≡ plainAnswer (verdictSays (verdict.Success n)) (stateWith state (state .count - n + 1)) ⌝ }
 {
     let namespace_id = state.namespace_id;
     let count = state.count - n + 1;
@@ -223,7 +223,7 @@ fn ingest_answer(
     token: [u8; 64],
     prevent_pruning: bool,
 ) -> Ingested
-    ensures { λ r. ⌜ r ≡ ingested field (storeOf state (now (spt .entry)) (now («spt_dir» .entry)) (now (tsp .entry)) (now («tsp_dir» .entry))) (now (prune .entry)) entry token «prevent_pruning» .answer ⌝ }
+    ensures { λ r. ⌜ ingestedSays r ≡ ingested field (storeOf state (now (spt .entry)) (now («spt_dir» .entry)) (now (tsp .entry)) (now («tsp_dir» .entry))) (now (prune .entry)) entry token «prevent_pruning» .answer ⌝ }
 {
     let refusal = ingest_refusal(state, spt, spt_dir, tsp, tsp_dir, prune, entry);
     if refusal != 0 {
@@ -330,7 +330,7 @@ pub fn ingest_entry_numbers(
     token: [u8; 64],
     prevent_pruning: bool,
 ) -> Ingested
-    ensures { λ r. ⌜ ingestOutcome r (now (spt .exit)) (now («spt_dir» .exit)) (now (tsp .exit)) (now («tsp_dir» .exit)) (now (prune .exit)) ≡ ingested field (storeOf state (now (spt .entry)) (now («spt_dir» .entry)) (now (tsp .entry)) (now («tsp_dir» .entry))) (now (prune .entry)) entry token «prevent_pruning» ⌝ }
+    ensures { λ r. ⌜ ingestOutcome (ingestedSays r) (now (spt .exit)) (now («spt_dir» .exit)) (now (tsp .exit)) (now («tsp_dir» .exit)) (now (prune .exit)) ≡ ingested field (storeOf state (now (spt .entry)) (now («spt_dir» .entry)) (now (tsp .entry)) (now («tsp_dir» .entry))) (now (prune .entry)) entry token «prevent_pruning» ⌝ }
 {
     let given = ingest_answer(
         state,

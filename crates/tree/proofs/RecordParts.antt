@@ -16,12 +16,11 @@ use Rattle.layout.specs.Buffers.{written}
 use Rattle.layout.specs.Layout.{recordAt}
 use Rattle.data_model.specs.Path.{Figures, field, joined, components, legal, isPath}
 use Rattle.data_model.specs.Entry.{entryOf, rankOf}
+use Rattle.data_model.specs.Said.{Said, says}
 use Rattle.keys.specs.Encode.{be, Triple, triple, sptKey, tspKey, keyMost, encoded, encodedIn, roomy}
 use Rattle.keys.specs.Decode.{Taken, refused, took, readSpt, readTsp, number, decoded, wasRead}
 use Rattle.data_model.specs.declared.path.Path.{Path}
 use Rattle.data_model.specs.declared.parameters.Subspace.{Subspace}
-use Rattle.keys.specs.declared.encode.Encoded.{Encoded}
-use Rattle.keys.specs.declared.encode.Encoded.the-variants.{Written}
 use Rattle.keys.specs.declared.decode.Decoded.{Decoded}
 use Rattle.keys.proofs.Encoding.{be-length, legal-most}
 use Rattle.key_laws.proofs.KeyLength.{spt-length, tsp-length}
@@ -191,12 +190,12 @@ stored-says o ns k dir tree key value r bytes ek ev e =
     )
 
 -- What an encoder has written whose buffer has room for any key.
-module _ (o : KeyOrder) (f : Figures) (s : Subspace) (p : Path) (t : ℕ) (h : legal f p ≡ true) (old out : List ℕ) (room : keyMost f ≤ length old) (done : Encoded) (n : ℕ) (e : n ≡ writtenLength done) where
+module _ (o : KeyOrder) (f : Figures) (s : Subspace) (p : Path) (t : ℕ) (h : legal f p ≡ true) (old out : List ℕ) (room : keyMost f ≤ length old) (done : Said ℕ) (n : ℕ) (e : n ≡ writtenLength done) where
   wrote-key : (key : List ℕ) → done ≡ encoded (roomy f old) (legal f p) key → out ≡ encodedIn (roomy f old) (legal f p) key old → (n ≡ length key) × (out ≡ put key old)
   unfolding roomy encoded encodedIn writtenLength
   wrote-key key d g =
       let q : leb (keyMost f) (length old) ≡ true = le-leb (keyMost f) (length old) room in
-      let a : done ≡ Written (length key) = simp (q, h) at d in
+      let a : done ≡ says (length key) = simp (q, h) at d in
       let b : out ≡ put key old = simp (q, h) at g in
       (e ∙ ap writtenLength a, b)
 

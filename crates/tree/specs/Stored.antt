@@ -7,13 +7,12 @@ use lib.ListN.{length, take, drop, getD}
 use lib.Dec.{leb}
 use Rattle.laws.specs.Order.{Order, below, on}
 use Rattle.laws.specs.Prefix.{sameNumber, sameList}
+use Rattle.data_model.specs.Said.{Said, refuses, says}
 use Rattle.data_model.specs.Path.{Figures, isPath, pathOf, samePath, byBytes}
 use Rattle.data_model.specs.Subspace.{firstSubspace, sameSubspace}
 use Rattle.data_model.specs.Entry.{Entry, entryOf}
 use Rattle.keys.specs.Encode.{Triple, triple, sptKey, tspKey}
 use Rattle.keys.specs.Decode.{Taken, refused, took, readSpt, readTsp, wasRead}
-use Rattle.keys.specs.declared.encode.Encoded.{Encoded}
-use Rattle.keys.specs.declared.encode.Encoded.the-variants.{Written, Refused}
 use Rattle.key_laws.specs.KeyOrder.{Sized, sptOrder, tspOrder}
 use Rattle.tree.specs.Value.{valueLength, valueBytes, readValue, isValue}
 use Rattle.tree.specs.declared.value.Value.{Value}
@@ -85,9 +84,9 @@ contents o f namespace [] = []
 contents o f namespace (r ∷ rs) = stored o f namespace r ∷ contents o f namespace rs
 
 -- How many bytes an encoder has written.
-unfoldable pub writtenLength : Encoded → ℕ
-writtenLength (Written n) = n
-writtenLength (Refused r) = 0
+unfoldable pub writtenLength : Said ℕ → ℕ
+writtenLength (says n) = n
+writtenLength (refuses r) = 0
 
 -- The record of what is stored.
 unfoldable pub tripleOf : Entry → Triple

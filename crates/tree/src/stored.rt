@@ -22,9 +22,9 @@ ghost use mathlib.Core.Bool.{true};
 ghost use Prim.Native.Nat.{_+_, _≤_};
 ghost use lib.ListN.{length};
 ghost use Rattle.laws.specs.Lists.{put};
-ghost use Rattle.layout.specs.Layout.{recordAt};
+ghost use Rattle.layout.specs.Layout.{recordAt, offsetAt, partBegins};
 ghost use Rattle.data_model.specs.Path.{field, legal, components};
-ghost use Rattle.keys.specs.Encode.{triple, keyMost};
+ghost use Rattle.keys.specs.Encode.{triple, keyMost, encodedSays};
 ghost use Rattle.keys.specs.Decode.{decoded};
 ghost use Rattle.tree.specs.Value.{valueLength, readValue};
 ghost use Rattle.tree.specs.Stored.{writtenLength, keyIn, readIn, keyOf, valuePart, isKey, isRecord, tripleRead, storedFrom, stored, recordOf, lengthy, storedOf};
@@ -54,7 +54,7 @@ pub fn decode_key(order: KeyOrder, key: &[u8]) -> Decoded
 }
 
 fn written_length(done: Encoded) -> usize
-    ensures { λ r. ⌜ r ≡ writtenLength done ⌝ }
+    ensures { λ r. ⌜ r ≡ writtenLength (encodedSays done) ⌝ }
 {
     match done {
         Encoded::Written(n) => n,
@@ -96,10 +96,11 @@ pub fn is_record(order: KeyOrder, rec: &[u8]) -> bool
     is_value(&rec[n..])
 }
 
-// Record k as a part of the tree.
+// Record k as a part of the tree: its bytes, and where they lie.
 pub fn record_at<'a>(tree: &'a [u8], dir: &[u32], k: usize) -> &'a [u8]
     requires { ⌜ InBounds k (now dir) (now tree) ⌝ }
     ensures { λ r. ⌜ now r ≡ recordAt k (now (dir .entry)) (now (tree .entry)) ⌝ }
+    ensures { λ r. ⌜ partBegins (tree .entry .ptr) (r .ptr) (offsetAt k (now (dir .entry))) ⌝ }
 {
     let o = offset(dir, k);
     let e = o + size(dir, k);

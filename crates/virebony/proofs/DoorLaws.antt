@@ -3,28 +3,27 @@ use Prim.Native.Nat.{ℕ}
 use mathlib.Core.Path.{_≡_, ap, _∙_}
 use mathlib.Core.Bool.{Bool, _&&_}
 use mathlib.Core.List.{List}
+use mathlib.Core.Option.{Option}
 use lib.ListN.{take, drop}
+use Rattle.data_model.specs.Said.{Said}
 use Rattle.data_model.specs.Path.{field, legal, components}
 use Rattle.data_model.specs.Area.{areaIncludes}
 use Rattle.data_model.specs.Range.{legalRange}
 use Rattle.data_model.specs.Range3d.{rangeIncludes}
 use Rattle.data_model.specs.Refusal.{answered}
 use Rattle.data_model.specs.declared.area.Area.{Area}
-use Rattle.data_model.specs.declared.answer.Answer.{Answer}
 use Rattle.data_model.specs.declared.entry.Entry.{Entry}
 use Rattle.data_model.specs.declared.parameters.Subspace.{Subspace}
 use Rattle.data_model.specs.declared.path.Path.{Path}
 use Rattle.data_model.specs.declared.«range_3d».Range3d.{Range3d}
 use Rattle.tree.specs.declared.matching.QueryIgnoreParams.{QueryIgnoreParams}
 use Rattle.store.specs.Store.{Store}
-use Rattle.store.specs.Ingest.{ingestOutcome, ingested}
+use Rattle.store.specs.Ingest.{IngestSaid, ingestedSays, ingestOutcome, ingested}
 use Rattle.store.specs.Forget.{areaForgotten, ForgetAreaOutcome}
-use Rattle.store.specs.declared.ingest.Ingested.{Ingested}
 use Rattle.pairs.specs.Pairs.{pairsOf, pairsOutcome, pairsIngested}
 use Rattle.pairs.specs.declared.Pair.{Pair}
 use Rattle.pairs.specs.declared.NumbersIngested.{NumbersIngested}
-use Rattle.query.specs.Listing.{areaListed, areaPart, rangeListed, rangePart, part}
-use Rattle.query.specs.declared.answer.Listed.{Listed}
+use Rattle.query.specs.Listing.{areaListed, areaPart, rangeListed, rangePart, part, partOf, offsetOf}
 use Rattle.query.proofs.FoundLaws.{part-listed}
 use Rattle.plain.specs.Answer.{plainAnswer, plainListed, plainIngested, plainNumbers}
 use Rattle.plain.specs.Part.{plainPart}
@@ -36,12 +35,12 @@ use Rattle.plain.specs.declared.part.PlainPart.{PlainPart}
 use Rattle.virebony.specs.Outcome.{numbersLeft, toldNumbers, pairsLeft, toldPairs}
 
 -- An ingestion over numbers: its outcome, the answer plain and the flag read.
-pub told : (s : Store) (prune : List ℕ) (e : Entry) (token : List ℕ) (flag prevent : Bool) → flag ≡ prevent → (g : Ingested) (a b c d p : List ℕ) → ingestOutcome g a b c d p ≡ ingested field s prune e token flag → (r : PlainIngested) → r ≡ plainIngested g → numbersLeft r a b c d p ≡ toldNumbers (ingested field s prune e token prevent)
+pub told : (s : Store) (prune : List ℕ) (e : Entry) (token : List ℕ) (flag prevent : Bool) → flag ≡ prevent → (g : IngestSaid) (a b c d p : List ℕ) → ingestOutcome g a b c d p ≡ ingested field s prune e token flag → (r : PlainIngested) → r ≡ plainIngested g → numbersLeft r a b c d p ≡ toldNumbers (ingested field s prune e token prevent)
 told s prune e token flag prevent ef g a b c d p eg r er =
     ap (λ (x : PlainIngested). numbersLeft x a b c d p) er ∙ ap toldNumbers (eg ∙ ap (ingested field s prune e token) ef)
 
 -- An ingestion over pairs by value: likewise, with the pairs that the numbers spell.
-pub told-by-value : (s : Store) (prune : List Pair) (e : Entry) (token : List ℕ) (flag prevent : Bool) → flag ≡ prevent → (g : NumbersIngested) (a b c d : List ℕ) → pairsOutcome (g .ingested) a b c d (pairsOf (g .numbers)) ≡ pairsIngested field s prune e token flag → (r : PlainNumbersIngested) → r ≡ plainNumbers g → pairsLeft (r .ingested) a b c d (pairsOf (r .numbers)) ≡ toldPairs (pairsIngested field s prune e token prevent)
+pub told-by-value : (s : Store) (prune : List Pair) (e : Entry) (token : List ℕ) (flag prevent : Bool) → flag ≡ prevent → (g : NumbersIngested) (a b c d : List ℕ) → pairsOutcome (ingestedSays (g .ingested)) a b c d (pairsOf (g .numbers)) ≡ pairsIngested field s prune e token flag → (r : PlainNumbersIngested) → r ≡ plainNumbers g → pairsLeft (r .ingested) a b c d (pairsOf (r .numbers)) ≡ toldPairs (pairsIngested field s prune e token prevent)
 told-by-value s prune e token flag prevent ef g a b c d eg r er =
     ap (λ (x : PlainNumbersIngested). pairsLeft (x .ingested) a b c d (pairsOf (x .numbers))) er ∙ ap toldPairs (eg ∙ ap (pairsIngested field s prune e token) ef)
 
@@ -51,23 +50,24 @@ forgotten s a a′ ea b b′ eb k k′ ek o eo =
     eo ∙ ap (λ (x : Area). areaForgotten field s x b k) ea ∙ ap (λ (x : Bool). areaForgotten field s a′ x k) eb ∙ ap (areaForgotten field s a′ b′) ek
 
 -- Whether an area or a range includes a triple: the area or the range read, the answer plain.
-pub area-told : (a a′ : Area) → a ≡ a′ → (u : Subspace) (p : Path) (t : ℕ) (w : Answer) → w ≡ answered (legal field (a .path) && legal field p) (areaIncludes a u (components p) t) → (r : PlainAnswer) → r ≡ plainAnswer w → r ≡ plainAnswer (answered (legal field (a′ .path) && legal field p) (areaIncludes a′ u (components p) t))
+pub area-told : (a a′ : Area) → a ≡ a′ → (u : Subspace) (p : Path) (t : ℕ) (w : Said Bool) → w ≡ answered (legal field (a .path) && legal field p) (areaIncludes a u (components p) t) → (r : PlainAnswer) → r ≡ plainAnswer w → r ≡ plainAnswer (answered (legal field (a′ .path) && legal field p) (areaIncludes a′ u (components p) t))
 area-told a a′ ea u p t w ew r er =
     er ∙ ap plainAnswer (ew ∙ ap (λ (x : Area). answered (legal field (x .path) && legal field p) (areaIncludes x u (components p) t)) ea)
 
-pub range-told : (a a′ : Range3d) → a ≡ a′ → (u : Subspace) (p : Path) (t : ℕ) (w : Answer) → w ≡ answered (legalRange field (a .paths) && legal field p) (rangeIncludes a u (components p) t) → (r : PlainAnswer) → r ≡ plainAnswer w → r ≡ plainAnswer (answered (legalRange field (a′ .paths) && legal field p) (rangeIncludes a′ u (components p) t))
+pub range-told : (a a′ : Range3d) → a ≡ a′ → (u : Subspace) (p : Path) (t : ℕ) (w : Said Bool) → w ≡ answered (legalRange field (a .paths) && legal field p) (rangeIncludes a u (components p) t) → (r : PlainAnswer) → r ≡ plainAnswer w → r ≡ plainAnswer (answered (legalRange field (a′ .paths) && legal field p) (rangeIncludes a′ u (components p) t))
 range-told a a′ ea u p t w ew r er =
     er ∙ ap plainAnswer (ew ∙ ap (λ (x : Range3d). answered (legalRange field (x .paths) && legal field p) (rangeIncludes x u (components p) t)) ea)
 
 -- A listing over any test that two values give: read, the answer plain, and where the record lies.
-module _ (s : Store) (l l′ : Listed) (el : l ≡ l′) where
+module _ (s : Store) (l l′ : Said (Option ℕ)) (el : l ≡ l′) where
   pub listed-told : (r : PlainListed) → r ≡ plainListed l → r ≡ plainListed l′
   listed-told r er = er ∙ ap plainListed el
 
-  pub part-named : (r : PlainPart) → r ≡ plainPart (s .sptDir) l → r ≡ plainPart (s .sptDir) l′
-  part-named r er = er ∙ ap (plainPart (s .sptDir)) el
+  pub part-named : (r : PlainPart) → r ≡ plainPart (offsetOf (s .sptDir) l) (part field (s .state .limit) (s .sptDir) (s .spt) l) → r ≡ plainPart (offsetOf (s .sptDir) l′) (partOf field s l′)
+  unfolding partOf
+  part-named r er = er ∙ ap (λ (x : Said (Option ℕ)). plainPart (offsetOf (s .sptDir) x) (partOf field s x)) el
 
-module _ (s : Store) (i i′ : QueryIgnoreParams) (ei : i ≡ i′) (place : ℕ) (l : Listed) where
+module _ (s : Store) (i i′ : QueryIgnoreParams) (ei : i ≡ i′) (place : ℕ) (l : Said (Option ℕ)) where
   pub same-area : (a a′ : Area) → a ≡ a′ → l ≡ areaListed field s a i place → l ≡ areaListed field s a′ i′ place
   same-area a a′ ea el = el ∙ ap (λ (x : Area). areaListed field s x i place) ea ∙ ap (λ (x : QueryIgnoreParams). areaListed field s a′ x place) ei
 

@@ -9,8 +9,7 @@ use Rattle.laws.specs.Lists.{put}
 use Rattle.data_model.specs.Path.{field}
 use Rattle.data_model.specs.declared.entry.Entry.{Entry}
 use Rattle.store.specs.Store.{Store, limitMost}
-use Rattle.store.specs.Ingest.{ingestOutcome, ingested}
-use Rattle.store.specs.declared.ingest.Ingested.{Ingested}
+use Rattle.store.specs.Ingest.{IngestSaid, ingestOutcome, ingested}
 use Rattle.pairs.specs.Pairs.{pairsOf, numbersUsed, prunedCount, pairsIngested}
 use Rattle.pairs.specs.declared.Pair.{Pair}
 use Rattle.pairs.proofs.OutcomeLaws.{layered, in-room}
@@ -20,7 +19,7 @@ use Rattle.plain.specs.declared.answer.PlainIngested.{PlainIngested}
 use Rattle.plain.proofs.RowLaws.{length-map}
 use Rattle.virebony.specs.Outcome.{pairsLeft, toldPairs}
 
-module _ (s : Store) (rows : List (List ℕ)) (e : Entry) (token : List ℕ) (flag prevent : Bool) (ef : flag ≡ prevent) (g : Ingested) (a b c d ns : List ℕ) (n : ℕ)
+module _ (s : Store) (rows : List (List ℕ)) (e : Entry) (token : List ℕ) (flag prevent : Bool) (ef : flag ≡ prevent) (g : IngestSaid) (a b c d ns : List ℕ) (n : ℕ)
     (eq : ingestOutcome g a b c d (take (numbersUsed (length rows)) ns) ≡ ingested field s (replicate (numbersUsed (length rows)) 0) e token flag) (en : n ≡ prunedCount (g .verdict)) where
   moved : ingestOutcome g a b c d (take (numbersUsed (length (map pairOf rows))) ns) ≡ ingested field s (replicate (numbersUsed (length (map pairOf rows))) 0) e token flag
   moved = subst (λ (m : ℕ). ingestOutcome g a b c d (take (numbersUsed m) ns) ≡ ingested field s (replicate (numbersUsed m) 0) e token flag) (sym (length-map rows)) eq

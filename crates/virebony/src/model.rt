@@ -23,7 +23,7 @@ ghost use Rattle.data_model.specs.Entry.{entryOf, newer, prunes};
 ghost use Rattle.data_model.specs.Range.{legalRange};
 ghost use Rattle.data_model.specs.Range3d.{rangeIncludes};
 ghost use Rattle.data_model.specs.Area.{areaIncludes, areaRangeAnswer};
-ghost use Rattle.data_model.specs.Refusal.{answered, compared};
+ghost use Rattle.data_model.specs.Refusal.{answered};
 ghost use Rattle.plain.specs.Input.{areaOf, rangeOf};
 ghost use Rattle.plain.specs.Answer.{plainAnswer, plainCompared};
 ghost use Rattle.plain.specs.RangeAnswer.{byteOf, plainAreaRange};
@@ -39,7 +39,7 @@ pub extern "C" fn vb_path_is_legal(p: Path) -> u8
 // `Path::cmp`: how the first path compares with the second, component by component.
 #[no_mangle]
 pub extern "C" fn vb_path_cmp(p: Path, q: Path) -> PlainCompared
-    ensures { λ r. ⌜ r ≡ plainCompared (compared (legal field p && legal field q) (byComponents (components p) (components q))) ⌝ }
+    ensures { λ r. ⌜ r ≡ plainCompared (answered (legal field p && legal field q) (byComponents (components p) (components q))) ⌝ }
 {
     plain_compared(p.cmp(q))
 }

@@ -29,7 +29,7 @@ ghost use lib.ListN.{take, drop};
 ghost use Rattle.data_model.specs.Path.{field};
 ghost use Rattle.store.specs.Store.{storeOf};
 ghost use Rattle.query.specs.Lookup.{entryFound};
-ghost use Rattle.query.specs.Listing.{areaListed, areaPart, rangeListed, rangePart};
+ghost use Rattle.query.specs.Listing.{areaListed, areaPart, areaOffset, rangeListed, rangePart, rangeOffset};
 ghost use Rattle.query.specs.Count.{areaCounted, summarised};
 ghost use Rattle.query.specs.Interest.{interestRange};
 ghost use Rattle.plain.specs.Input.{areaOf, rangeOf, interestOf, ignoreOf};
@@ -74,7 +74,7 @@ pub extern "C" fn vb_query_area_place(
     plain_listed(query_area_place(state, spt, spt_dir, tsp, tsp_dir, whole, flags, place))
 }
 
-// What `query::listing::query_area` answers, by its place: that match's record, as a part of the caller's subspace-first tree; no match or a refusal is 0 and 0.
+// The part that `query::listing::query_area` answers, as offset and length in the caller's subspace-first tree, by the match's place; no match or a refusal is 0 and 0.
 #[no_mangle]
 pub extern "C" fn vb_query_area(
     state: State,
@@ -86,7 +86,7 @@ pub extern "C" fn vb_query_area(
     ignore: PlainIgnore,
     place: usize,
 ) -> PlainPart
-    ensures { λ r. ⌜ r ≡ plainPart (now («spt_dir» .entry)) (areaListed field (storeOf state (now (spt .entry)) (now («spt_dir» .entry)) (now (tsp .entry)) (now («tsp_dir» .entry))) (areaOf area) (ignoreOf ignore) place) ⌝ }
+    ensures { λ r. ⌜ r ≡ plainPart (areaOffset field (storeOf state (now (spt .entry)) (now («spt_dir» .entry)) (now (tsp .entry)) (now («tsp_dir» .entry))) (areaOf area) (ignoreOf ignore) place) (areaPart field (storeOf state (now (spt .entry)) (now («spt_dir» .entry)) (now (tsp .entry)) (now («tsp_dir» .entry))) (areaOf area) (ignoreOf ignore) place) ⌝ }
     ensures { λ r. ⌜ take (r .length) (drop (r .offset) (now (spt .entry))) ≡ areaPart field (storeOf state (now (spt .entry)) (now («spt_dir» .entry)) (now (tsp .entry)) (now («tsp_dir» .entry))) (areaOf area) (ignoreOf ignore) place ⌝ }
 {
     let whole = area_of(area);
@@ -114,7 +114,7 @@ pub extern "C" fn vb_query_range_place(
     plain_listed(query_range_place(state, spt, spt_dir, tsp, tsp_dir, whole, flags, place))
 }
 
-// What `query::listing::query_range` answers, by its place: that match's record, as a part of the caller's subspace-first tree; no match or a refusal is 0 and 0.
+// The part that `query::listing::query_range` answers, as offset and length in the caller's subspace-first tree, by the match's place; no match or a refusal is 0 and 0.
 #[no_mangle]
 pub extern "C" fn vb_query_range(
     state: State,
@@ -126,7 +126,7 @@ pub extern "C" fn vb_query_range(
     ignore: PlainIgnore,
     place: usize,
 ) -> PlainPart
-    ensures { λ r. ⌜ r ≡ plainPart (now («spt_dir» .entry)) (rangeListed field (storeOf state (now (spt .entry)) (now («spt_dir» .entry)) (now (tsp .entry)) (now («tsp_dir» .entry))) (rangeOf range) (ignoreOf ignore) place) ⌝ }
+    ensures { λ r. ⌜ r ≡ plainPart (rangeOffset field (storeOf state (now (spt .entry)) (now («spt_dir» .entry)) (now (tsp .entry)) (now («tsp_dir» .entry))) (rangeOf range) (ignoreOf ignore) place) (rangePart field (storeOf state (now (spt .entry)) (now («spt_dir» .entry)) (now (tsp .entry)) (now («tsp_dir» .entry))) (rangeOf range) (ignoreOf ignore) place) ⌝ }
     ensures { λ r. ⌜ take (r .length) (drop (r .offset) (now (spt .entry))) ≡ rangePart field (storeOf state (now (spt .entry)) (now («spt_dir» .entry)) (now (tsp .entry)) (now («tsp_dir» .entry))) (rangeOf range) (ignoreOf ignore) place ⌝ }
 {
     let whole = range_of(range);

@@ -44,11 +44,11 @@ use denote.Triple.Walked.{says, Stays, stay-none, stay-none-slice, walkOf, goes-
 use denote.Exit.{yes}
 use denote.Triple.Clauses.{ensured, lasts}
 use Rattle.data_model.specs.Path.{field}
-use Rattle.keys.specs.Decode.{componentRead}
+use Rattle.keys.specs.Decode.{StepRead, componentSays, componentRead}
 use Rattle.keys.specs.declared.decode.ComponentRead.{ComponentRead}
 use Rattle.keys.proofs.decode.ComponentRead as S
 use Rattle.keys.proofs.decode.ComponentRead.Laws as S′
-use Rattle.key_reader.specs.Reader.{behind, stepped}
+use Rattle.key_reader.specs.Reader.{behind, steppedSays, stepped}
 use Rattle.key_reader.specs.declared.KeyReader.{KeyReader}
 use Rattle.key_reader.specs.declared.Stepped.{Stepped}
 use Rattle.key_reader.proofs.Lending.{Lent, lends, returned}
@@ -125,13 +125,13 @@ module _ {M : Type 1} (𝓤 : URA M) (H : Heap 𝓤) (A : Atoms 𝓤) (W : Given
 
   -- what `next_component` says: the component that it returns, and the reader that it leaves
   abbrev Took : ComponentRead → KeyReader → Type 0
-  Took c r = (c ≡ componentRead field n (past n (now s))) × (r .bytes ≡ s) × (r .at ≡ behind c n)
+  Took c r = (componentSays c ≡ componentRead field n (past n (now s))) × (r .bytes ≡ s) × (r .at ≡ behind (componentSays c) n)
 
-  took : (c : ComponentRead) (r : KeyReader) (m : ℕ) (left : List ℕ) → Took c r → m ≡ r .at → left ≡ past (r .at) (now (r .bytes)) → record { component = c; position = m; left = length left } ≡ stepped n (now s)
-  unfolding stepped
+  took : (c : ComponentRead) (r : KeyReader) (m : ℕ) (left : List ℕ) → Took c r → m ≡ r .at → left ≡ past (r .at) (now (r .bytes)) → steppedSays (record { component = c; position = m; left = length left }) ≡ stepped n (now s)
+  unfolding steppedSays stepped
   took c r m left e em er =
-      let place : m ≡ behind (componentRead field n (past n (now s))) n = em ∙ (e .2 ∙ ap (λ (d : ComponentRead). behind d n) (e .0)) in
-      let ends : left ≡ past (behind (componentRead field n (past n (now s))) n) (now s) = er ∙ (ap (λ (k : ℕ). past k (now (r .bytes))) (e .2 ∙ ap (λ (d : ComponentRead). behind d n) (e .0)) ∙ ap (λ (t : RefT (List ℕ)). past (behind (componentRead field n (past n (now s))) n) (now t)) (e .1)) in
+      let place : m ≡ behind (componentRead field n (past n (now s))) n = em ∙ (e .2 ∙ ap (λ (d : StepRead). behind d n) (e .0)) in
+      let ends : left ≡ past (behind (componentRead field n (past n (now s))) n) (now s) = er ∙ (ap (λ (k : ℕ). past k (now (r .bytes))) (e .2 ∙ ap (λ (d : StepRead). behind d n) (e .0)) ∙ ap (λ (t : RefT (List ℕ)). past (behind (componentRead field n (past n (now s))) n) (now t)) (e .1)) in
       λ i. record { component = e .0 i; position = place i; left = length (ends i) }
 
   -- the reader of what was passed
@@ -203,7 +203,7 @@ module _ {M : Type 1} (𝓤 : URA M) (H : Heap 𝓤) (A : Atoms 𝓤) (W : Given
   is-made c u m left ic m-fits left-fits =
       ((mach-c c ∷ [], (vint w64 m ∷ [], (vint w64 left ∷ [], tt))), (refl, (subst (λ (zs : List Val). Is S.the-row c zs) (LL.tells S.the-type S′.the-laws c _ ic) ic, ((refl, m-fits), ((refl, left-fits), tt)))))
 
-  exits : (c : ComponentRead) (m left : ℕ) → n < 2 ^ 64 → Is P.the-row (made c m left) (mach-made c m left ∷ []) → made c m left ≡ stepped n (now s)
+  exits : (c : ComponentRead) (m left : ℕ) → n < 2 ^ 64 → Is P.the-row (made c m left) (mach-made c m left ∷ []) → steppedSays (made c m left) ≡ stepped n (now s)
       → ent 𝓤 (⋆ 𝓤 H A ((‵ (flft κ q) ⊛ ‵ ftrue) ∷ ‵ Own ∷ [])) (Post (mach-made c m left))
   exits c m left fits is e =
       qed W ((‵ (flft κ q) ⊛ ‵ ftrue) ∷ ‵ Own ∷ []) ∵

@@ -45,7 +45,7 @@ use denote.Triple.Table.{entered, cited}
 use denote.Triple.Walked.{says, Stays, stay-ref, walkOf, goes-ref, Walks, ends-at, walked, walk-meets}
 use denote.Triple.Clauses.{ensured, lasts}
 use Rattle.data_model.specs.Path.{field}
-use Rattle.keys.specs.Decode.{componentRead}
+use Rattle.keys.specs.Decode.{StepRead, componentSays, componentRead}
 use Rattle.keys.specs.declared.decode.ComponentRead.{ComponentRead}
 use Rattle.keys.proofs.decode.ComponentRead as S
 use Rattle.keys.proofs.decode.ComponentRead.Laws as S′
@@ -103,7 +103,7 @@ module _ {M : Type 1} (𝓤 : URA M) (H : Heap 𝓤) (A : Atoms 𝓤) (W : Given
   abbrev v : Val
   v = sliceVal (h .bytes .ptr) (length (h .bytes .now))
 
-  abbrev found : ComponentRead
+  abbrev found : StepRead
   found = componentRead field (h .at) (past (h .at) (now (h .bytes)))
 
   abbrev at : List Val × Unit {0}
@@ -134,8 +134,8 @@ module _ {M : Type 1} (𝓤 : URA M) (H : Heap 𝓤) (A : Atoms 𝓤) (W : Given
   asked-dec : ent 𝓤 (onEntry 𝓤 H A dec.signature (κ′, tt) (q′, tt) (h .bytes, (h .at, tt)) passed) (Decoder 𝓤 H A at-mem run .pre to-dec)
   asked-dec = qed W ((‵ (flft κ′ q′) ⊛ ‵ ftrue) ∷ ‵ (owns (ShrSlice (named 0) κ′ u8 ∷ usize ∷ []) (h .bytes, (h .at, tt)) passed) ∷ []) ∵ join ! $ frame ! $ done !
 
-  dec-said : (c : ComponentRead) → ent 𝓤 (ensured 𝓤 H A dec.ended (dec.clauses 𝓤 H A at-mem run) (κ′, tt) (h .bytes, (h .at, tt)) tt c) (fact 𝓤 (c ≡ found))
-  dec-said c = exE 𝓤 _ (λ ws. snd∗ 𝓤 (sem 𝓤 H A (lasts dec.ended (κ′, tt) (h .bytes, (h .at, tt)) ws)) (fact 𝓤 (c ≡ found)))
+  dec-said : (c : ComponentRead) → ent 𝓤 (ensured 𝓤 H A dec.ended (dec.clauses 𝓤 H A at-mem run) (κ′, tt) (h .bytes, (h .at, tt)) tt c) (fact 𝓤 (componentSays c ≡ found))
+  dec-said c = exE 𝓤 _ (λ ws. snd∗ 𝓤 (sem 𝓤 H A (lasts dec.ended (κ′, tt) (h .bytes, (h .at, tt)) ws)) (fact 𝓤 (componentSays c ≡ found)))
 
   -- the call of `position_behind`
   abbrev to-beh : ComponentRead → Val → Behind 𝓤 H A at-mem run .Ghost
@@ -144,14 +144,14 @@ module _ {M : Type 1} (𝓤 : URA M) (H : Heap 𝓤) (A : Atoms 𝓤) (W : Given
   asked-beh : (c : ComponentRead) (u : Val) → ent 𝓤 (onEntry 𝓤 H A beh.signature tt tt (c, (h .at, tt)) (u ∷ [], (vint w64 (h .at) ∷ [], tt))) (Behind 𝓤 H A at-mem run .pre (to-beh c u))
   asked-beh c u = qed W (‵ ftrue ∷ ‵ (owns (S.the-row ∷ usize ∷ []) (c, (h .at, tt)) (u ∷ [], (vint w64 (h .at) ∷ [], tt))) ∷ []) ∵ join ! $ frame ! $ done !
 
-  beh-said : (c : ComponentRead) (n : ℕ) → ent 𝓤 (ensured 𝓤 H A beh.ended (beh.clauses 𝓤 H A at-mem run) tt (c, (h .at, tt)) tt n) (fact 𝓤 (n ≡ behind c (h .at)))
-  beh-said c n = exE 𝓤 _ (λ ws. snd∗ 𝓤 (sem 𝓤 H A (lasts beh.ended tt (c, (h .at, tt)) ws)) (fact 𝓤 (n ≡ behind c (h .at))))
+  beh-said : (c : ComponentRead) (n : ℕ) → ent 𝓤 (ensured 𝓤 H A beh.ended (beh.clauses 𝓤 H A at-mem run) tt (c, (h .at, tt)) tt n) (fact 𝓤 (n ≡ behind (componentSays c) (h .at)))
+  beh-said c n = exE 𝓤 _ (λ ws. snd∗ 𝓤 (sem 𝓤 H A (lasts beh.ended tt (c, (h .at, tt)) ws)) (fact 𝓤 (n ≡ behind (componentSays c) (h .at))))
 
   -- what bytes owns is kept, and at's facts are made anew
   again : (n : ℕ) → n < 2 ^ 64 → ent 𝓤 (sem 𝓤 H A Own) (sem 𝓤 H A (B κ′ .own (moved n) (T′.lowered (moved n) ∷ [])))
   again n ok = qed W (‵ Own ∷ []) ∵ owned ! usize (Is usize) (uint-makes 𝓤 H A W w64) n _ (refl, ok) $ move ! (1 ∷ 0 ∷ []) $ by ! (own-put 𝓤 H A W D L 1 vh n mach)
 
-  exits : (c : ComponentRead) (u : Val) → Is S.the-row c (u ∷ []) → (n : ℕ) → c ≡ found → n ≡ behind c (h .at)
+  exits : (c : ComponentRead) (u : Val) → Is S.the-row c (u ∷ []) → (n : ℕ) → componentSays c ≡ found → n ≡ behind (componentSays c) (h .at)
       → ent 𝓤 (sep 𝓤 (A .obs γ (B κ′ .coded .code (moved n))) (sep 𝓤 (A .bor κ (Body (mem (B κ′)) b o γ)) (sep 𝓤 (A .lft κ q) (sep 𝓤 (A .lft κ′ q′) (emp 𝓤))))) (Post u)
   exits c u is n e en =
       qed W (‵ (fobs γ (B κ′ .coded .code (moved n))) ∷ ‵ (fbor κ (Body (mem (B κ′)) b o γ)) ∷ ‵ (flft κ q) ∷ (‵ (flft κ′ q′) ⊛ ‵ ftrue) ∷ []) ∵
@@ -194,8 +194,8 @@ module _ {M : Type 1} (𝓤 : URA M) (H : Heap 𝓤) (A : Atoms 𝓤) (W : Given
         use1 W (later (some (λ (c : ComponentRead). ((‵ (flft κ′ q′) ⊛ ‵ ftrue) ⊛ ‵ (S.the-row .own c (u ∷ []))) ⊛ raw (ensured 𝓤 H A dec.ended (dec.clauses 𝓤 H A at-mem run) (κ′, tt) (h .bytes, (h .at, tt)) tt c)))) (id⊢ 𝓤 _) $ await ! tt $ pick ! (λ c.
         split ! $
         move ! (1 ∷ []) $
-        use1 W (raw (fact 𝓤 (c ≡ found))) (dec-said c) $
-        heard ! (c ≡ found) (λ e.
+        use1 W (raw (fact 𝓤 (componentSays c ≡ found))) (dec-said c) $
+        heard ! (componentSays c ≡ found) (λ e.
         split ! $
         move ! (1 ∷ []) $
         peeks ! S.the-row (Is S.the-row) (shows 𝓤 H A S.the-row) c (u ∷ []) (λ is.
@@ -211,8 +211,8 @@ module _ {M : Type 1} (𝓤 : URA M) (H : Heap 𝓤) (A : Atoms 𝓤) (W : Given
         use1 W (later (some (λ (n : ℕ). (‵ ftrue ⊛ ‵ (usize .own n (y ∷ []))) ⊛ raw (ensured 𝓤 H A beh.ended (beh.clauses 𝓤 H A at-mem run) tt (c, (h .at, tt)) tt n)))) (id⊢ 𝓤 _) $ await ! tt $ pick ! (λ n.
         split ! $
         move ! (1 ∷ []) $
-        use1 W (raw (fact 𝓤 (n ≡ behind c (h .at)))) (beh-said c n) $
-        heard ! (n ≡ behind c (h .at)) (λ en.
+        use1 W (raw (fact 𝓤 (n ≡ behind (componentSays c) (h .at)))) (beh-said c n) $
+        heard ! (n ≡ behind (componentSays c) (h .at)) (λ en.
         split ! $
         move ! (1 ∷ []) $
         peeks ! usize (Is usize) (shows 𝓤 H A usize) n (y ∷ []) (λ iy.

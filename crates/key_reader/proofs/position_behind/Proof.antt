@@ -1,4 +1,5 @@
 -- `position_behind` meets its contract: by what came next. Assumes nothing.
+use Rattle.keys.specs.Decode.{nextSays, componentSays}
 use Rattle.key_reader.specs.Reader.{behind}
 use borrow.Author.Needs.{needs}
 use Rattle.key_reader.proofs.position_behind.Statement.{statement}
@@ -14,15 +15,15 @@ enum-told : tie.Need-enum-told
 enum-told c = search needs
 
 returns : tie.Need-returns
-unfolding behind
+unfolding componentSays nextSays behind
 returns c = search needs
 
 returns-2 : tie.Need-returns-2
-unfolding behind
+unfolding componentSays nextSays behind
 returns-2 c = search needs
 
 returns-3 : tie.Need-returns-3
-unfolding behind
+unfolding componentSays nextSays behind
 returns-3 c = search needs
 
 pub position-behind-spec : {M : Type 1} → statement M

@@ -48,7 +48,7 @@ use Rattle.data_model.specs.declared.entry.Entry.{Entry}
 use Rattle.data_model.proofs.entry.Entry as E
 use Rattle.data_model.proofs.entry.Entry.Laws as E′
 use Rattle.store.specs.Store.{Store, storeOf}
-use Rattle.store.specs.Ingest.{ingestOutcome, ingested}
+use Rattle.store.specs.Ingest.{verdictSays, ingestedSays, ingestOutcome, ingested}
 use Rattle.store.specs.declared.state.State.{State}
 use Rattle.store.proofs.state.State as S
 use Rattle.store.proofs.state.State.Laws as S′
@@ -191,7 +191,7 @@ module _ {M : Type 1} (𝓤 : URA M) (H : Heap 𝓤) (A : Atoms 𝓤) (W : Given
 
   -- what the core says
   abbrev Said : NumbersIngested → List ℕ → List ℕ → List ℕ → List ℕ → Type 0
-  Said r z₀ z₁ z₂ z₃ = (ingestOutcome (r .ingested) z₀ z₁ z₂ z₃ (take (numbersUsed (length a₄)) (r .numbers)) ≡ ingested field st (replicate (numbersUsed (length a₄)) 0) e tk p) × (r .count ≡ prunedCount (r .ingested .verdict))
+  Said r z₀ z₁ z₂ z₃ = (ingestOutcome (ingestedSays (r .ingested)) z₀ z₁ z₂ z₃ (take (numbersUsed (length a₄)) (r .numbers)) ≡ ingested field st (replicate (numbersUsed (length a₄)) 0) e tk p) × (r .count ≡ prunedCount (verdictSays (r .ingested .verdict)))
 
   -- what its answer's parts are
   is-ingested : (r : NumbersIngested) (u : Val) → Is X.the-row r (u ∷ []) → Is I.the-row (r .ingested) (mI r ∷ [])
@@ -211,7 +211,7 @@ module _ {M : Type 1} (𝓤 : URA M) (H : Heap 𝓤) (A : Atoms 𝓤) (W : Given
 
   asked-write : (r : NumbersIngested) (z₀ z₁ z₂ z₃ : List ℕ) → Said r z₀ z₁ z₂ z₃ → ent 𝓤 (onEntry 𝓤 H A write.signature (κ₄, tt) (q₄, tt) (r .numbers, (x₄, (r .count, tt))) (mN r ∷ [], (s₄ ∷ [], (vint w64 (r .count) ∷ [], tt)))) (Write 𝓤 H A mem run .pre (to-write r))
   asked-write r z₀ z₁ z₂ z₃ eq =
-      qed W ((‵ (flft κ₄ q₄) ⊛ ‵ ftrue) ∷ ‵ (owns (Numbers ∷ MutSlice (named 0) κ₄ P.the-row ∷ usize ∷ []) (r .numbers, (x₄, (r .count, tt))) (mN r ∷ [], (s₄ ∷ [], (vint w64 (r .count) ∷ [], tt)))) ∷ []) ∵ says ! (in-room st a₄ e tk p (r .ingested) z₀ z₁ z₂ z₃ (r .numbers) (r .count) (eq .0) (eq .1)) $ frame ! $ done !
+      qed W ((‵ (flft κ₄ q₄) ⊛ ‵ ftrue) ∷ ‵ (owns (Numbers ∷ MutSlice (named 0) κ₄ P.the-row ∷ usize ∷ []) (r .numbers, (x₄, (r .count, tt))) (mN r ∷ [], (s₄ ∷ [], (vint w64 (r .count) ∷ [], tt)))) ∷ []) ∵ says ! (in-room st a₄ e tk p (ingestedSays (r .ingested)) z₀ z₁ z₂ z₃ (r .numbers) (r .count) (eq .0) (eq .1)) $ frame ! $ done !
 
   module _ (is-s : Is S.the-row s (mS ∷ [])) (is-e : Is E.the-row e (mE ∷ [])) (is-k : Is (Array u8 64) tk (mK ∷ [])) where
     exits : (r : NumbersIngested) (u : Val) → Is X.the-row r (u ∷ []) → (z₀ z₁ z₂ z₃ : List ℕ) (w : List Pair) → Said r z₀ z₁ z₂ z₃ → w ≡ put (pairsOf (take (2 * r .count) (r .numbers))) a₄
@@ -219,7 +219,7 @@ module _ {M : Type 1} (𝓤 : URA M) (H : Heap 𝓤) (A : Atoms 𝓤) (W : Given
         → ent 𝓤 (⋆ 𝓤 H A (‵ (flft κ₀ q₀) ∷ ‵ (flft κ₁ q₁) ∷ ‵ (flft κ₂ q₂) ∷ ‵ (flft κ₃ q₃) ∷ (‵ (flft κ₄ q₄) ⊛ ‵ ftrue) ∷ ‵ (finally u8 γ₀ z₀) ∷ ‵ (finally u32 γ₁ z₁) ∷ ‵ (finally u8 γ₂ z₂) ∷ ‵ (finally u32 γ₃ z₃) ∷ ‵ (finally P.the-row γ₄ w) ∷ [])) (Post (mI r))
     exits r u is z₀ z₁ z₂ z₃ w eq ew e₀ e₁ e₂ e₃ e₄ =
         qed W (‵ (flft κ₀ q₀) ∷ ‵ (flft κ₁ q₁) ∷ ‵ (flft κ₂ q₂) ∷ ‵ (flft κ₃ q₃) ∷ (‵ (flft κ₄ q₄) ⊛ ‵ ftrue) ∷ ‵ (finally u8 γ₀ z₀) ∷ ‵ (finally u32 γ₁ z₁) ∷ ‵ (finally u8 γ₂ z₂) ∷ ‵ (finally u32 γ₃ z₃) ∷ ‵ (finally P.the-row γ₄ w) ∷ []) ∵
-        suffices ! _ (ends-at 𝓤 H A layer.ended stayed (layer.clauses 𝓤 H A mem run) W ((lfts, (q₀, (q₁, (q₂, (q₃, (q₄, tt))))), tt, a, vals), tt) (mI r) (r .ingested) (tt, (z₀, (z₁, (z₂, (z₃, (w, (tt, (tt, (tt, tt))))))))) (tt, (e₀, (e₁, (e₂, (e₃, (e₄, (tt, (tt, (tt, tt)))))))))) $ says ! (layered st a₄ e tk p (r .ingested) z₀ z₁ z₂ z₃ (r .numbers) (r .count) (eq .0) (eq .1) .done w ew) $
+        suffices ! _ (ends-at 𝓤 H A layer.ended stayed (layer.clauses 𝓤 H A mem run) W ((lfts, (q₀, (q₁, (q₂, (q₃, (q₄, tt))))), tt, a, vals), tt) (mI r) (r .ingested) (tt, (z₀, (z₁, (z₂, (z₃, (w, (tt, (tt, (tt, tt))))))))) (tt, (e₀, (e₁, (e₂, (e₃, (e₄, (tt, (tt, (tt, tt)))))))))) $ says ! (layered st a₄ e tk p (ingestedSays (r .ingested)) z₀ z₁ z₂ z₃ (r .numbers) (r .count) (eq .0) (eq .1) .done w ew) $
         move ! (3 ∷ 4 ∷ []) $ join ! $ move ! (3 ∷ 0 ∷ []) $ join ! $ move ! (2 ∷ 0 ∷ []) $ join ! $ move ! (1 ∷ 0 ∷ []) $ join ! $ frame ! $
         nothing ! $ owned ! Boolean (Is Boolean) (bool-makes 𝓤 H A W) p _ refl $ fjoin ! $ owned ! (Array u8 64) (Is (Array u8 64)) (array-makes 𝓤 H A W u8 (uint-makes 𝓤 H A W w8) 64) tk _ is-k $ fjoin ! $ owned ! E.the-row (Is E.the-row) (LL.makes E.the-type E′.the-plain 𝓤 H A) e _ is-e $ fjoin ! $
         move ! (5 ∷ 0 ∷ []) $ fjoin ! $ move ! (4 ∷ 0 ∷ []) $ fjoin ! $ move ! (3 ∷ 0 ∷ []) $ fjoin ! $ move ! (2 ∷ 0 ∷ []) $ fjoin ! $ move ! (1 ∷ 0 ∷ []) $ fjoin ! $

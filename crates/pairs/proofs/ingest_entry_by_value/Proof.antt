@@ -51,6 +51,7 @@ use Rattle.data_model.proofs.entry.Entry as E
 use Rattle.data_model.proofs.entry.Entry.Laws as E′
 use Rattle.store.specs.Store.{Store, storeOf}
 use Rattle.store.specs.declared.state.State.{State}
+use Rattle.store.specs.Ingest.{verdictSays, ingestedSays}
 use Rattle.store.specs.declared.ingest.Ingested.{Ingested}
 use Rattle.store.proofs.state.State as S
 use Rattle.store.proofs.state.State.Laws as S′
@@ -83,11 +84,11 @@ Pairs = Array P.the-row 1024
 
 -- what `in_numbers` says
 abbrev Told : NumbersIngested → Ingested → List Pair → Type 0
-Told x r w = (x .ingested ≡ r) × (x .numbers ≡ numbersOf w) × (x .count ≡ prunedCount (x .ingested .verdict))
+Told x r w = (x .ingested ≡ r) × (x .numbers ≡ numbersOf w) × (x .count ≡ prunedCount (verdictSays (x .ingested .verdict)))
 
 -- and the outcome with it
-told-outcome : (x : NumbersIngested) (r : Ingested) (a b c d : List ℕ) (w : List Pair) (o : PairsOutcome) → Told x r w → pairsOutcome r a b c d w ≡ o → pairsOutcome (x .ingested) a b c d (pairsOf (x .numbers)) ≡ o
-told-outcome x r a b c d w o told eq = (λ i. pairsOutcome (told .0 i) a b c d ((ap pairsOf (told .1) ∙ pairs-again w) i)) ∙ eq
+told-outcome : (x : NumbersIngested) (r : Ingested) (a b c d : List ℕ) (w : List Pair) (o : PairsOutcome) → Told x r w → pairsOutcome (ingestedSays r) a b c d w ≡ o → pairsOutcome (ingestedSays (x .ingested)) a b c d (pairsOf (x .numbers)) ≡ o
+told-outcome x r a b c d w o told eq = (λ i. pairsOutcome (ingestedSays (told .0 i)) a b c d ((ap pairsOf (told .1) ∙ pairs-again w) i)) ∙ eq
 
 abbrev stayed : Stays (outer.ended .signature .params) (outer.ended .kept)
 stayed = (stay-none (λ _. S.the-row) yes, (gave-slice (0 ∷ []) tt (plain (λ _. u8)), (gave-slice (1 ∷ []) tt (plain (λ _. u32)), (gave-slice (2 ∷ []) tt (plain (λ _. u8)), (gave-slice (3 ∷ []) tt (plain (λ _. u32)), (stay-none (λ _. Pairs) yes, (stay-none (λ _. E.the-row) yes, (stay-none (λ _. Array u8 64) yes, (stay-none (λ _. Boolean) yes, tt)))))))))
@@ -202,7 +203,7 @@ module _ {M : Type 1} (𝓤 : URA M) (H : Heap 𝓤) (A : Atoms 𝓤) (W : Given
 
   -- what it says
   abbrev Said : Ingested → List ℕ → List ℕ → List ℕ → List ℕ → List Pair → Type 0
-  Said r z₀ z₁ z₂ z₃ w = pairsOutcome r z₀ z₁ z₂ z₃ w ≡ pairsIngested field st ps e tk p
+  Said r z₀ z₁ z₂ z₃ w = pairsOutcome (ingestedSays r) z₀ z₁ z₂ z₃ w ≡ pairsIngested field st ps e tk p
 
   -- the call of `in_numbers`
   abbrev to-numbers : Ingested → List Pair → Val → Val → Numbers 𝓤 H A mem run .Ghost

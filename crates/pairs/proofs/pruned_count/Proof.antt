@@ -1,4 +1,5 @@
 -- `pruned_count` meets its contract: by the verdict. Assumes nothing.
+use Rattle.store.specs.Ingest.{verdictSays}
 use borrow.Author.Needs.{needs}
 use Rattle.pairs.proofs.pruned_count.Statement.{statement}
 use Rattle.pairs.proofs.pruned_count.Tie as tie
@@ -13,12 +14,15 @@ enum-told-2 : tie.Need-enum-told-2
 enum-told-2 c = search needs
 
 returns : tie.Need-returns
+unfolding verdictSays
 returns c = search needs
 
 returns-2 : tie.Need-returns-2
+unfolding verdictSays
 returns-2 c = search needs
 
 returns-3 : tie.Need-returns-3
+unfolding verdictSays
 returns-3 c = search needs
 
 pub pruned-count-spec : {M : Type 1} → statement M

@@ -1,7 +1,7 @@
 -- `is_equal` meets its contract. Assumes nothing.
 use mathlib.Core.Path.{sym, ap}
 use Rattle.laws.specs.Order.{isSame}
-use Rattle.data_model.specs.Refusal.{orderOf}
+use Rattle.data_model.specs.Refusal.{orderingSays}
 use Rattle.data_model.specs.declared.answer.Ordering.{Ordering}
 use borrow.Author.Needs.{needs}
 use Rattle.data_model.proofs.answer.is_equal.Statement.{statement}
@@ -17,16 +17,16 @@ enum-told-3 : tie.Need-enum-told-3
 enum-told-3 c = search needs
 
 returns : tie.Need-returns
-unfolding isSame orderOf
-returns c = sym (ap (λ (o : Ordering). isSame (orderOf o)) (c .enum-told .given .1))
+unfolding isSame orderingSays
+returns c = sym (ap (λ (o : Ordering). isSame (orderingSays o)) (c .enum-told .given .1))
 
 returns-2 : tie.Need-returns-2
-unfolding isSame orderOf
-returns-2 c = sym (ap (λ (o : Ordering). isSame (orderOf o)) (c .enum-told2 .given .1))
+unfolding isSame orderingSays
+returns-2 c = sym (ap (λ (o : Ordering). isSame (orderingSays o)) (c .enum-told2 .given .1))
 
 returns-3 : tie.Need-returns-3
-unfolding isSame orderOf
-returns-3 c = sym (ap (λ (o : Ordering). isSame (orderOf o)) (c .enum-told3 .given .1))
+unfolding isSame orderingSays
+returns-3 c = sym (ap (λ (o : Ordering). isSame (orderingSays o)) (c .enum-told3 .given .1))
 
 pub is-equal-spec : {M : Type 1} → statement M
 is-equal-spec = tie.close (tie.spec enum-told enum-told-2 enum-told-3 returns returns-2 returns-3)

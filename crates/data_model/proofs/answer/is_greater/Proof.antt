@@ -1,7 +1,7 @@
 -- `is_greater` meets its contract. Assumes nothing.
 use mathlib.Core.Path.{sym, ap}
 use Rattle.laws.specs.Order.{isGreater}
-use Rattle.data_model.specs.Refusal.{orderOf}
+use Rattle.data_model.specs.Refusal.{orderingSays}
 use Rattle.data_model.specs.declared.answer.Ordering.{Ordering}
 use borrow.Author.Needs.{needs}
 use Rattle.data_model.proofs.answer.is_greater.Statement.{statement}
@@ -17,16 +17,16 @@ enum-told-3 : tie.Need-enum-told-3
 enum-told-3 c = search needs
 
 returns : tie.Need-returns
-unfolding isGreater orderOf
-returns c = sym (ap (λ (o : Ordering). isGreater (orderOf o)) (c .enum-told .given .1))
+unfolding isGreater orderingSays
+returns c = sym (ap (λ (o : Ordering). isGreater (orderingSays o)) (c .enum-told .given .1))
 
 returns-2 : tie.Need-returns-2
-unfolding isGreater orderOf
-returns-2 c = sym (ap (λ (o : Ordering). isGreater (orderOf o)) (c .enum-told2 .given .1))
+unfolding isGreater orderingSays
+returns-2 c = sym (ap (λ (o : Ordering). isGreater (orderingSays o)) (c .enum-told2 .given .1))
 
 returns-3 : tie.Need-returns-3
-unfolding isGreater orderOf
-returns-3 c = sym (ap (λ (o : Ordering). isGreater (orderOf o)) (c .enum-told3 .given .1))
+unfolding isGreater orderingSays
+returns-3 c = sym (ap (λ (o : Ordering). isGreater (orderingSays o)) (c .enum-told3 .given .1))
 
 pub is-greater-spec : {M : Type 1} → statement M
 is-greater-spec =

@@ -1,7 +1,6 @@
 -- `is_newer_than` meets its contract. Assumes nothing.
 use mathlib.Core.Path.{ap, _∙_}
 use Rattle.laws.specs.Order.{isGreater}
-use Rattle.data_model.proofs.Answers.{order-is}
 use borrow.Author.Needs.{needs}
 use Rattle.data_model.proofs.checked.is_newer_than.Statement.{statement}
 use Rattle.data_model.proofs.checked.is_newer_than.Tie as tie
@@ -13,7 +12,7 @@ is-greater-requires : tie.Need-is-greater-requires
 is-greater-requires c κs = search needs
 
 returns : tie.Need-returns
-returns c = c .is-greater .ensures ∙ ap isGreater (order-is _ _ (c .before .cmp .ensures))
+returns c = c .is-greater .ensures ∙ ap isGreater (c .before .cmp .ensures)
 
 pub is-newer-than-spec : {M : Type 1} → statement M
 is-newer-than-spec = tie.close (tie.spec cmp-requires is-greater-requires returns)

@@ -7,7 +7,6 @@ use lib.Seq.{length-take-le}
 use Rattle.data_model.specs.Path.{field, components}
 use Rattle.data_model.proofs.Values.{legal-count, legal-within, ends-take}
 use Rattle.laws.specs.Order.{isSame}
-use Rattle.data_model.proofs.Answers.{order-is}
 use Rattle.data_model.proofs.Compare.{prefix-longer, prefix-cut}
 use borrow.Author.Needs.{needs}
 use Rattle.data_model.proofs.checked.is_prefix_of.Statement.{statement}
@@ -67,7 +66,7 @@ returns-2 : tie.Need-returns-2
 unfolding components
 returns-2 c =
     c .is-equal .ensures
-    ∙ ap isSame (order-is _ _ (c .before .compare-components .ensures))
+    ∙ ap isSame (c .before .compare-components .ensures)
     ∙ sym (prefix-cut ((c .before .before .before .before .before .before .before .before .before .before .before .before) .args .p) ((c .before .before .before .before .before .before .before .before .before .before .before .before) .args .q) (p-few (c .before .before .before .before .before .before .before .before .before .before .before .before)) (q-few (c .before .before .before .before .before .before .before .before .before .before .before .before)) (c .before .before .before .before .before .before .before .before .before .before .if1 .left))
 
 pub is-prefix-of-spec : {M : Type 1} → statement M

@@ -3,7 +3,6 @@ use mathlib.Core.Path.{ap, _∙_}
 use Rattle.laws.specs.Order.{isSame}
 use Rattle.laws.proofs.Order.{number-linear}
 use Rattle.laws.proofs.Prefix.{number-equality, same-elements}
-use Rattle.data_model.proofs.Answers.{order-is}
 use borrow.Author.Needs.{needs}
 use Rattle.data_model.proofs.checked.same_bytes.Statement.{statement}
 use Rattle.data_model.proofs.checked.same_bytes.Tie as tie
@@ -15,7 +14,7 @@ is-equal-requires : tie.Need-is-equal-requires
 is-equal-requires c κs = search needs
 
 returns : tie.Need-returns
-returns c = c .is-equal .ensures ∙ ap isSame (order-is _ _ (c .before .compare-bytes .ensures)) ∙ same-elements _ number-equality _ number-linear _ _
+returns c = c .is-equal .ensures ∙ ap isSame (c .before .compare-bytes .ensures) ∙ same-elements _ number-equality _ number-linear _ _
 
 pub same-bytes-spec : {M : Type 1} → statement M
 same-bytes-spec = tie.close (tie.spec compare-bytes-requires is-equal-requires returns)

@@ -4,7 +4,7 @@ use mathlib.Core.Path.{_≡_, sym, subst, _∙_}
 use mathlib.Core.List.{List, []}
 use native.Mathlib.Omega.{arith}
 use lib.ListN.{drop, length-drop, drop-of-length-le, replicate}
-use Rattle.keys.specs.Decode.{tokenOf, endsPath, readComponent, partOf, Filled, nextComponent, componentRead}
+use Rattle.keys.specs.Decode.{tokenOf, endsPath, readComponent, partOf, Filled, nextSays, componentSays, nextComponent, componentRead}
 use Rattle.keys.proofs.Reading.{rest, took-it, component-fits}
 use Rattle.keys.proofs.Walking.{ends-within}
 use Rattle.keys.proofs.Decoding.{component-ended, component-took, component-refused}
@@ -13,7 +13,7 @@ use Rattle.keys.proofs.decode.component_bytes.Statement.{statement}
 use Rattle.keys.proofs.decode.component_bytes.Tie as tie
 
 returns : tie.Need-returns
-unfolding tokenOf endsPath readComponent nextComponent componentRead
+unfolding tokenOf endsPath readComponent nextSays componentSays nextComponent componentRead
 returns c =
     let a = c .before .before .args in
     let z : drop (a .at) (a .key .now) ≡ [] = drop-of-length-le (a .key .now) {i = a .at} (omega arith) in
@@ -72,7 +72,7 @@ returns-3 c =
     component-took _ _ _ _ _ (sym (c .before .before .before .before .before .before .before .before .ends-path .ensures) ∙ c .before .before .before .before .before .before .before .if2 .left) (sym (c .before .c .given .1) ∙ e .0) (e .1)
 
 returns-4 : tie.Need-returns-4
-unfolding nextComponent
+unfolding nextSays componentSays nextComponent
 returns-4 c = component-refused _ _ (sym (c .before .before .before .before .before .before .before .ends-path .ensures) ∙ c .before .before .before .before .before .before .if2 .left) (sym (c .enum-told .given .1) ∙ read (c .before .before .before) .0)
 
 pub component-bytes-spec : {M : Type 1} → statement M

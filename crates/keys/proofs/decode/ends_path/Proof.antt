@@ -1,6 +1,6 @@
 -- `ends_path` meets its contract: by what stands there. Assumes nothing.
 use mathlib.Core.Path.{sym, ap, _∙_}
-use Rattle.keys.specs.Decode.{endsPath}
+use Rattle.keys.specs.Decode.{tokenSays, endsPath}
 use borrow.Author.Needs.{needs}
 use Rattle.keys.proofs.decode.ends_path.Statement.{statement}
 use Rattle.keys.proofs.decode.ends_path.Tie as tie
@@ -21,20 +21,20 @@ enum-told-4 : tie.Need-enum-told-4
 enum-told-4 c = search needs
 
 returns : tie.Need-returns
-unfolding endsPath
-returns c = sym (ap endsPath (sym (c .before .before .token-at .ensures) ∙ c .enum-told .given .1))
+unfolding tokenSays endsPath
+returns c = sym (ap endsPath (sym (c .before .before .token-at .ensures) ∙ ap tokenSays (c .enum-told .given .1)))
 
 returns-2 : tie.Need-returns-2
-unfolding endsPath
-returns-2 c = sym (ap endsPath (sym (c .before .before .token-at .ensures) ∙ c .enum-told2 .given .1))
+unfolding tokenSays endsPath
+returns-2 c = sym (ap endsPath (sym (c .before .before .token-at .ensures) ∙ ap tokenSays (c .enum-told2 .given .1)))
 
 returns-3 : tie.Need-returns-3
-unfolding endsPath
-returns-3 c = sym (ap endsPath (sym (c .before .before .token-at .ensures) ∙ c .enum-told3 .given .1))
+unfolding tokenSays endsPath
+returns-3 c = sym (ap endsPath (sym (c .before .before .token-at .ensures) ∙ ap tokenSays (c .enum-told3 .given .1)))
 
 returns-4 : tie.Need-returns-4
-unfolding endsPath
-returns-4 c = sym (ap endsPath (sym (c .before .before .token-at .ensures) ∙ c .enum-told4 .given .1))
+unfolding tokenSays endsPath
+returns-4 c = sym (ap endsPath (sym (c .before .before .token-at .ensures) ∙ ap tokenSays (c .enum-told4 .given .1)))
 
 pub ends-path-spec : {M : Type 1} → statement M
 ends-path-spec =

@@ -1,13 +1,13 @@
 -- `read_component` meets its contract. The invariant: what was read so far, in front of what reading on gives. Assumes nothing.
 use Prim.Native.Nat.{_≤_, _-_, _+_}
-use mathlib.Core.Path.{_≡_, sym, _∙_}
+use mathlib.Core.Path.{_≡_, sym, ap, _∙_}
 use native.Mathlib.Omega.{arith}
 use borrow.Author.Needs.{needs}
 use lib.ListN.{length, drop, take}
 use Rattle.keys.specs.Encode.{escaped}
-use Rattle.keys.specs.Decode.{tokenOf, more}
+use Rattle.data_model.specs.Said.{refuses, says}
+use Rattle.keys.specs.Decode.{byte, component-mark, path-mark, tokenSays, tokenOf, more}
 use lib.Seq.{length-take-le}
-use Rattle.keys.specs.declared.decode.Token.the-variants as token
 use Rattle.keys.proofs.Encoding.{escaped-some}
 use Rattle.keys.proofs.Reading.{Reading, token-within, reading-none, reading-none-left, reading-token, reading-full, reading-ends, reading-put, reading-more, part-refused, part-took}
 use Rattle.keys.proofs.decode.read_component.Statement.{statement}
@@ -26,7 +26,7 @@ token-at-requires : tie.Need-token-at-requires Inv-loop μ-loop
 token-at-requires c κs = search needs
 
 -- The token that a turn met is the one at its place.
-met : (c : tie.After-token-at Inv-loop μ-loop) → tokenOf (drop (c .before .before .loop .at) (c .before .before .before .before .before .args .k .now)) ≡ c .token-at .result
+met : (c : tie.After-token-at Inv-loop μ-loop) → tokenOf (drop (c .before .before .loop .at) (c .before .before .before .before .before .args .k .now)) ≡ tokenSays (c .token-at .result)
 met c = sym (c .token-at .ensures)
 
 enum-known-t : tie.Need-enum-known-t Inv-loop μ-loop
@@ -36,11 +36,12 @@ same-length : tie.Need-same-length Inv-loop μ-loop
 same-length c = search needs
 
 returns : tie.Need-returns Inv-loop μ-loop
+unfolding tokenSays
 returns c =
     let m = c .before .before .before .before in
     let a = m .before .before .before .before .before .args in
     let l = m .before .before .loop in
-    part-refused _ _ _ (reading-full (a .lim) (a .k .now) (a .bytes .now) (l .bytes) (l .at) (l .n) (l .inv) _ (met m ∙ c .before .before .t .given .1) (c .if1 .taken))
+    part-refused _ _ _ (reading-full (a .lim) (a .k .now) (a .bytes .now) (l .bytes) (l .at) (l .n) (l .inv) _ (met m ∙ ap tokenSays (c .before .before .t .given .1)) (c .if1 .taken))
 
 slice-write-bytes : tie.Need-slice-write-bytes Inv-loop μ-loop
 slice-write-bytes c = search needs
@@ -52,11 +53,12 @@ width-requires : tie.Need-width-requires Inv-loop μ-loop
 width-requires c κs = search needs
 
 within : (c : tie.After-width Inv-loop μ-loop) → c .before .before .before .before .before .before .before .loop .at + length (escaped (c .before .before .before .t .given .0 .0)) ≤ length (c .before .before .before .before .before .before .before .before .before .before .args .k .now)
+unfolding tokenSays
 within c =
     let m = c .before .before .before .before .before in
     let a = m .before .before .before .before .before .args in
     let l = m .before .before .loop in
-    token-within (a .k .now) (l .at) (token.Byte (c .before .before .before .t .given .0 .0)) (l .inv .within) (met m ∙ c .before .before .before .t .given .1)
+    token-within (a .k .now) (l .at) (says (byte (c .before .before .before .t .given .0 .0))) (l .inv .within) (met m ∙ ap tokenSays (c .before .before .before .t .given .1))
 
 add-at : tie.Need-add-at Inv-loop μ-loop
 add-at c = omega (arith, c .width .ensures, within c)
@@ -65,12 +67,13 @@ loop-less : tie.Need-loop-less Inv-loop μ-loop
 loop-less c = omega (arith, c .width .ensures, within c, escaped-some (c .before .before .before .t .given .0 .0))
 
 loop-again : tie.Need-loop-again Inv-loop μ-loop
+unfolding tokenSays
 loop-again c =
     let m = c .before .before .before .before .before in
     let a = m .before .before .before .before .before .args in
     let l = m .before .before .loop in
     reading-more (a .lim) (a .k .now) (a .bytes .now) (l .bytes) (l .at) (l .n) (l .inv) _ _
-    (met m ∙ c .before .before .before .t .given .1)
+    (met m ∙ ap tokenSays (c .before .before .before .t .given .1))
     (c .width .ensures)
     (omega arith)
     (omega (arith, l .inv .size, m .before .before .before .before .before .pre))
@@ -79,16 +82,18 @@ enum-told : tie.Need-enum-told Inv-loop μ-loop
 enum-told c = search needs
 
 add-t13 : tie.Need-add-t13 Inv-loop μ-loop
+unfolding tokenSays
 add-t13 c =
     let m = c .before .before in
     let a = m .before .before .before .before .before .args in
     let l = m .before .before .loop in
-    omega (arith, token-within (a .k .now) (l .at) token.ComponentEnd (l .inv .within) (met m ∙ c .enum-told .given .1))
+    omega (arith, token-within (a .k .now) (l .at) (says component-mark) (l .inv .within) (met m ∙ ap tokenSays (c .enum-told .given .1)))
 
 same-length-2 : tie.Need-same-length-2 Inv-loop μ-loop
 same-length-2 c = search needs
 
 returns-2 : tie.Need-returns-2 Inv-loop μ-loop
+unfolding tokenSays
 returns-2 c =
     let m = c .before .before in
     let a = m .before .before .before .before .before .args in
@@ -96,7 +101,7 @@ returns-2 c =
     let i = l .inv in
     let w : l .n ≤ length (l .bytes) = omega (arith, i .below, i .size, m .before .before .before .before .before .pre) in
     part-took _ _ _ (take (l .n) (l .bytes)) (l .n) _
-    (reading-ends (a .lim) (a .k .now) (a .bytes .now) (l .bytes) (l .at) (l .n) i (met m ∙ c .enum-told .given .1))
+    (reading-ends (a .lim) (a .k .now) (a .bytes .now) (l .bytes) (l .at) (l .n) i (met m ∙ ap tokenSays (c .enum-told .given .1)))
     (sym (length-take-le (l .n) (l .bytes) w))
     (reading-put (a .lim) (a .k .now) (a .bytes .now) (l .bytes) (l .at) (l .n) i w)
 
@@ -107,12 +112,12 @@ same-length-3 : tie.Need-same-length-3 Inv-loop μ-loop
 same-length-3 c = search needs
 
 returns-3 : tie.Need-returns-3 Inv-loop μ-loop
-unfolding more
+unfolding tokenSays more
 returns-3 c =
     let m = c .before .before in
     let a = m .before .before .before .before .before .args in
     let l = m .before .before .loop in
-    part-refused _ _ _ (reading-token (a .lim) (a .k .now) (a .bytes .now) (l .bytes) (l .at) (l .n) (l .inv) token.PathEnd (met m ∙ c .enum-told2 .given .1))
+    part-refused _ _ _ (reading-token (a .lim) (a .k .now) (a .bytes .now) (l .bytes) (l .at) (l .n) (l .inv) (says path-mark) (met m ∙ ap tokenSays (c .enum-told2 .given .1)))
 
 enum-told-3 : tie.Need-enum-told-3 Inv-loop μ-loop
 enum-told-3 c = search needs
@@ -121,12 +126,12 @@ same-length-4 : tie.Need-same-length-4 Inv-loop μ-loop
 same-length-4 c = search needs
 
 returns-4 : tie.Need-returns-4 Inv-loop μ-loop
-unfolding more
+unfolding tokenSays more
 returns-4 c =
     let m = c .before .before in
     let a = m .before .before .before .before .before .args in
     let l = m .before .before .loop in
-    part-refused _ _ _ (reading-token (a .lim) (a .k .now) (a .bytes .now) (l .bytes) (l .at) (l .n) (l .inv) (token.Refused (c .enum-told3 .given .0 .0)) (met m ∙ c .enum-told3 .given .1))
+    part-refused _ _ _ (reading-token (a .lim) (a .k .now) (a .bytes .now) (l .bytes) (l .at) (l .n) (l .inv) (refuses (c .enum-told3 .given .0 .0)) (met m ∙ ap tokenSays (c .enum-told3 .given .1)))
 
 same-length-5 : tie.Need-same-length-5 Inv-loop μ-loop
 same-length-5 c = search needs

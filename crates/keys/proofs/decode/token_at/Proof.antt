@@ -3,25 +3,28 @@ use Prim.Native.Nat.{_+_}
 use mathlib.Core.Path.{_≡_, sym, ap, _∙_}
 use native.Mathlib.Omega.{arith}
 use lib.ListN.{drop, getD}
-use Rattle.keys.specs.Decode.{tokenOf, mark}
+use Rattle.keys.specs.Decode.{tokenSays, tokenOf, mark}
 use Rattle.keys.proofs.Reading.{mark-is, mark-not, mark-other, token-past, token-byte, token-cut, token-mark}
 use borrow.Author.Needs.{needs}
 use Rattle.keys.proofs.decode.token_at.Statement.{statement}
 use Rattle.keys.proofs.decode.token_at.Tie as tie
 
 returns : tie.Need-returns
+unfolding tokenSays
 returns c = sym (token-past _ _ (c .if1 .taken))
 
 shared-slice-read-b : tie.Need-shared-slice-read-b
 shared-slice-read-b c = search needs
 
 returns-2 : tie.Need-returns-2
+unfolding tokenSays
 returns-2 c = sym (token-byte (c .before .before .before .before .args .key .now) (c .before .before .before .before .args .at) (omega arith) (c .if2 .taken))
 
 add-if3 : tie.Need-add-if3
 add-if3 c = search needs
 
 returns-3 : tie.Need-returns-3
+unfolding tokenSays
 returns-3 c = sym (token-cut _ _ (c .if3 .taken) (c .before .if2 .left))
 
 add-m : tie.Need-add-m
@@ -39,24 +42,25 @@ same-mark-requires : tie.Need-same-mark-requires
 same-mark-requires c κs = search needs
 
 returns-4 : tie.Need-returns-4
-unfolding mark
+unfolding tokenSays mark
 returns-4 c = sym (marked (c .before .before) ∙ ap mark (mark-is _ _ 0 (sym (c .before .same-mark .ensures) ∙ c .if4 .taken)))
 
 same-mark-requires-2 : tie.Need-same-mark-requires-2
 same-mark-requires-2 c κs = search needs
 
 returns-5 : tie.Need-returns-5
-unfolding mark
+unfolding tokenSays mark
 returns-5 c = sym (marked (c .before .before .before .before) ∙ ap mark (mark-is _ _ 1 (sym (c .before .same-mark2 .ensures) ∙ c .if5 .taken)))
 
 same-mark-requires-3 : tie.Need-same-mark-requires-3
 same-mark-requires-3 c κs = search needs
 
 returns-6 : tie.Need-returns-6
-unfolding mark
+unfolding tokenSays mark
 returns-6 c = sym (marked (c .before .before .before .before .before .before) ∙ ap mark (mark-is _ _ 2 (sym (c .before .same-mark3 .ensures) ∙ c .if6 .taken)))
 
 returns-7 : tie.Need-returns-7
+unfolding tokenSays
 returns-7 c =
     let z = c .before .before .before .before .before .before .before .before .if2 .left in
     sym (

@@ -1,7 +1,6 @@
 -- `less` meets its contract: what is left after the skip decides. Assumes nothing.
 use mathlib.Core.Path.{ap, _∙_}
 use Rattle.laws.specs.Order.{isLess}
-use Rattle.data_model.proofs.Answers.{order-is}
 use Rattle.layout.proofs.BufferLaws.{rest-compares}
 use borrow.Author.Needs.{needs}
 use Rattle.layout.proofs.bytes.less.Statement.{statement}
@@ -38,7 +37,7 @@ returns : tie.Need-returns
 returns c =
     let k = c .before .before .before .before in
     let a = k .before .before .before .args in
-    c .is-less .ensures ∙ ap isLess (order-is _ _ (c .before .compare-bytes .ensures) ∙ rest-compares (a .a .now) (a .b .now) (k .skip .result) (k .skip .ensures .2))
+    c .is-less .ensures ∙ ap isLess (c .before .compare-bytes .ensures ∙ rest-compares (a .a .now) (a .b .now) (k .skip .result) (k .skip .ensures .2))
 
 pub less-spec : {M : Type 1} → statement M
 less-spec =

@@ -3,7 +3,6 @@ use mathlib.Core.Path.{ap, _∙_}
 use Rattle.laws.specs.Order.{isSame}
 use Rattle.laws.proofs.Order.{number-linear}
 use Rattle.laws.proofs.Prefix.{number-equality, same-elements}
-use Rattle.data_model.proofs.Answers.{order-is}
 use Rattle.layout.proofs.BufferLaws.{rest-compares}
 use borrow.Author.Needs.{needs}
 use Rattle.layout.proofs.bytes.same.Statement.{statement}
@@ -40,7 +39,7 @@ returns : tie.Need-returns
 returns c =
     let k = c .before .before .before .before in
     let a = k .before .before .before .args in
-    c .is-equal .ensures ∙ ap isSame (order-is _ _ (c .before .compare-bytes .ensures) ∙ rest-compares (a .a .now) (a .b .now) (k .skip .result) (k .skip .ensures .2))
+    c .is-equal .ensures ∙ ap isSame (c .before .compare-bytes .ensures ∙ rest-compares (a .a .now) (a .b .now) (k .skip .result) (k .skip .ensures .2))
     ∙ same-elements _ number-equality _ number-linear (a .a .now) (a .b .now)
 
 pub same-spec : {M : Type 1} → statement M

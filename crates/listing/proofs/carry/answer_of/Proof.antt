@@ -1,5 +1,7 @@
 -- `answer_of` meets its contract. Assumes nothing.
 use mathlib.Core.Path.{sym, ap}
+use Rattle.store.specs.Ingest.{verdictSays}
+use Rattle.store.specs.declared.ingest.IngestVerdict.{IngestVerdict}
 use Rattle.listing.specs.Carry.{answerOf}
 use borrow.Author.Needs.{needs}
 use Rattle.listing.proofs.carry.answer_of.Statement.{statement}
@@ -15,16 +17,16 @@ enum-known-verdict : tie.Need-enum-known-verdict
 enum-known-verdict c = search needs
 
 returns : tie.Need-returns
-unfolding answerOf
-returns c = sym (ap answerOf (c .enum-told .given .1))
+unfolding verdictSays answerOf
+returns c = sym (ap (λ (v : IngestVerdict). answerOf (verdictSays v)) (c .enum-told .given .1))
 
 returns-2 : tie.Need-returns-2
-unfolding answerOf
-returns-2 c = sym (ap answerOf (c .enum-told2 .given .1))
+unfolding verdictSays answerOf
+returns-2 c = sym (ap (λ (v : IngestVerdict). answerOf (verdictSays v)) (c .enum-told2 .given .1))
 
 returns-3 : tie.Need-returns-3
-unfolding answerOf
-returns-3 c = sym (ap answerOf (c .before .verdict .given .1))
+unfolding verdictSays answerOf
+returns-3 c = sym (ap (λ (v : IngestVerdict). answerOf (verdictSays v)) (c .before .verdict .given .1))
 
 pub answer-of-spec : {M : Type 1} → statement M
 answer-of-spec =

@@ -5,15 +5,17 @@ use Prim.Native.Nat.{ℕ, _+_, _*_, _≤_}
 use mathlib.Core.Path.{_≡_, refl, sym, ap, _∙_}
 use mathlib.Core.List.{List, [], _∷_}
 use mathlib.Core.Logic.{⊎-elim}
+use mathlib.Core.Option.{some}
 use types.Run.{OneOf}
 use denote.Enum.Declared.{tagOf}
 use lib.ListN.{length}
+use Rattle.data_model.specs.Said.{says}
 use Rattle.data_model.specs.Path.{field, legal}
 use Rattle.data_model.proofs.Values.{length-piece}
 use Rattle.tree.specs.Matching.{listedInArea}
 use Rattle.tree.specs.declared.stored.KeyOrder.the-variants.{Spt}
 use Rattle.store.specs.Store.{Store, storeOf, limitMost, held}
-use Rattle.query.specs.Listing.{areaListed, areaPart}
+use Rattle.query.specs.Listing.{listedSays, areaListed, areaPart}
 use Rattle.query.specs.declared.answer.Listed.{Listed}
 use Rattle.query.specs.declared.answer.Listed.the-variants.{Match, Finished, Refused}
 use Rattle.query.proofs.answer.Listed.{the-type}
@@ -36,7 +38,8 @@ abbrev lent : tie.Start Inv-loop μ-loop → Store
 lent p = storeOf (p .args .state) (p .args .spt .now) (p .args .«spt-dir» .now) (p .args .tsp .now) (p .args .«tsp-dir» .now)
 
 -- An answer whose tag is 1 or 2 is no match.
-unmatched : (l : Listed) (k : ℕ) → OneOf (1 ∷ 2 ∷ []) (tagOf the-type l) → l ≡ Match k → ⊥
+unmatched : (l : Listed) (k : ℕ) → OneOf (1 ∷ 2 ∷ []) (tagOf the-type l) → listedSays l ≡ says (some k) → ⊥
+unfolding listedSays
 unmatched (Match j) k h e = ⊎-elim (λ e. omega arith) (λ e. omega arith) h
 unmatched Finished k h e = let z : _≡_ {A = ℕ} 0 1 = cc in omega arith
 unmatched (Refused n) k h e = let z : _≡_ {A = ℕ} 0 1 = cc in omega arith
@@ -114,6 +117,7 @@ part-write-line-end : tie.Need-part-write-line-end Inv-loop μ-loop
 part-write-line-end c = search needs
 
 write-line-requires : tie.Need-write-line-requires Inv-loop μ-loop
+unfolding listedSays
 write-line-requires c κs =
     let p = (c .before .before .before .before .before .before .before .before .before .before .before .before .before .before .before .before .before .before .before .before .before) in
     let area = c .before .before .before .before .before .before .before .before .before .before .before .before .before .before .before .everything in
@@ -123,9 +127,9 @@ write-line-requires c κs =
     let t = c .before .before .before .before .before .before .loop-test .taken in
     let m = c .before .before .before .before .before .query-area-place in
     let k = c .before .before .before .l in
-    let e : areaListed field (lent p) (area .result) (ignore .result) (l .place) ≡ Match (k .given .0 .0) = sym (m .ensures) ∙ k .given .1 in
+    let e : areaListed field (lent p) (area .result) (ignore .result) (l .place) ≡ says (some (k .given .0 .0)) = sym (m .ensures) ∙ ap listedSays (k .given .1) in
     let r = c .before .query-area in
-    (omega (arith, ap (λ (x : List ℕ). length x) (r .ensures), match-long (lent p) (legal field (area .result .path)) (listedInArea (area .result) (ignore .result)) (l .place) (k .given .0 .0) e), omega (arith, t, l .inv .0, length-piece (l .at) (length (l .out)) (l .out) (le-refl (length (l .out)))))
+    (omega (arith, ap (λ (x : List ℕ). length x) (r .ensures .0), match-long (lent p) (legal field (area .result .path)) (listedInArea (area .result) (ignore .result)) (l .place) (k .given .0 .0) e), omega (arith, t, l .inv .0, length-piece (l .at) (length (l .out)) (l .out) (le-refl (length (l .out)))))
 
 add-at : tie.Need-add-at Inv-loop μ-loop
 add-at c =
@@ -135,6 +139,7 @@ add-at c =
     omega (arith, l .inv .1, t, g .ensures .1)
 
 add-place : tie.Need-add-place Inv-loop μ-loop
+unfolding listedSays
 add-place c =
     let p = (c .before .before .before .before .before .before .before .before .before .before .before .before .before .before .before .before .before .before .before .before .before .before .before .before) in
     let area = c .before .before .before .before .before .before .before .before .before .before .before .before .before .before .before .before .before .before .everything in
@@ -144,7 +149,7 @@ add-place c =
     let t = c .before .before .before .before .before .before .before .before .before .loop-test .taken in
     let m = c .before .before .before .before .before .before .before .before .query-area-place in
     let k = c .before .before .before .before .before .before .l in
-    let e : areaListed field (lent p) (area .result) (ignore .result) (l .place) ≡ Match (k .given .0 .0) = sym (m .ensures) ∙ k .given .1 in
+    let e : areaListed field (lent p) (area .result) (ignore .result) (l .place) ≡ says (some (k .given .0 .0)) = sym (m .ensures) ∙ ap listedSays (k .given .1) in
     let b = match-below (lent p) (legal field (area .result .path)) (listedInArea (area .result) (ignore .result)) (l .place) (k .given .0 .0) e in omega (arith, b .1, b .0 .few, b .0 .most)
 
 sub-left : tie.Need-sub-left Inv-loop μ-loop
@@ -154,6 +159,7 @@ loop-less : tie.Need-loop-less Inv-loop μ-loop
 loop-less c = search needs
 
 loop-again : tie.Need-loop-again Inv-loop μ-loop
+unfolding listedSays
 loop-again c =
     let p = (c .before .before .before .before .before .before .before .before .before .before .before .before .before .before .before .before .before .before .before .before .before .before .before .before) in
     let area = c .before .before .before .before .before .before .before .before .before .before .before .before .before .before .before .before .before .before .everything in
@@ -166,10 +172,10 @@ loop-again c =
     let t = c .before .before .before .before .before .before .before .before .before .loop-test .taken in
     let m = c .before .before .before .before .before .before .before .before .query-area-place in
     let k = c .before .before .before .before .before .before .l in
-    let e : areaListed field (lent p) (area .result) (ignore .result) (l .place) ≡ Match (k .given .0 .0) = sym (m .ensures) ∙ k .given .1 in
+    let e : areaListed field (lent p) (area .result) (ignore .result) (l .place) ≡ says (some (k .given .0 .0)) = sym (m .ensures) ∙ ap listedSays (k .given .1) in
     let r = c .before .before .before .before .query-area in
     let g = c .before .before .write-line in
-    let n = listing-turn (areaListed field (lent p) (area .result) (ignore .result)) (areaPart field (lent p) (area .result) (ignore .result)) (listText (held field Spt (lent p))) (f .last .1 .1 .0) (l .out) (l .place) (l .at) (l .left) (l .inv .3) (l .inv .0) t (k .given .0 .0) e _ (r .ensures) (g .result) (g .last .1 .0) (g .ensures .0) (g .ensures .1) (g .ensures .2) in
+    let n = listing-turn (areaListed field (lent p) (area .result) (ignore .result)) (areaPart field (lent p) (area .result) (ignore .result)) (listText (held field Spt (lent p))) (f .last .1 .1 .0) (l .out) (l .place) (l .at) (l .left) (l .inv .3) (l .inv .0) t (k .given .0 .0) e _ (r .ensures .0) (g .result) (g .last .1 .0) (g .ensures .0) (g .ensures .1) (g .ensures .2) in
     (omega (arith, n .wrote .size, l .inv .2, l .inv .0, g .ensures .1, t), omega (arith, l .inv .1, g .ensures .1, t), n .wrote .size, n)
 
 same-length-2 : tie.Need-same-length-2 Inv-loop μ-loop

@@ -1,4 +1,6 @@
 -- `plain_compared` meets its contract: a case each. Assumes nothing.
+use Rattle.laws.specs.Order.{isLess, isGreater}
+use Rattle.data_model.specs.Refusal.{comparedSays}
 use borrow.Author.Needs.{needs}
 use Rattle.plain.proofs.answer.plain_compared.Statement.{statement}
 use Rattle.plain.proofs.answer.plain_compared.Tie as tie
@@ -16,16 +18,20 @@ enum-known-c : tie.Need-enum-known-c
 enum-known-c c = search needs
 
 returns : tie.Need-returns
-returns c = cc
+unfolding comparedSays isLess isGreater
+returns c = rw (c .enum-told .given .1)
 
 returns-2 : tie.Need-returns-2
-returns-2 c = cc
+unfolding comparedSays isLess isGreater
+returns-2 c = rw (c .enum-told2 .given .1)
 
 returns-3 : tie.Need-returns-3
-returns-3 c = cc
+unfolding comparedSays isLess isGreater
+returns-3 c = rw (c .enum-told3 .given .1)
 
 returns-4 : tie.Need-returns-4
-returns-4 c = cc
+unfolding comparedSays isLess isGreater
+returns-4 c = rw (c .before .c .given .1)
 
 pub plain-compared-spec : {M : Type 1} → statement M
 plain-compared-spec =

@@ -1,4 +1,6 @@
 -- `plain_ingested` meets its contract: a case each. Assumes nothing.
+use Rattle.data_model.specs.Said.{numberOf}
+use Rattle.store.specs.Ingest.{verdictSays}
 use borrow.Author.Needs.{needs}
 use Rattle.plain.proofs.answer.plain_ingested.Statement.{statement}
 use Rattle.plain.proofs.answer.plain_ingested.Tie as tie
@@ -13,12 +15,15 @@ enum-known-verdict-2 : tie.Need-enum-known-verdict-2
 enum-known-verdict-2 c = search needs
 
 returns : tie.Need-returns
+unfolding verdictSays numberOf
 returns c = rw (c .before .verdict .given .1)
 
 returns-2 : tie.Need-returns-2
+unfolding verdictSays numberOf
 returns-2 c = rw (c .enum-told .given .1)
 
 returns-3 : tie.Need-returns-3
+unfolding verdictSays numberOf
 returns-3 c = rw (c .before .verdict2 .given .1)
 
 pub plain-ingested-spec : {M : Type 1} → statement M

@@ -1,4 +1,5 @@
 -- `plain_listed` meets its contract: a case each. Assumes nothing.
+use Rattle.query.specs.Listing.{listedSays}
 use borrow.Author.Needs.{needs}
 use Rattle.plain.proofs.answer.plain_listed.Statement.{statement}
 use Rattle.plain.proofs.answer.plain_listed.Tie as tie
@@ -13,13 +14,16 @@ enum-known-l-2 : tie.Need-enum-known-l-2
 enum-known-l-2 c = search needs
 
 returns : tie.Need-returns
-returns c = cc
+unfolding listedSays
+returns c = rw (c .before .l .given .1)
 
 returns-2 : tie.Need-returns-2
-returns-2 c = cc
+unfolding listedSays
+returns-2 c = rw (c .enum-told .given .1)
 
 returns-3 : tie.Need-returns-3
-returns-3 c = cc
+unfolding listedSays
+returns-3 c = rw (c .before .l2 .given .1)
 
 pub plain-listed-spec : {M : Type 1} → statement M
 plain-listed-spec =

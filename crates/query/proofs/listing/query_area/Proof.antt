@@ -3,7 +3,7 @@ use Rattle.data_model.specs.Path.{field, legal}
 use Rattle.tree.specs.Matching.{listedInArea}
 use Rattle.store.specs.Store.{Store, storeOf}
 use Rattle.query.specs.Listing.{areaListed}
-use Rattle.query.proofs.FoundLaws.{has-part, part-listed}
+use Rattle.query.proofs.FoundLaws.{has-part, part-listed, begins-listed}
 use borrow.Author.Needs.{needs}
 use Rattle.query.proofs.listing.query_area.Statement.{statement}
 use Rattle.query.proofs.listing.query_area.Tie as tie
@@ -19,7 +19,10 @@ part-of-requires : tie.Need-part-of-requires
 part-of-requires c κs = let p = (c .before .before .before .before .before) in has-part (lent p) (legal field (p .args .area .path)) (listedInArea (p .args .area) (p .args .ignore)) (p .args .place) _ (c .query-area-place .ensures)
 
 returns : tie.Need-returns
-returns c = let p = (c .before .before .before .before .before .before) in part-listed (lent p) _ (areaListed field (lent p) (p .args .area) (p .args .ignore) (p .args .place)) (c .before .query-area-place .ensures) _ (c .part-of .ensures)
+returns c = let p = (c .before .before .before .before .before .before) in (
+  part-listed (lent p) _ (areaListed field (lent p) (p .args .area) (p .args .ignore) (p .args .place)) (c .before .query-area-place .ensures) _ (c .part-of .ensures .0),
+  begins-listed (p .args .«spt-dir» .now) _ (areaListed field (lent p) (p .args .area) (p .args .ignore) (p .args .place)) (c .before .query-area-place .ensures) _ _ (c .part-of .ensures .1),
+)
 
 pub query-area-spec : {M : Type 1} → statement M
 query-area-spec = tie.close (tie.spec query-area-place-requires part-of-requires returns)

@@ -7,6 +7,7 @@ use Rattle.data_model.specs.Path.{field, legal}
 use Rattle.tree.specs.Matching.{listedInArea}
 use Rattle.store.specs.Store.{Store, storeOf}
 use Rattle.store.proofs.CheckLaws.{Passed}
+use Rattle.query.specs.Listing.{listedSays}
 use Rattle.query.proofs.Tested.{tested, formed-spt, list-refused, list-next}
 use borrow.Author.Needs.{needs}
 use Rattle.query.proofs.listing.query_area_place.Statement.{statement}
@@ -30,6 +31,7 @@ read-refusal-requires : tie.Need-read-refusal-requires
 read-refusal-requires c κs = search needs
 
 returns : tie.Need-returns
+unfolding listedSays
 returns c = let p = (c .before .before .before .before .before .before .before .before) in list-refused (lent (c .before .before .before .before .before .before .before .before)) (c .before .before .is-legal .result) _ (c .before .before .is-legal .ensures) (c .before .read-refusal .result) (c .before .read-refusal .ensures) (listedInArea (p .args .area) (p .args .ignore)) (p .args .place) (c .if1 .taken)
 
 mul-t : tie.Need-mul-t

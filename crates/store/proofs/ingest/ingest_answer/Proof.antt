@@ -5,7 +5,7 @@ use native.Mathlib.Omega.{arith}
 use lib.Seq.{length-take-le}
 use Rattle.data_model.specs.Path.{field}
 use Rattle.store.specs.Store.{Store, storeOf}
-use Rattle.store.specs.Ingest.{ingestRefusal}
+use Rattle.store.specs.Ingest.{verdictSays, ingestRefusal}
 use Rattle.store.proofs.IngestLaws.{Ready, ready, ready-formed, answers-refused, answers-late, old-bounds, answers-old, take-fits, answers-take}
 use borrow.Author.Needs.{needs}
 use Rattle.store.proofs.ingest.ingest_answer.Statement.{statement}
@@ -31,6 +31,7 @@ plain-answer-requires : tie.Need-plain-answer-requires
 plain-answer-requires c κs = search needs
 
 returns : tie.Need-returns
+unfolding verdictSays
 returns c =
     let p = c .before .before .before .before .before .before .before .before in
     answers-refused (lent p) (p .args .prune .now) (p .args .entry) (p .args .token) (p .args .«prevent-pruning») (c .before .before .ingest-refusal .result) (c .before .before .ingest-refusal .ensures) (c .before .if1 .taken) _ (c .plain-answer .ensures)
@@ -103,6 +104,7 @@ taken-answer-requires c κs =
     _ (c .before .d3 .given .1)
 
 returns-2 : tie.Need-returns-2
+unfolding verdictSays
 returns-2 c =
     let e = c .before .before .before .before .before .before .before .before in
     let p = start e in
@@ -117,6 +119,7 @@ returns-3 c =
     _ (c .before .before .before .before .d2 .given .1) _ (c .obsolete-answer .ensures)
 
 returns-4 : tie.Need-returns-4
+unfolding verdictSays
 returns-4 c =
     let e = c .before .before .before .before .before .before .before .before in
     let p = start e in

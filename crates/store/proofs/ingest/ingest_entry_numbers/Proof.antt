@@ -1,11 +1,13 @@
 -- `ingest_entry_numbers` meets its contract: filed if the answer is a success, else nothing is changed. Assumes nothing.
 use Prim.Native.Nat.{ℕ}
-use mathlib.Core.Path.{_≡_}
+use mathlib.Core.Path.{_≡_, ap}
 use mathlib.Core.List.{[], _∷_}
 use mathlib.Core.Logic.{⊎-elim}
 use native.Mathlib.Omega.{arith}
 use types.Run.{OneOf}
 use denote.Enum.Declared.{tagOf}
+use Rattle.data_model.specs.Said.{says}
+use Rattle.store.specs.Ingest.{succeeds, verdictSays, ingestedSays}
 use Rattle.store.specs.Store.{Store, storeOf}
 use Rattle.store.specs.declared.ingest.IngestVerdict.{IngestVerdict}
 use Rattle.store.specs.declared.ingest.IngestVerdict.the-variants.{Success, Obsolete, Refused}
@@ -19,7 +21,8 @@ abbrev lent : tie.Start → Store
 lent p = storeOf (p .args .state) (p .args .spt .now) (p .args .«spt-dir» .now) (p .args .tsp .now) (p .args .«tsp-dir» .now)
 
 -- A verdict whose tag is 1 or 2 is no success.
-other : (v : IngestVerdict) → OneOf (1 ∷ 2 ∷ []) (tagOf the-type v) → (n : ℕ) → v ≡ Success n → ⊥
+other : (v : IngestVerdict) → OneOf (1 ∷ 2 ∷ []) (tagOf the-type v) → (n : ℕ) → verdictSays v ≡ says (succeeds n) → ⊥
+unfolding verdictSays
 other (Success m) k n q = ⊎-elim (λ e. omega arith) (λ e. omega arith) k
 other Obsolete k n q = let z : _≡_ {A = ℕ} 0 1 = cc in omega arith
 other (Refused m) k n q = let z : _≡_ {A = ℕ} 0 1 = cc in omega arith
@@ -31,8 +34,9 @@ enum-told : tie.Need-enum-told
 enum-told c = search needs
 
 file-requires : tie.Need-file-requires
+unfolding verdictSays
 file-requires c κs =
-    let p = c .before .before .before .before .before .before .before .before .before .before .before .before .before .before .before .before .before .before in success-may (lent p) (p .args .prune .now) (p .args .entry) (p .args .token) (p .args .«prevent-pruning») (c .before .before .before .before .before .before .before .ingest-answer .result) (c .before .before .before .before .before .before .before .ingest-answer .ensures) _ (c .before .before .before .before .before .enum-told .given .1)
+    let p = c .before .before .before .before .before .before .before .before .before .before .before .before .before .before .before .before .before .before in success-may (lent p) (p .args .prune .now) (p .args .entry) (p .args .token) (p .args .«prevent-pruning») (ingestedSays (c .before .before .before .before .before .before .before .ingest-answer .result)) (c .before .before .before .before .before .before .before .ingest-answer .ensures) _ (ap verdictSays (c .before .before .before .before .before .enum-told .given .1))
 
 same-length : tie.Need-same-length
 same-length c = search needs
@@ -50,10 +54,11 @@ same-length-5 : tie.Need-same-length-5
 same-length-5 c = search needs
 
 returns : tie.Need-returns
+unfolding verdictSays
 returns c =
     let p = c .before .before .before .before .before .before .before .before .before .before .before .before .before .before .before .before .before .before .before .before .before .before .before .before .before .before .before .before .before in
     let f = c .before .before .before .before .before .before .before .before .before .before .file in
-    outcome-filed (lent p) (p .args .prune .now) (p .args .entry) (p .args .token) (p .args .«prevent-pruning») (c .before .before .before .before .before .before .before .before .before .before .before .before .before .before .before .before .before .before .ingest-answer .result) (c .before .before .before .before .before .before .before .before .before .before .before .before .before .before .before .before .before .before .ingest-answer .ensures) _ (c .before .before .before .before .before .before .before .before .before .before .before .before .before .before .before .before .enum-told .given .1) (f .last .1 .0) (f .last .1 .1 .0) (f .last .1 .1 .1 .0) (f .last .1 .1 .1 .1 .0) (f .last .1 .1 .1 .1 .1 .0) (f .ensures .0) (f .ensures .1)
+    outcome-filed (lent p) (p .args .prune .now) (p .args .entry) (p .args .token) (p .args .«prevent-pruning») (ingestedSays (c .before .before .before .before .before .before .before .before .before .before .before .before .before .before .before .before .before .before .ingest-answer .result)) (c .before .before .before .before .before .before .before .before .before .before .before .before .before .before .before .before .before .before .ingest-answer .ensures) _ (ap verdictSays (c .before .before .before .before .before .before .before .before .before .before .before .before .before .before .before .before .enum-told .given .1)) (f .last .1 .0) (f .last .1 .1 .0) (f .last .1 .1 .1 .0) (f .last .1 .1 .1 .1 .0) (f .last .1 .1 .1 .1 .1 .0) (f .ensures .0) (f .ensures .1)
 
 same-length-6 : tie.Need-same-length-6
 same-length-6 c = search needs
@@ -72,7 +77,7 @@ same-length-10 c = search needs
 
 returns-2 : tie.Need-returns-2
 returns-2 c =
-    let p = c .before .before .before .before .before .before .before .before .before .before .before .before in outcome-same (lent p) (p .args .prune .now) (p .args .entry) (p .args .token) (p .args .«prevent-pruning») (c .before .ingest-answer .result) (c .before .ingest-answer .ensures) (other _ (c .match .keys2))
+    let p = c .before .before .before .before .before .before .before .before .before .before .before .before in outcome-same (lent p) (p .args .prune .now) (p .args .entry) (p .args .token) (p .args .«prevent-pruning») (ingestedSays (c .before .ingest-answer .result)) (c .before .ingest-answer .ensures) (other _ (c .match .keys2))
 
 pub ingest-entry-numbers-spec : {M : Type 1} → statement M
 ingest-entry-numbers-spec =

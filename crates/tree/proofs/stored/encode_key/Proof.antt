@@ -31,7 +31,7 @@ returns c =
     let p = c .before .before .before .before .before .before .before .before in
     let f = c .before .before .before .encode-spt-entry-key in
     let n = c .written-length in
-    wrote-spt (p .args .order) field (p .args .s) (p .args .p) (p .args .t) (p .pre .0) (p .args .out .now) (f .last .1 .1 .1 .0) (p .pre .1) (f .result) (n .result) (n .ensures) (c .before .before .before .before .before .enum-told .given .1) (f .ensures .0) (f .ensures .1)
+    wrote-spt (p .args .order) field (p .args .s) (p .args .p) (p .args .t) (p .pre .0) (p .args .out .now) (f .last .1 .1 .1 .0) (p .pre .1) _ (n .result) (n .ensures) (c .before .before .before .before .before .enum-told .given .1) (f .ensures .0) (f .ensures .1)
 
 same-length-2 : tie.Need-same-length-2
 same-length-2 c = search needs
@@ -41,7 +41,7 @@ returns-2 c =
     let p = c .before .before .before .before .before .before .before .before in
     let f = c .before .before .before .encode-tsp-entry-key in
     let n = c .written-length2 in
-    wrote-tsp (p .args .order) field (p .args .s) (p .args .p) (p .args .t) (p .pre .0) (p .args .out .now) (f .last .1 .1 .1 .0) (p .pre .1) (f .result) (n .result) (n .ensures) (c .before .before .before .before .before .enum-told2 .given .1) (f .ensures .0) (f .ensures .1)
+    wrote-tsp (p .args .order) field (p .args .s) (p .args .p) (p .args .t) (p .pre .0) (p .args .out .now) (f .last .1 .1 .1 .0) (p .pre .1) _ (n .result) (n .ensures) (c .before .before .before .before .before .enum-told2 .given .1) (f .ensures .0) (f .ensures .1)
 
 pub encode-key-spec : {M : Type 1} → statement M
 encode-key-spec =

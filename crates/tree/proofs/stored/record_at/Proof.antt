@@ -1,5 +1,6 @@
 -- `record_at` meets its contract. Assumes nothing.
 use mathlib.Core.Path.{refl}
+use native.Mathlib.Omega.{arith}
 use Rattle.tree.proofs.RecordParts.{record-part}
 use borrow.Author.Needs.{needs}
 use Rattle.tree.proofs.stored.record_at.Statement.{statement}
@@ -25,8 +26,10 @@ part-result-end c = search needs
 
 returns : tie.Need-returns
 returns c =
-    let a = c .before .before .before .before .before .args in
-    record-part (c .before .before .offset .result) (c .before .size .result) _ (a .k) (a .dir .now) (a .tree .now) (c .before .before .offset .ensures .0) (c .before .size .ensures .0) refl
+    let a = c .before .before .before .before .before .args in (
+      record-part (c .before .before .offset .result) (c .before .size .result) _ (a .k) (a .dir .now) (a .tree .now) (c .before .before .offset .ensures .0) (c .before .size .ensures .0) refl,
+      (refl, omega (arith, c .before .before .offset .ensures .0)),
+    )
 
 pub record-at-spec : {M : Type 1} → statement M
 record-at-spec =

@@ -1,4 +1,5 @@
 -- `written_length` meets its contract. Assumes nothing.
+use Rattle.keys.specs.Encode.{encodedSays}
 use Rattle.tree.specs.Stored.{writtenLength}
 use borrow.Author.Needs.{needs}
 use Rattle.tree.proofs.stored.written_length.Statement.{statement}
@@ -11,11 +12,11 @@ enum-told : tie.Need-enum-told
 enum-told c = search needs
 
 returns : tie.Need-returns
-unfolding writtenLength
+unfolding encodedSays writtenLength
 returns c = search needs
 
 returns-2 : tie.Need-returns-2
-unfolding writtenLength
+unfolding encodedSays writtenLength
 returns-2 c = search needs
 
 pub written-length-spec : {M : Type 1} → statement M

@@ -1,7 +1,6 @@
 -- `eq` meets its contract. Assumes nothing.
 use mathlib.Core.Path.{ap, _∙_}
 use Rattle.laws.specs.Order.{isSame}
-use Rattle.data_model.proofs.Answers.{order-is}
 use Rattle.data_model.proofs.Orders.{same-subspace}
 use borrow.Author.Needs.{needs}
 use Rattle.data_model.proofs.parameters.Subspace.eq.Statement.{statement}
@@ -14,7 +13,7 @@ is-equal-requires : tie.Need-is-equal-requires
 is-equal-requires c κs = search needs
 
 returns : tie.Need-returns
-returns c = c .is-equal .ensures ∙ ap isSame (order-is _ _ (c .before .cmp .ensures)) ∙ same-subspace _ _
+returns c = c .is-equal .ensures ∙ ap isSame (c .before .cmp .ensures) ∙ same-subspace _ _
 
 pub eq-spec : {M : Type 1} → statement M
 eq-spec = tie.close (tie.spec cmp-requires is-equal-requires returns)

@@ -2,7 +2,6 @@
 use mathlib.Core.Path.{sym, ap, _∙_}
 use Rattle.laws.specs.Order.{isLess}
 use Rattle.data_model.specs.Range.{subspacesEnd, subspacesInclude}
-use Rattle.data_model.proofs.Answers.{order-is}
 use Rattle.data_model.proofs.RangeLaws.{includes-not, includes-open, includes-closed}
 use borrow.Author.Needs.{needs}
 use Rattle.data_model.proofs.range.SubspaceRange.includes.Statement.{statement}
@@ -16,7 +15,7 @@ is-less-requires c κs = search needs
 
 returns : tie.Need-returns
 unfolding subspacesInclude
-returns c = includes-not _ _ _ _ (sym (c .before .is-less .ensures ∙ ap isLess (order-is _ _ (c .before .before .cmp .ensures))) ∙ c .if1 .taken)
+returns c = includes-not _ _ _ _ (sym (c .before .is-less .ensures ∙ ap isLess (c .before .before .cmp .ensures)) ∙ c .if1 .taken)
 
 enum-known-end : tie.Need-enum-known-end
 enum-known-end c = search needs
@@ -32,11 +31,11 @@ enum-told c = search needs
 
 returns-2 : tie.Need-returns-2
 unfolding subspacesInclude subspacesEnd
-returns-2 c = includes-closed _ _ _ _ _ _ (sym (c .before .before .before .before .before .before .is-less .ensures ∙ ap isLess (order-is _ _ (c .before .before .before .before .before .before .before .cmp .ensures))) ∙ c .before .before .before .before .before .if1 .left) (ap subspacesEnd (c .before .before .before .end .given .1)) (c .is-less2 .ensures ∙ ap isLess (order-is _ _ (c .before .cmp2 .ensures)))
+returns-2 c = includes-closed _ _ _ _ _ _ (sym (c .before .before .before .before .before .before .is-less .ensures ∙ ap isLess (c .before .before .before .before .before .before .before .cmp .ensures)) ∙ c .before .before .before .before .before .if1 .left) (ap subspacesEnd (c .before .before .before .end .given .1)) (c .is-less2 .ensures ∙ ap isLess (c .before .cmp2 .ensures))
 
 returns-3 : tie.Need-returns-3
 unfolding subspacesInclude subspacesEnd
-returns-3 c = includes-open _ _ _ _ (sym (c .before .before .before .is-less .ensures ∙ ap isLess (order-is _ _ (c .before .before .before .before .cmp .ensures))) ∙ c .before .before .if1 .left) (ap subspacesEnd (c .enum-told .given .1))
+returns-3 c = includes-open _ _ _ _ (sym (c .before .before .before .is-less .ensures ∙ ap isLess (c .before .before .before .before .cmp .ensures)) ∙ c .before .before .if1 .left) (ap subspacesEnd (c .enum-told .given .1))
 
 pub includes-spec : {M : Type 1} → statement M
 includes-spec =
