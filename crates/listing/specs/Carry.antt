@@ -77,8 +77,3 @@ leftIn o = record { store = o .store; prune = o .prune }
 unfoldable pub linesCarried : Figures → Left → List (List ℕ) → Left
 linesCarried f w [] = w
 linesCarried f w (l ∷ ls) = linesCarried f (leftIn (lineCarried f (w .store) (w .prune) l)) ls
-
--- Some lines led from one to the other.
-pub record Led (f : Figures) (before after : Left) : Type 0 where
-  pub lines : List (List ℕ)
-  pub carried : after ≡ linesCarried f before lines
