@@ -1,6 +1,5 @@
 -- A line carried out on a store: the answer that is printed, and what the store and the prune list are afterwards.
 use Prim.Native.Nat.{ℕ}
-use mathlib.Core.Path.{_≡_}
 use mathlib.Core.List.{List, [], _∷_}
 use mathlib.Core.Bool.{false}
 use lib.ListN.{replicate}

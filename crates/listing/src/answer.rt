@@ -16,7 +16,7 @@ ghost use Rattle.listing.specs.Carry.{leaving};
 ghost use Rattle.listing.specs.Say.{answerTextMost};
 ghost use Rattle.listing.specs.List.{listTextMost};
 ghost use Rattle.listing.specs.Answers.{asWritten, linesWritten, keptMost, asWrittenPart, partWritten};
-ghost use Rattle.listing.specs.Program.{programLimit, answersAndList, AfterLines};
+ghost use Rattle.listing.specs.Program.{programLimit, answersAndList, AfterReads};
 
 // The state that lines leave, and how many bytes their answers have.
 pub struct Answered {
@@ -139,7 +139,7 @@ pub fn answer_end(
     prune: &mut [u32],
     out: &mut [u8],
 ) -> usize
-    requires { ⌜ AfterLines (leaving given (now spt) (now «spt_dir») (now tsp) (now «tsp_dir») (now prune)) × (answerTextMost + listTextMost programLimit ≤ length (now out)) ⌝ }
+    requires { ⌜ AfterReads (leaving given (now spt) (now «spt_dir») (now tsp) (now «tsp_dir») (now prune)) (now line) × (answerTextMost + listTextMost programLimit ≤ length (now out)) ⌝ }
     ensures { λ r. ⌜ (r ≡ length (answersAndList (leaving given (now (spt .entry)) (now («spt_dir» .entry)) (now (tsp .entry)) (now («tsp_dir» .entry)) (now (prune .entry))) (lastLine (now (line .entry))))) × (r ≤ length (now (out .entry))) × (now (out .exit) ≡ put (answersAndList (leaving given (now (spt .entry)) (now («spt_dir» .entry)) (now (tsp .entry)) (now («tsp_dir» .entry)) (now (prune .entry))) (lastLine (now (line .entry)))) (now (out .entry))) ⌝ }
 {
     let a = answer_last(line, given, spt, spt_dir, tsp, tsp_dir, prune, out);

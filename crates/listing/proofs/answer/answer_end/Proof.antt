@@ -9,7 +9,7 @@ use Rattle.listing.specs.Input.{lastLine}
 use Rattle.listing.specs.Carry.{Left, leaving}
 use Rattle.listing.specs.Answers.{Written}
 use Rattle.listing.proofs.AnswerLaws.{end-written}
-use Rattle.listing.proofs.LedLaws.{after-more, not-refused, limit-is}
+use Rattle.listing.proofs.LedLaws.{after-lines, after-more, not-refused, limit-is}
 use borrow.Author.Needs.{needs}
 use Rattle.listing.proofs.answer.answer_end.Statement.{statement}
 use Rattle.listing.proofs.answer.answer_end.Tie as tie
@@ -33,7 +33,7 @@ write-list-requires : tie.Need-write-list-requires
 write-list-requires c κs =
     let p = (c .before .before .before .before .before .before .before .before .before .before .before .before .before .before .before .before .before .before .before .before .before .before .before .before .before .before .before .before .before .before .before .before) in
     let g = c .before .before .before .before .before .before .before .before .before .before .before .before .before .before .before .before .before .before .answer-last in
-    let h = after-more (p .pre .0) (lastLine (p .args .line .now)) _ (ap (λ (x : Written). x .left) (g .ensures .1)) in
+    let h = after-more (after-lines (p .pre .0)) (lastLine (p .args .line .now)) _ (ap (λ (x : Written). x .left) (g .ensures .1)) in
     let out = g .last .1 .1 .1 .1 .1 .1 .1 .0 in
     let one : length out ≡ length (p .args .out .now) = g .kept .1 .1 .1 .1 .1 .1 .1 .0 in
     let l = limit-is h in
