@@ -1,6 +1,5 @@
 -- A line carried out on a store: the answer that is printed, and what the store and the prune list are afterwards.
 use Prim.Native.Nat.{ℕ}
-use mathlib.Core.Path.{_≡_}
 use mathlib.Core.List.{List, [], _∷_}
 use mathlib.Core.Bool.{false}
 use lib.ListN.{replicate}
@@ -76,8 +75,3 @@ leftIn o = record { store = o .store; prune = o .prune }
 unfoldable pub linesCarried : Figures → Left → List (List ℕ) → Left
 linesCarried f w [] = w
 linesCarried f w (l ∷ ls) = linesCarried f (leftIn (lineCarried f (w .store) (w .prune) l)) ls
-
--- Some lines led from one to the other.
-pub record Led (f : Figures) (before after : Left) : Type 0 where
-  pub lines : List (List ℕ)
-  pub carried : after ≡ linesCarried f before lines

@@ -1,48 +1,26 @@
--- Input in parts: a line's buffer has the line as far as it was read, cut to what the buffer holds.
-use Prim.Native.Nat.{ℕ, _+_, _<_}
-use mathlib.Core.Path.{_≡_}
-use mathlib.Core.Bool.{Bool, true}
-use mathlib.Core.List.{List, _++_}
-use lib.ListN.{length, take, drop}
-use lib.Dec.{ltb}
-use Rattle.text.specs.Fields.{front}
-use Rattle.listing.specs.declared.input.Line.{Line}
+-- The lines of an input: a line ends at a newline, which is no part of it; the last may lack one.
+use Prim.Native.Nat.{ℕ}
+use mathlib.Core.List.{List, [], _∷_, _++_}
+use mathlib.Core.Bool.{cond}
+use lib.Dec.{eqb}
 
 abbrev pub newline : ℕ
 newline = 10
 
--- What stands of a line from a place on: up to its newline, or all that is there.
-abbrev pub partAt : ℕ → List ℕ → List ℕ
-partAt at bytes = front newline (drop at bytes)
+-- The lines whose newline stands among the bytes. `line` is what came of the first of them before the bytes.
+unfoldable pub endedLines : (line bytes : List ℕ) → List (List ℕ)
+endedLines line [] = []
+endedLines line (b ∷ s) = cond (eqb b newline) (line ∷ endedLines [] s) (endedLines (line ++ b ∷ []) s)
 
--- The first n bytes of a buffer with more behind them, as far as there is room.
-abbrev pub extended : (buffer : List ℕ) → (n : ℕ) → List ℕ → List ℕ
-extended buffer n more = take (length buffer) (take n buffer ++ more)
+-- What stands behind the last of these newlines: as much as has come of the next line.
+unfoldable pub begunLine : (line bytes : List ℕ) → List ℕ
+begunLine line [] = line
+begunLine line (b ∷ s) = cond (eqb b newline) (begunLine [] s) (begunLine (line ++ b ∷ []) s)
 
--- The line that begins at a place has its newline among the bytes.
-abbrev pub Ended : ℕ → List ℕ → Type 0
-Ended at bytes = at + length (partAt at bytes) < length bytes
+-- At the end of the input this is a line without its newline, if it has bytes.
+unfoldable pub lastLine : List ℕ → List (List ℕ)
+lastLine [] = []
+lastLine (b ∷ l) = (b ∷ l) ∷ []
 
--- Such a line: its bytes up to the newline, cut to the room of the line's buffer.
-abbrev pub lineBytes : ℕ → List ℕ → (room : ℕ) → List ℕ
-lineBytes at bytes room = take room (partAt at bytes)
-
--- It is found, and the next one begins behind its newline. Whether the input has ended stays.
-abbrev pub lineFound : ℕ → List ℕ → (room : ℕ) → (ended : Bool) → Line
-lineFound at bytes room ended = record {
-  found = true;
-  ended = ended;
-  length = length (lineBytes at bytes room);
-  at = at + length (partAt at bytes) + 1;
-  end = length bytes;
-}
-
--- At the input's end: the last line, if it has bytes.
-abbrev pub lastLine : (length : ℕ) → Line
-lastLine n = record { found = ltb 0 n; ended = true; length = n; at = 0; end = 0 }
-
--- An answer with its line's bytes in the line's buffer, for which nothing was read.
-pub record Handed (answer : Line) (bytes : List ℕ) (given : Line) (line before after : List ℕ) : Type 0 where
-  pub answered : given ≡ answer
-  pub taken : take (given .length) line ≡ bytes
-  pub unread : after ≡ before
+unfoldable pub linesOf : List ℕ → List (List ℕ)
+linesOf input = endedLines [] input ++ lastLine (begunLine [] input)

@@ -1,3 +1,4 @@
+pub mod Answers
 pub mod Carry
 pub mod Input
 pub mod List

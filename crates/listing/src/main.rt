@@ -1,24 +1,26 @@
 // The listing program: lines `in S P T L D` from standard input, each answered on a line; then what the store holds, in key order.
-use crate::carry::carry_out;
-use crate::input::next_line;
-use crate::list::write_list;
-use crate::say::say_answer;
+// Here are the reads and the calls that print, of which no contract can say what they read or print. What is printed is written by
+// `answer_part` and `answer_end`, on slices.
+use crate::answer::answer_end;
+use crate::answer::answer_part;
+use crate::say::ANSWER;
 use libc::STDOUT_FILENO;
 use store::open::open;
 use store::state::RECORD_MOST;
 use store::state::State;
 use text::entry_line::LINE_MOST;
 ghost use mathlib.Core.Path.{_≡_};
-ghost use Prim.Native.Nat.{_≤_};
-ghost use lib.ListN.{length};
+ghost use Prim.Native.Nat.{_*_, _≤_, _<_};
+ghost use lib.ListN.{length, take};
 ghost use Rattle.data_model.specs.Path.{field};
-ghost use Rattle.store.specs.Store.{storeOf, treeRoom, dirRoom};
-ghost use Rattle.listing.specs.Carry.{leaving, Led};
-ghost use Rattle.listing.specs.List.{listTextMost};
-ghost use Rattle.listing.specs.Program.{programLimit, AfterLines};
+ghost use Rattle.store.specs.Store.{treeRoom, dirRoom};
+ghost use Rattle.listing.specs.Carry.{leaving};
+ghost use Rattle.listing.specs.Say.{answerTextMost};
+ghost use Rattle.listing.specs.Answers.{keptMost};
+ghost use Rattle.listing.specs.Program.{programLimit, readMost, ByReads};
 
+mod answer;
 mod carry;
-mod input;
 mod list;
 mod say;
 
@@ -28,12 +30,18 @@ const TREE: usize = RECORD_MOST * LIMIT;
 
 const NUMBERS: usize = 2 * LIMIT;
 
-// The most bytes of the list's first line, of an entry's line, and of the list of a full store.
-const HEAD_LINE: usize = 26;
+// The most bytes of a read, of its answers, and of a line that is kept.
+const READ: usize = 2048;
 
-const ENTRY_LINE: usize = 321;
+const ANSWERS: usize = ANSWER * READ;
 
-const LIST: usize = HEAD_LINE + ENTRY_LINE * LIMIT;
+const KEPT: usize = LINE_MOST + 1;
+
+// The state that reads led to, and how many bytes are kept of the line that has begun.
+struct Begun {
+    state: State,
+    kept: usize,
+}
 
 fn tree_bytes() -> [u8; TREE]
     ensures { λ r. ⌜ length r ≡ treeRoom field programLimit ⌝ }
@@ -47,75 +55,97 @@ fn numbers() -> [u32; NUMBERS]
     [0; NUMBERS]
 }
 
-// Room for the list of a full store.
-fn list_bytes() -> [u8; LIST]
-    ensures { λ r. ⌜ length r ≡ listTextMost programLimit ⌝ }
+fn read_bytes() -> [u8; READ]
+    ensures { λ r. ⌜ length r ≡ readMost ⌝ }
 {
-    [0; LIST]
+    [0; READ]
 }
 
-// Answers every line of the input, and returns the state after the last. Each is carried out on what the one before it left.
-fn answer_lines(
+// Room for an answer to each byte of a read, should all be newlines.
+fn answer_bytes() -> [u8; ANSWERS]
+    ensures { λ r. ⌜ length r ≡ answerTextMost * readMost ⌝ }
+{
+    [0; ANSWERS]
+}
+
+fn line_bytes() -> [u8; KEPT]
+    ensures { λ r. ⌜ length r ≡ keptMost ⌝ }
+{
+    [0; KEPT]
+}
+
+// How many reads may still come. One that does not fill its buffer was the last: the input has ended, or could not be read.
+fn reads_left(turns: u64, got: usize) -> u64
+    requires { ⌜ 0 < turns ⌝ }
+    ensures { λ r. ⌜ r < turns ⌝ }
+{
+    if got < READ {
+        return 0;
+    }
+    turns - 1
+}
+
+// Reads the input, and prints the answers to the lines that end in each read.
+fn answer_reads(
     opened: State,
     spt: &mut [u8],
     spt_dir: &mut [u32],
     tsp: &mut [u8],
     tsp_dir: &mut [u32],
     prune: &mut [u32],
-    input: &mut [u8],
     line: &mut [u8],
-) -> State
-    ensures { λ r. ⌜ Led field (leaving opened (now (spt .entry)) (now («spt_dir» .entry)) (now (tsp .entry)) (now («tsp_dir» .entry)) (now (prune .entry))) (leaving r (now (spt .exit)) (now («spt_dir» .exit)) (now (tsp .exit)) (now («tsp_dir» .exit)) (now (prune .exit))) ⌝ }
+    out: &mut [u8],
+) -> Begun
+    requires { ⌜ (length (now line) ≡ keptMost) × (answerTextMost * readMost ≤ length (now out)) ⌝ }
+    ensures { λ r. ⌜ (r .kept ≤ keptMost) × ByReads (leaving opened (now (spt .entry)) (now («spt_dir» .entry)) (now (tsp .entry)) (now («tsp_dir» .entry)) (now (prune .entry))) (leaving (r .state) (now (spt .exit)) (now («spt_dir» .exit)) (now (tsp .exit)) (now («tsp_dir» .exit)) (now (prune .exit))) (take (r .kept) (now (line .exit))) ⌝ }
 {
     let mut state = opened;
-    let mut at: usize = 0;
-    let mut end: usize = 0;
-    let mut ended = false;
+    let mut n: usize = 0;
+    let mut input = read_bytes();
     let mut turns: u64 = 0xffff_ffff_ffff_ffff;
     while 0 < turns {
-        let l = next_line(input, at, end, ended, line);
-        if !l.found {
-            return state;
-        }
-        at = l.at;
-        end = l.end;
-        ended = l.ended;
-        let n = l.length;
-        let a = carry_out(&line[..n], state, spt, spt_dir, tsp, tsp_dir, prune);
-        let answer = a.answer;
-        say_answer(answer);
-        let after = a.state;
+        let e = io::read_full(0, &mut input);
+        let p = answer_part(
+            &input[..e],
+            state,
+            spt,
+            spt_dir,
+            tsp,
+            tsp_dir,
+            prune,
+            line,
+            n,
+            out,
+        );
+        let w = p.written;
+        io::write_all(STDOUT_FILENO, &out[..w]);
+        let after = p.state;
         state = after;
-        turns -= 1;
+        n = p.kept;
+        turns = reads_left(turns, e);
     }
-    state
+    Begun { state, kept: n }
 }
 
-// Prints the list of the store that lines led to from the opening.
-fn say_list(state: State, spt: &[u8], spt_dir: &[u32], tsp: &[u8], tsp_dir: &[u32])
-    requires { ⌜ AfterLines (storeOf state (now spt) (now «spt_dir») (now tsp) (now «tsp_dir»)) ⌝ }
-{
-    let mut out = list_bytes();
-    let n = write_list(state, spt, spt_dir, tsp, tsp_dir, &mut out);
-    io::write_all(STDOUT_FILENO, &out[..n]);
-}
-
-// The program over its buffers: the store's and the prune list, with the limit's room, the input's and the line's.
+// The program over its buffers: the store's and the prune list, with the limit's room, the line's, and the answers'.
 fn run(
     spt: &mut [u8],
     spt_dir: &mut [u32],
     tsp: &mut [u8],
     tsp_dir: &mut [u32],
     prune: &mut [u32],
-    input: &mut [u8],
     line: &mut [u8],
+    out: &mut [u8],
 )
-    requires { ⌜ (treeRoom field programLimit ≤ length (now spt)) × (dirRoom programLimit ≤ length (now «spt_dir»)) × (treeRoom field programLimit ≤ length (now tsp)) × (dirRoom programLimit ≤ length (now «tsp_dir»)) × (dirRoom programLimit ≤ length (now prune)) ⌝ }
+    requires { ⌜ (treeRoom field programLimit ≤ length (now spt)) × (dirRoom programLimit ≤ length (now «spt_dir»)) × (treeRoom field programLimit ≤ length (now tsp)) × (dirRoom programLimit ≤ length (now «tsp_dir»)) × (dirRoom programLimit ≤ length (now prune)) × (length (now line) ≡ keptMost) × (answerTextMost * readMost ≤ length (now out)) ⌝ }
 {
     let o = open([0; 16], LIMIT, spt, spt_dir, tsp, tsp_dir);
     let opened = o.state;
-    let state = answer_lines(opened, spt, spt_dir, tsp, tsp_dir, prune, input, line);
-    say_list(state, spt, spt_dir, tsp, tsp_dir);
+    let b = answer_reads(opened, spt, spt_dir, tsp, tsp_dir, prune, line, out);
+    let state = b.state;
+    let kept = b.kept;
+    let n = answer_end(&line[..kept], state, spt, spt_dir, tsp, tsp_dir, prune, out);
+    io::write_all(STDOUT_FILENO, &out[..n]);
 }
 
 fn main() {
@@ -124,16 +154,15 @@ fn main() {
     let mut tsp = tree_bytes();
     let mut tsp_dir = numbers();
     let mut prune = numbers();
-    let mut input = io::large_buffer();
-    // One byte more than the longest line has: a line that is cut there is too long.
-    let mut line = [0u8; LINE_MOST + 1];
+    let mut line = line_bytes();
+    let mut out = answer_bytes();
     run(
         &mut spt,
         &mut spt_dir,
         &mut tsp,
         &mut tsp_dir,
         &mut prune,
-        &mut input,
         &mut line,
+        &mut out,
     );
 }

@@ -2,7 +2,6 @@
 use crate::carry::Answer;
 use crate::carry::wide;
 use data_model::entry::Entry;
-use libc::STDOUT_FILENO;
 use text::decimal::write_number;
 use text::entry_line::write_listed;
 use text::line::write_bytes;
@@ -25,7 +24,7 @@ ghost use Rattle.listing.specs.List.{entryLineMost};
 ghost use Rattle.listing.specs.Say.{numberMost, numbered, answerText, answerTextMost, entryText, recordText};
 
 // The most bytes of an answer.
-const ANSWER: usize = 29;
+pub const ANSWER: usize = 29;
 
 // A number and the line's end.
 fn write_ended(x: u64, out: &mut [u8]) -> usize
@@ -47,7 +46,7 @@ pub fn write_numbered(word: &[u8], x: u64, out: &mut [u8]) -> usize
 }
 
 // The answer to a line, and the line's end.
-fn write_answer(answer: Answer, out: &mut [u8]) -> usize
+pub fn write_answer(answer: Answer, out: &mut [u8]) -> usize
     requires { ⌜ answerTextMost ≤ length (now out) ⌝ }
     ensures { λ r. ⌜ (r ≡ length (answerText answer)) × (r ≤ answerTextMost) × (now (out .exit) ≡ put (answerText answer) (now (out .entry))) ⌝ }
 {
@@ -57,12 +56,6 @@ fn write_answer(answer: Answer, out: &mut [u8]) -> usize
         Answer::Bad => write_bytes(b"bad\n", out),
         Answer::Refused(n) => write_numbered(b"refused ", wide(n), out),
     }
-}
-
-pub fn say_answer(answer: Answer) {
-    let mut out = [0u8; ANSWER];
-    let n = write_answer(answer, &mut out);
-    io::write_all(STDOUT_FILENO, &out[..n]);
 }
 
 // `S P T L D`: of the subspace its last byte, of the digest its first.

@@ -8,8 +8,8 @@ use lib.Seq.{length-take-le}
 use Rattle.data_model.proofs.Values.{length-piece}
 use Rattle.listing.proofs.InputLaws.{added-all, added-front}
 use borrow.Author.Needs.{needs}
-use Rattle.listing.proofs.input.append.Statement.{statement}
-use Rattle.listing.proofs.input.append.Tie as tie
+use Rattle.listing.proofs.answer.append.Statement.{statement}
+use Rattle.listing.proofs.answer.append.Tie as tie
 
 sub-room : tie.Need-sub-room
 sub-room c = search needs
