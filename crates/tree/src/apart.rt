@@ -61,8 +61,8 @@ fn clear_at(namespace: [u8; 16], count: usize, dir: &[u32], tree: &[u8], k: usiz
     if count <= k + 1 {
         return true;
     }
-    let front = open_at(KeyOrder::Spt, count, dir, tree, k);
-    if !begins(place_at(KeyOrder::Spt, count, dir, tree, k + 1), front) {
+    let front = open_at(KeyOrder::Spt, dir, tree, k);
+    if !begins(place_at(KeyOrder::Spt, dir, tree, k + 1), front) {
         return true;
     }
     let a = stored_at(KeyOrder::Spt, namespace, dir, tree, k);

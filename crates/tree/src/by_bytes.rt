@@ -62,13 +62,13 @@ fn in_area_at(
     requires { ⌜ (Formed order count (now dir) (now tree)) × (k < count) ⌝ }
     ensures { λ r. ⌜ r ≡ inAreaBytes own times (now (front .entry)) (stored order field namespace (recordAt k (now (dir .entry)) (now (tree .entry)))) ⌝ }
 {
-    if !begins(path_at(order, count, dir, tree, k), front) {
+    if !begins(path_at(order, dir, tree, k), front) {
         return false;
     }
-    if !own.includes(subspace_at(order, count, dir, tree, k)) {
+    if !own.includes(subspace_at(order, dir, tree, k)) {
         return false;
     }
-    times.includes(time_at(order, count, dir, tree, k))
+    times.includes(time_at(order, dir, tree, k))
 }
 
 pub fn listed_in_area_at(
@@ -122,13 +122,13 @@ fn in_range_at(
     requires { ⌜ (Formed order count (now dir) (now tree)) × (k < count) ⌝ }
     ensures { λ r. ⌜ r ≡ inRangeBytes subspaces times (now (start .entry)) «open» (now (end .entry)) (stored order field namespace (recordAt k (now (dir .entry)) (now (tree .entry)))) ⌝ }
 {
-    if !subspaces.includes(subspace_at(order, count, dir, tree, k)) {
+    if !subspaces.includes(subspace_at(order, dir, tree, k)) {
         return false;
     }
-    if !times.includes(time_at(order, count, dir, tree, k)) {
+    if !times.includes(time_at(order, dir, tree, k)) {
         return false;
     }
-    in_paths(path_at(order, count, dir, tree, k), start, open, end)
+    in_paths(path_at(order, dir, tree, k), start, open, end)
 }
 
 pub fn listed_in_range_at(

@@ -100,7 +100,7 @@ fn outdates_at(
     requires { ⌜ (Formed order count (now dir) (now tree)) × (k < count) × (legal field (e .path) ≡ true) × (now place ≡ placeKey (e .«subspace_id») (components (e .path))) ⌝ }
     ensures { λ r. ⌜ r ≡ outdates (entryOf e) (stored order field namespace (recordAt k (now (dir .entry)) (now (tree .entry)))) ⌝ }
 {
-    if !begins(place, open_at(order, count, dir, tree, k)) {
+    if !begins(place, open_at(order, dir, tree, k)) {
         return false;
     }
     let a = stored_at(order, namespace, dir, tree, k);
@@ -121,7 +121,7 @@ fn removes_at(
     requires { ⌜ (Formed order count (now dir) (now tree)) × (k < count) × (legal field (e .path) ≡ true) × (now front ≡ openKey (e .«subspace_id») (components (e .path))) ⌝ }
     ensures { λ r. ⌜ r ≡ removes (entryOf e) (stored order field namespace (recordAt k (now (dir .entry)) (now (tree .entry)))) ⌝ }
 {
-    if !begins(place_at(order, count, dir, tree, k), front) {
+    if !begins(place_at(order, dir, tree, k), front) {
         return false;
     }
     let a = stored_at(order, namespace, dir, tree, k);
@@ -142,7 +142,7 @@ fn stands_at_place(
     requires { ⌜ (Formed order count (now dir) (now tree)) × (k < count) × (legal field path ≡ true) × (now place ≡ placeKey subspace (components path)) ⌝ }
     ensures { λ r. ⌜ r ≡ standsAt subspace (components path) (stored order field namespace (recordAt k (now (dir .entry)) (now (tree .entry)))) ⌝ }
 {
-    if !same(place_at(order, count, dir, tree, k), place) {
+    if !same(place_at(order, dir, tree, k), place) {
         return false;
     }
     let a = stored_at(order, namespace, dir, tree, k);

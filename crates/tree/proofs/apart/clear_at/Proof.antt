@@ -1,6 +1,6 @@
 -- `clear_at` meets its contract. Assumes nothing.
 use native.Mathlib.Omega.{arith}
-use Rattle.tree.proofs.FormedLaws.{formed-bounds}
+use Rattle.tree.proofs.FormedLaws.{formed-bounds, formed-readable}
 use Rattle.tree.proofs.ClearLaws.{clear-last, clear-other, clear-read}
 use borrow.Author.Needs.{needs}
 use Rattle.tree.proofs.apart.clear_at.Statement.{statement}
@@ -13,13 +13,13 @@ returns : tie.Need-returns
 returns c = clear-last (c .before .before .before .pre .0) _ (c .before .before .before .args .k) _ (omega arith)
 
 open-at-requires : tie.Need-open-at-requires
-open-at-requires c κs = search needs
+open-at-requires c κs = search (needs, formed-readable)
 
 add-place-at : tie.Need-add-place-at
 add-place-at c = omega (arith, c .before .before .before .before .pre .0 .few)
 
 place-at-requires : tie.Need-place-at-requires
-place-at-requires c κs = search needs
+place-at-requires c κs = search (needs, formed-readable)
 
 begins-requires : tie.Need-begins-requires
 begins-requires c κs = search needs

@@ -2,14 +2,14 @@
 use mathlib.Core.Path.{ap, _∙_}
 use Rattle.data_model.specs.Entry.{entryOf}
 use Rattle.tree.specs.Matching.{outdates}
-use Rattle.tree.proofs.FormedLaws.{formed-bounds}
+use Rattle.tree.proofs.FormedLaws.{formed-bounds, formed-readable}
 use Rattle.tree.proofs.PlaceLaws.{outdates-not}
 use borrow.Author.Needs.{needs}
 use Rattle.tree.proofs.matching.outdates_at.Statement.{statement}
 use Rattle.tree.proofs.matching.outdates_at.Tie as tie
 
 open-at-requires : tie.Need-open-at-requires
-open-at-requires c κs = search needs
+open-at-requires c κs = search (needs, formed-readable)
 
 begins-requires : tie.Need-begins-requires
 begins-requires c κs = search needs

@@ -2,14 +2,14 @@
 use mathlib.Core.Path.{ap, _∙_}
 use Rattle.data_model.specs.Entry.{entryOf}
 use Rattle.tree.specs.Matching.{removes}
-use Rattle.tree.proofs.FormedLaws.{formed-bounds}
+use Rattle.tree.proofs.FormedLaws.{formed-bounds, formed-readable}
 use Rattle.tree.proofs.PlaceLaws.{removes-not}
 use borrow.Author.Needs.{needs}
 use Rattle.tree.proofs.matching.removes_at.Statement.{statement}
 use Rattle.tree.proofs.matching.removes_at.Tie as tie
 
 place-at-requires : tie.Need-place-at-requires
-place-at-requires c κs = search needs
+place-at-requires c κs = search (needs, formed-readable)
 
 begins-requires : tie.Need-begins-requires
 begins-requires c κs = search needs

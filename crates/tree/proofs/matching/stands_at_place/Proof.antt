@@ -2,14 +2,14 @@
 use mathlib.Core.Path.{ap, _∙_}
 use Rattle.data_model.specs.Path.{components}
 use Rattle.tree.specs.Matching.{standsAt}
-use Rattle.tree.proofs.FormedLaws.{formed-bounds}
+use Rattle.tree.proofs.FormedLaws.{formed-bounds, formed-readable}
 use Rattle.tree.proofs.PlaceLaws.{stands-not}
 use borrow.Author.Needs.{needs}
 use Rattle.tree.proofs.matching.stands_at_place.Statement.{statement}
 use Rattle.tree.proofs.matching.stands_at_place.Tie as tie
 
 place-at-requires : tie.Need-place-at-requires
-place-at-requires c κs = search needs
+place-at-requires c κs = search (needs, formed-readable)
 
 same-requires : tie.Need-same-requires
 same-requires c κs = search needs
