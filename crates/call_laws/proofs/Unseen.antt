@@ -12,7 +12,7 @@ use Rattle.data_model.specs.Entry.{Entry, entryOf, newer, prunes}
 use Rattle.data_model.specs.Range.{pathsInclude, legalRange}
 use Rattle.data_model.specs.Range3d.{rangeIncludes}
 use Rattle.data_model.specs.Area.{areaIncludes, emptyRange, areaRangeAnswer}
-use Rattle.data_model.specs.Refusal.{illegalPath, answered, compared}
+use Rattle.data_model.specs.Refusal.{illegalPath, answered}
 use Rattle.data_model.specs.declared.path.Path.{Path}
 use Rattle.data_model.specs.declared.parameters.Subspace.{Subspace}
 use Rattle.data_model.specs.declared.entry.Entry.{Entry as EntryValue}
@@ -42,9 +42,9 @@ module _ (f : Figures) (p p′ q q′ : Path) (h : PathsAgree p p′) (k : Paths
   both-answered : (g : Components → Components → Bool) → answered (legal f p && legal f q) (g (components p) (components q)) ≡ answered (legal f p′ && legal f q′) (g (components p′) (components q′))
   both-answered g = answers both (of-both g)
 
-  both-compared : (g : Components → Components → Order) → compared (legal f p && legal f q) (g (components p) (components q)) ≡ compared (legal f p′ && legal f q′) (g (components p′) (components q′))
-  unfolding compared
-  both-compared g = guarded compared (λ x y. refl) _ _ _ _ both (of-both g)
+  both-compared : (g : Components → Components → Order) → answered (legal f p && legal f q) (g (components p) (components q)) ≡ answered (legal f p′ && legal f q′) (g (components p′) (components q′))
+  unfolding answered
+  both-compared g = guarded answered (λ x y. refl) _ _ _ _ both (of-both g)
 
 -- Of two entries.
 module _ (f : Figures) (a a′ b b′ : EntryValue) (h : EntriesAgree a a′) (k : EntriesAgree b b′) where

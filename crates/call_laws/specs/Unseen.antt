@@ -9,7 +9,7 @@ use Rattle.data_model.specs.Entry.{entryOf, rankOf, newer, prunes}
 use Rattle.data_model.specs.Range.{pathsInclude, legalRange}
 use Rattle.data_model.specs.Range3d.{rangeIncludes}
 use Rattle.data_model.specs.Area.{areaIncludes, areaRangeAnswer}
-use Rattle.data_model.specs.Refusal.{answered, compared}
+use Rattle.data_model.specs.Refusal.{answered}
 use Rattle.data_model.specs.declared.parameters.Subspace.{Subspace}
 use Rattle.keys.specs.Encode.{triple, sptKey, tspKey, roomy, encoded, encodedIn}
 use Rattle.key_laws.specs.Agree.{PathsAgree, EntriesAgree, AreasAgree, PathRangesAgree, RangesAgree, InterestsAgree, ProtectedAgree, SameFor, SameForBoth}
@@ -29,7 +29,7 @@ pub record Unseen (f : Figures) : Type 0 where
   -- Path
   pub is-legal : SameFor PathsAgree (legal f)
   pub both-legal : SameForBoth PathsAgree PathsAgree (λ p q. legal f p && legal f q)
-  pub cmp : SameForBoth PathsAgree PathsAgree (λ p q. compared (legal f p && legal f q) (byComponents (components p) (components q)))
+  pub cmp : SameForBoth PathsAgree PathsAgree (λ p q. answered (legal f p && legal f q) (byComponents (components p) (components q)))
   pub eq : SameForBoth PathsAgree PathsAgree (λ p q. answered (legal f p && legal f q) (samePath (components p) (components q)))
   pub is-prefix-of : SameForBoth PathsAgree PathsAgree (λ p q. answered (legal f p && legal f q) (isPrefix (components p) (components q)))
   pub is-prefixed-by : SameForBoth PathsAgree PathsAgree (λ p q. answered (legal f q && legal f p) (isPrefix (components q) (components p)))

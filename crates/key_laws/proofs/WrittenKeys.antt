@@ -15,7 +15,7 @@ use Rattle.data_model.specs.declared.path.Path.{Path}
 use Rattle.data_model.specs.declared.parameters.Subspace.{Subspace}
 use Rattle.keys.specs.Encode.{Triple, triple, pathKey, sptKey, tspKey, keyMost, roomy, encoded, encodedIn}
 use Rattle.keys.specs.Decode.{Taken, refused, took, readPath, readSpt, readTsp, wasRead, decoded, pathRead}
-use Rattle.keys.specs.declared.encode.Encoded.the-variants as answer
+use Rattle.data_model.specs.Said.{says}
 use Rattle.keys.specs.declared.decode.Decoded.{Decoded}
 use Rattle.keys.specs.declared.decode.PathRead.{PathRead}
 use Rattle.key_laws.specs.Bytes.{Bytes}
@@ -25,7 +25,7 @@ use Rattle.key_laws.proofs.Fits.{legal-fits, legal-of, components-of, p
 use Rattle.key_laws.proofs.Inverse.{path-back, path-forth, spt-back, tsp-back, spt-forth, tsp-forth}
 
 -- What an encoder wrote is the key, and the path was legal.
-wrote : (room lawful : Bool) (key k buffer : List ℕ) → encoded room lawful key ≡ answer.Written (length k) → take (length k) (encodedIn room lawful key buffer) ≡ k
+wrote : (room lawful : Bool) (key k buffer : List ℕ) → encoded room lawful key ≡ says (length k) → take (length k) (encodedIn room lawful key buffer) ≡ k
     → (lawful ≡ true) × (key ≡ k)
 unfolding encoded encodedIn put
 wrote false lawful key k buffer e b = absurd (let z : _≡_ {A = ℕ} 0 1 = cc in omega arith)
@@ -34,11 +34,11 @@ wrote true true key k buffer e b = let n : length key ≡ length k = cc in (refl
 
 -- The other way round: a legal path's key is written into a buffer that is long enough.
 writes : (room lawful : Bool) (key k buffer : List ℕ) → room ≡ true → lawful ≡ true → key ≡ k
-    → (encoded room lawful key ≡ answer.Written (length k)) × (take (length k) (encodedIn room lawful key buffer) ≡ k)
+    → (encoded room lawful key ≡ says (length k)) × (take (length k) (encodedIn room lawful key buffer) ≡ k)
 unfolding encoded encodedIn put
 writes false lawful key k buffer r l e = clash r refl
 writes true false key k buffer r l e = clash l refl
-writes true true key k buffer r l e = (ap (λ (x : List ℕ). answer.Written (length x)) e, take-at key (drop (length key) buffer) (length k) (ap length e) ∙ e)
+writes true true key k buffer r l e = (ap (λ (x : List ℕ). says (length x)) e, take-at key (drop (length key) buffer) (length k) (ap length e) ∙ e)
 
 long : List ℕ
 long = replicate (keyMost field) 0

@@ -10,7 +10,7 @@ use Rattle.data_model.specs.declared.path.Path.{Path}
 use Rattle.data_model.specs.declared.parameters.Subspace.{Subspace}
 use Rattle.keys.specs.Encode.{Triple, triple, pathKey, sptKey, tspKey, roomy, encoded, encodedIn}
 use Rattle.keys.specs.Decode.{readPath, readSpt, readTsp, wasRead, decoded, pathRead}
-use Rattle.keys.specs.declared.encode.Encoded.the-variants as answer
+use Rattle.data_model.specs.Said.{says}
 use Rattle.keys.specs.declared.decode.Decoded.{Decoded}
 use Rattle.keys.specs.declared.decode.PathRead.{PathRead}
 use Rattle.key_laws.specs.Bytes.{Bytes}
@@ -27,7 +27,7 @@ pub record Writes (key : Triple → List ℕ) (s : Subspace) (p : Path) (t : ℕ
   pub value : PathIsValue p
   pub sized : Sized (triple s (components p) t)
   pub buffer : List ℕ
-  pub answers : encoded (roomy field buffer) (legal field p) (key (triple s (components p) t)) ≡ answer.Written (length k)
+  pub answers : encoded (roomy field buffer) (legal field p) (key (triple s (components p) t)) ≡ says (length k)
   pub begins : take (length k) (encodedIn (roomy field buffer) (legal field p) (key (triple s (components p) t)) buffer) ≡ k
 
 -- What a decoder answers to the bytes k: 5 exactly if the encoder writes k for no values; else 0, and values that the encoder writes k for. Whichever

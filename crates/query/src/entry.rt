@@ -8,10 +8,10 @@ use store::state::LIMIT_MOST;
 use store::state::RECORD_MOST;
 use store::state::State;
 use tree::by_value::is_legal;
+use tree::entries::mark_at;
 use tree::marks::first_marked;
 use tree::matching::QueryIgnoreParams;
 use tree::matching::let_through;
-use tree::matching::mark_at;
 use tree::stored::KeyOrder;
 use tree::stored::LengthyAuthorisedEntry;
 use tree::stored::stored_at;
@@ -56,7 +56,6 @@ fn find_entry(
     let mut marks = [0u8; LIMIT_MOST];
     mark_at(
         KeyOrder::Spt,
-        namespace,
         count,
         spt_dir,
         spt,

@@ -1,6 +1,6 @@
 -- What an entry that may be filed brings with it for each tree, what the store is when it is filed in both, and what the public call
 -- leaves. Assumes nothing.
-use mathlib.Core.Path.{_≡_, refl, sym, ap, _∙_}
+use mathlib.Core.Path.{_≡_, refl, sym, ap, subst, _∙_}
 use mathlib.Core.List.{List, _++_}
 use mathlib.Core.Bool.{Bool, true, false, _&&_}
 use Prim.Native.Nat.{ℕ, _+_, _*_, _≤_, _<_}
@@ -117,33 +117,35 @@ module _ (s : Store) (prune : List ℕ) (e : EntryValue) (m : MayFile field s pr
         }
 
     -- What `file_in` asks of each tree.
-    pub files-spt : (token : List ℕ) → FilesIn Spt (s .state .«namespace_id») (s .state .count) (sptDirIn s) (sptIn s) (filedValue e token)
+    pub files-spt : (token : List ℕ) → FilesIn Spt (e .«namespace_id») (s .state .count) (sptDirIn s) (sptIn s) (filedValue e token)
     unfolding dirOf treeOf
-    files-spt token = files-in Spt token
+    files-spt token = subst (λ (ns : List ℕ). FilesIn Spt ns (s .state .count) (sptDirIn s) (sptIn s) (filedValue e token)) (sym (may-ready .namespace)) (files-in Spt token)
 
-    pub files-tsp : (token : List ℕ) → FilesIn Tsp (s .state .«namespace_id») (s .state .count) (tspDirIn s) (tspIn s) (filedValue e token)
+    pub files-tsp : (token : List ℕ) → FilesIn Tsp (e .«namespace_id») (s .state .count) (tspDirIn s) (tspIn s) (filedValue e token)
     unfolding dirOf treeOf
-    files-tsp token = files-in Tsp token
+    files-tsp token = subst (λ (ns : List ℕ). FilesIn Tsp ns (s .state .count) (tspDirIn s) (tspIn s) (filedValue e token)) (sym (may-ready .namespace)) (files-in Tsp token)
 
   -- What is left: the front parts rewritten, the rest kept.
   module _ (token : List ℕ) where
     pub filed-both : (spt sptDir tsp tspDir : List ℕ) (i j : ℕ)
-        → Changed Spt (filedIn Spt (storedOf (filedValue e token)) (inTree Spt (s .state .«namespace_id») (s .state .count) (sptDirIn s) (sptIn s))) (sptDirIn s) (sptIn s) sptDir spt i
-        → Changed Tsp (filedIn Tsp (storedOf (filedValue e token)) (inTree Tsp (s .state .«namespace_id») (s .state .count) (tspDirIn s) (tspIn s))) (tspDirIn s) (tspIn s) tspDir tsp j
+        → Changed Spt (filedIn Spt (storedOf (filedValue e token)) (inTree Spt (e .«namespace_id») (s .state .count) (sptDirIn s) (sptIn s))) (sptDirIn s) (sptIn s) sptDir spt i
+        → Changed Tsp (filedIn Tsp (storedOf (filedValue e token)) (inTree Tsp (e .«namespace_id») (s .state .count) (tspDirIn s) (tspIn s))) (tspDirIn s) (tspIn s) tspDir tsp j
         → storeOf (storeFiled field s (entryOf e) token .state) (spt ++ drop (treeRoom field (s .state .limit)) (s .spt)) (sptDir ++ drop (dirRoom (s .state .limit)) (s .sptDir))
         (tsp ++ drop (treeRoom field (s .state .limit)) (s .tsp)) (tspDir ++ drop (dirRoom (s .state .limit)) (s .tspDir)) ≡ storeFiled field s (entryOf e) token
     unfolding holding filed heldBy held treeOf dirOf storedOf
-    filed-both spt sptDir tsp tspDir i j p q =
+    filed-both spt sptDir tsp tspDir i j p′ q′ =
         let r = may-ready .passes .room in
+        let p = subst (λ (ns : List ℕ). Changed Spt (filedIn Spt (storedOf (filedValue e token)) (inTree Spt ns (s .state .count) (sptDirIn s) (sptIn s))) (sptDirIn s) (sptIn s) sptDir spt i) (may-ready .namespace) p′ in
+        let q = subst (λ (ns : List ℕ). Changed Tsp (filedIn Tsp (storedOf (filedValue e token)) (inTree Tsp ns (s .state .count) (tspDirIn s) (tspIn s))) (tspDirIn s) (tspIn s) tspDir tsp j) (may-ready .namespace) q′ in
         let a = tree-holds Spt (s .state .limit) (filedIn Spt (filing (entryOf e) token) (held field Spt s)) (s .spt) spt (r .spt) (p .bytes) in
         let b = dir-holds Spt (s .state .limit) (filedIn Spt (filing (entryOf e) token) (held field Spt s)) (s .sptDir) sptDir (r .sptDir) (p .numbers) in
         let c = tree-holds Tsp (s .state .limit) (filedIn Tsp (filing (entryOf e) token) (held field Tsp s)) (s .tsp) tsp (r .tsp) (q .bytes) in
         let d = dir-holds Tsp (s .state .limit) (filedIn Tsp (filing (entryOf e) token) (held field Tsp s)) (s .tspDir) tspDir (r .tspDir) (q .numbers) in
         λ k. storeOf (storeFiled field s (entryOf e) token .state) (a k) (b k) (c k) (d k)
 
-    pub pruned-done : (out : List ℕ) → out ≡ put (markedPairs (marksOf (removes (entryOf e)) (inSpt s)) (sptDirIn s)) prune → out ≡ put (prunedPairs field s (entryOf e)) prune
+    pub pruned-done : (out : List ℕ) → out ≡ put (markedPairs (marksOf (removes (entryOf e)) (inTree Spt (e .«namespace_id») (s .state .count) (sptDirIn s) (sptIn s))) (sptDirIn s)) prune → out ≡ put (prunedPairs field s (entryOf e)) prune
     unfolding prunedPairs held treeOf dirOf
-    pruned-done out q = q
+    pruned-done out q = q ∙ ap (λ (ns : List ℕ). put (markedPairs (marksOf (removes (entryOf e)) (inTree Spt ns (s .state .count) (sptDirIn s) (sptIn s))) (sptDirIn s)) prune) (may-ready .namespace)
 
 -- Decisions differ.
 module _ {G : Type 0} where

@@ -176,6 +176,12 @@ pub ready-formed : (s : Store) (prune : List ℕ) (e : EntryValue) → Ready s p
 unfolding dirOf treeOf
 ready-formed s prune e v = v .passes .formed Spt
 
+-- What is decided in a tree of the entry's namespace is decided in the store's.
+pub decided-own : (s : Store) (prune : List ℕ) (e : EntryValue) (prevent : Bool) → Ready s prune e → (d : PlaceDecision)
+    → d ≡ placeDecided (s .state .limit) (contents Spt field (e .«namespace_id») (records (s .state .count) (sptDirIn s) (sptIn s))) (entryOf e) prevent
+    → d ≡ placeDecided (s .state .limit) (inSpt s) (entryOf e) prevent
+decided-own s prune e prevent v d q = q ∙ ap (λ (ns : List ℕ). placeDecided (s .state .limit) (contents Spt field ns (records (s .state .count) (sptDirIn s) (sptIn s))) (entryOf e) prevent) (v .namespace)
+
 -- The answers.
 module _ (s : Store) (prune : List ℕ) (e : EntryValue) (token : List ℕ) (prevent : Bool) where
   pub answers-refused : (n : ℕ) → n ≡ ingestRefusal field s prune e → (n ≡ 0 → ⊥) → (r : IngestSaid) → r ≡ plainAnswer (refuses n) (s .state) → r ≡ ingested field s prune e token prevent .answer

@@ -6,10 +6,10 @@ use data_model::parameters::Subspace;
 use data_model::path::Path;
 use tree::edit::insert_at;
 use tree::edit::retain;
+use tree::entries::mark_at;
+use tree::entries::mark_removed;
 use tree::marks::unmark;
 use tree::matching::mark_area;
-use tree::matching::mark_at;
-use tree::matching::mark_removed;
 use tree::matching::no_flags;
 use tree::search::find;
 use tree::stored::KeyOrder;
@@ -32,21 +32,20 @@ ghost use Rattle.store.specs.Store.{limitMost};
 ghost use Rattle.store.specs.Ingest.{filedIn};
 ghost use Rattle.store.specs.Change.{inTree, Changed, FilesIn};
 
-// Files an entry in one tree: removes what it removes, puts its record in at its key's place, and answers the new count.
+// Files an entry in one tree of its namespace: removes what it removes, puts its record in at its key's place, and answers the new count.
 pub fn file_in(
     order: KeyOrder,
-    namespace: [u8; 16],
     count: usize,
     tree: &mut [u8],
     dir: &mut [u32],
     a: LengthyAuthorisedEntry,
 ) -> usize
-    requires { ⌜ FilesIn order namespace count (now dir) (now tree) a ⌝ }
-    ensures { λ r. ⌜ Changed order (filedIn order (storedOf a) (inTree order namespace count (now (dir .entry)) (now (tree .entry)))) (now (dir .entry)) (now (tree .entry)) (now (dir .exit)) (now (tree .exit)) r ⌝ }
+    requires { ⌜ FilesIn order (a .entry .«namespace_id») count (now dir) (now tree) a ⌝ }
+    ensures { λ r. ⌜ Changed order (filedIn order (storedOf a) (inTree order (a .entry .«namespace_id») count (now (dir .entry)) (now (tree .entry)))) (now (dir .entry)) (now (tree .entry)) (now (dir .exit)) (now (tree .exit)) r ⌝ }
 {
     let e = a.entry;
     let mut marks = [0u8; LIMIT_MOST];
-    mark_removed(order, namespace, count, dir, tree, e, &mut marks);
+    mark_removed(order, count, dir, tree, e, &mut marks);
     let left = retain(order, count, dir, tree, &marks);
     let mut rec = [0u8; RECORD_MOST];
     let n = encode_record(order, a, &mut rec);
@@ -55,10 +54,9 @@ pub fn file_in(
     left + 1
 }
 
-// Takes out what stands at a subspace and path, and answers how many are left.
+// Takes out what stands at a subspace and path, whatever the tree's namespace, and answers how many are left.
 pub fn drop_at(
     order: KeyOrder,
-    namespace: [u8; 16],
     count: usize,
     tree: &mut [u8],
     dir: &mut [u32],
@@ -66,19 +64,10 @@ pub fn drop_at(
     path: Path,
 ) -> usize
     requires { ⌜ (Whole order count (now dir) (now tree)) × (count ≤ limitMost) × (legal field path ≡ true) ⌝ }
-    ensures { λ r. ⌜ Changed order (keep (λ x. not (standsAt subspace (components path) x)) (inTree order namespace count (now (dir .entry)) (now (tree .entry)))) (now (dir .entry)) (now (tree .entry)) (now (dir .exit)) (now (tree .exit)) r ⌝ }
+    ensures { λ r. ⌜ ((namespace : List ℕ) → Changed order (keep (λ x. not (standsAt subspace (components path) x)) (inTree order namespace count (now (dir .entry)) (now (tree .entry)))) (now (dir .entry)) (now (tree .entry)) (now (dir .exit)) (now (tree .exit)) r) ⌝ }
 {
     let mut marks = [0u8; LIMIT_MOST];
-    mark_at(
-        order,
-        namespace,
-        count,
-        dir,
-        tree,
-        subspace,
-        path,
-        &mut marks,
-    );
+    mark_at(order, count, dir, tree, subspace, path, &mut marks);
     retain(order, count, dir, tree, &marks)
 }
 

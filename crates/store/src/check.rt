@@ -76,7 +76,7 @@ fn well_formed_trees(
     if !within(namespace, count, spt_dir, spt, tsp_dir, tsp) {
         return false;
     }
-    apart(namespace, count, spt_dir, spt)
+    apart(count, spt_dir, spt)
 }
 
 fn is_well_formed(state: State, spt: &[u8], spt_dir: &[u32], tsp: &[u8], tsp_dir: &[u32]) -> bool

@@ -12,8 +12,8 @@ use data_model::parameters::Subspace;
 use data_model::path::Path;
 use tree::by_value::is_legal;
 use tree::by_value::same_bytes;
+use tree::entries::mark_at;
 use tree::marks::first_marked;
-use tree::matching::mark_at;
 use tree::stored::KeyOrder;
 use tree::stored::stored_at;
 ghost use mathlib.Core.Path.{_≡_};
@@ -59,7 +59,6 @@ fn is_other_digest(
     let mut marks = [0u8; LIMIT_MOST];
     mark_at(
         KeyOrder::Spt,
-        namespace,
         count,
         spt_dir,
         spt,
@@ -151,7 +150,6 @@ pub fn forget_entry(
     let d = 2 * state.limit;
     let count = drop_at(
         KeyOrder::Spt,
-        namespace_id,
         state.count,
         &mut spt[..t],
         &mut spt_dir[..d],
@@ -160,7 +158,6 @@ pub fn forget_entry(
     );
     drop_at(
         KeyOrder::Tsp,
-        namespace_id,
         state.count,
         &mut tsp[..t],
         &mut tsp_dir[..d],

@@ -16,11 +16,11 @@ use data_model::path::MPL;
 use data_model::path::Path;
 use tree::by_value::is_legal;
 use tree::by_value::same_bytes;
+use tree::entries::mark_outdating;
+use tree::entries::mark_removed;
 use tree::marks::count_marked;
 use tree::marks::first_marked;
 use tree::marks::write_pairs;
-use tree::matching::mark_outdating;
-use tree::matching::mark_removed;
 use tree::stored::KeyOrder;
 use tree::stored::LengthyAuthorisedEntry;
 use tree::stored::stored_at;
@@ -103,9 +103,8 @@ fn is_prevented(prevent_pruning: bool, removed: usize) -> bool
     false
 }
 
-// Over the subspace-first tree in its room.
+// Whether the entry is refused, outdated or taken, over the subspace-first tree of its namespace in its room.
 fn decide(
-    namespace: [u8; 16],
     limit: usize,
     count: usize,
     spt: &[u8],
@@ -114,32 +113,16 @@ fn decide(
     prevent_pruning: bool,
 ) -> PlaceDecision
     requires { ⌜ (Formed Spt count (now «spt_dir») (now spt)) × (count ≤ limitMost) × (legal field (entry .path) ≡ true) ⌝ }
-    ensures { λ r. ⌜ r ≡ placeDecided limit (contents Spt field namespace (records count (now («spt_dir» .entry)) (now (spt .entry)))) (entryOf entry) «prevent_pruning» ⌝ }
+    ensures { λ r. ⌜ r ≡ placeDecided limit (contents Spt field (entry .«namespace_id») (records count (now («spt_dir» .entry)) (now (spt .entry)))) (entryOf entry) «prevent_pruning» ⌝ }
 {
     let mut marks = [0u8; LIMIT_MOST];
-    mark_outdating(
-        KeyOrder::Spt,
-        namespace,
-        count,
-        spt_dir,
-        spt,
-        entry,
-        &mut marks,
-    );
+    mark_outdating(KeyOrder::Spt, count, spt_dir, spt, entry, &mut marks);
     let k = first_marked(&marks[..count], 0);
     if k < count {
         return PlaceDecision::Old(k);
     }
     let mut removed = [0u8; LIMIT_MOST];
-    mark_removed(
-        KeyOrder::Spt,
-        namespace,
-        count,
-        spt_dir,
-        spt,
-        entry,
-        &mut removed,
-    );
+    mark_removed(KeyOrder::Spt, count, spt_dir, spt, entry, &mut removed);
     let n = count_marked(&removed[..count]);
     if is_prevented(prevent_pruning, n) {
         return PlaceDecision::Refuse(PRUNING_PREVENTED);
@@ -233,9 +216,7 @@ fn ingest_answer(
     let count = state.count;
     let n = RECORD_MOST * limit;
     let m = 2 * limit;
-    let namespace = state.namespace_id;
     let d = decide(
-        namespace,
         limit,
         count,
         &spt[..n],
@@ -250,28 +231,13 @@ fn ingest_answer(
     }
 }
 
-// Writes the pairs of what an entry removes from the subspace-first tree.
-fn write_pruned(
-    namespace: [u8; 16],
-    count: usize,
-    spt: &[u8],
-    spt_dir: &[u32],
-    entry: Entry,
-    prune: &mut [u32],
-)
+// Writes the pairs of what an entry removes from the subspace-first tree of its namespace.
+fn write_pruned(count: usize, spt: &[u8], spt_dir: &[u32], entry: Entry, prune: &mut [u32])
     requires { ⌜ (Formed Spt count (now «spt_dir») (now spt)) × (count ≤ limitMost) × (legal field (entry .path) ≡ true) × (2 * count ≤ length (now prune)) ⌝ }
-    ensures { λ _. ⌜ now (prune .exit) ≡ put (markedPairs (marksOf (removes (entryOf entry)) (contents Spt field namespace (records count (now («spt_dir» .entry)) (now (spt .entry))))) (now («spt_dir» .entry))) (now (prune .entry)) ⌝ }
+    ensures { λ _. ⌜ now (prune .exit) ≡ put (markedPairs (marksOf (removes (entryOf entry)) (contents Spt field (entry .«namespace_id») (records count (now («spt_dir» .entry)) (now (spt .entry))))) (now («spt_dir» .entry))) (now (prune .entry)) ⌝ }
 {
     let mut marks = [0u8; LIMIT_MOST];
-    mark_removed(
-        KeyOrder::Spt,
-        namespace,
-        count,
-        spt_dir,
-        spt,
-        entry,
-        &mut marks,
-    );
+    mark_removed(KeyOrder::Spt, count, spt_dir, spt, entry, &mut marks);
     write_pairs(spt_dir, &marks[..count], prune);
 }
 
@@ -294,29 +260,14 @@ fn file(
     let count = state.count;
     let n = RECORD_MOST * limit;
     let m = 2 * limit;
-    let namespace = state.namespace_id;
     let a = LengthyAuthorisedEntry {
         entry,
         token,
         available: 0,
     };
-    write_pruned(namespace, count, &spt[..n], &spt_dir[..m], entry, prune);
-    file_in(
-        KeyOrder::Spt,
-        namespace,
-        count,
-        &mut spt[..n],
-        &mut spt_dir[..m],
-        a,
-    );
-    file_in(
-        KeyOrder::Tsp,
-        namespace,
-        count,
-        &mut tsp[..n],
-        &mut tsp_dir[..m],
-        a,
-    );
+    write_pruned(count, &spt[..n], &spt_dir[..m], entry, prune);
+    file_in(KeyOrder::Spt, count, &mut spt[..n], &mut spt_dir[..m], a);
+    file_in(KeyOrder::Tsp, count, &mut tsp[..n], &mut tsp_dir[..m], a);
 }
 
 pub fn ingest_entry_numbers(

@@ -1,70 +1,28 @@
--- What the bytes of the next place tell of the walk from an entry, and that two records whose parts are the same say the same.
+-- Two records of one time, address and value, one in each tree, say the same.
 -- Assumes nothing.
-use Prim.Native.Nat.{ℕ, _+_, _≤_, _<_}
+use Prim.Native.Nat.{ℕ, _+_, _<_}
 use mathlib.Core.Path.{_≡_, refl, sym, ap, ap₂, _∙_}
-use mathlib.Core.List.{List, [], _∷_, _++_}
-use mathlib.Core.Bool.{Bool, true, false, not, _&&_}
-use lib.ListN.{drop}
-use Rattle.laws.specs.Prefix.{sameNumber, sameList, prefixOf}
+use mathlib.Core.List.{List, [], _++_}
+use mathlib.Core.Bool.{true, _&&_}
+use Rattle.laws.specs.Prefix.{sameNumber, sameList}
 use Rattle.laws.specs.Sorted.{any}
 use Rattle.laws.proofs.Sorted.{any-make}
 use Rattle.layout.specs.Layout.{records, recordAt}
 use Rattle.layout.proofs.LaidLaws.{record-in}
 use Rattle.data_model.specs.Path.{field}
-use Rattle.data_model.specs.Entry.{Entry, entryOf, covers}
 use Rattle.data_model.proofs.Orders.{component-equality}
-use Rattle.keys.specs.Encode.{be, subspaceKey, pathKey, tspKey}
+use Rattle.keys.specs.Encode.{be, tspKey}
 use Rattle.key_laws.specs.Bytes.{Bytes}
 use Rattle.tree.specs.Value.{valueBytes}
-use Rattle.tree.specs.Stored.{keyIn, keyOf, valuePart, Stored, storedFrom, stored, contents, tripleOf, valueFor, storedOf, sameStored}
+use Rattle.tree.specs.Stored.{keyIn, keyOf, valuePart, storedFrom, stored, contents, tripleOf, valueFor, sameStored}
 use Rattle.tree.specs.Tree.{Formed, hasRecord}
-use Rattle.tree.specs.Apart.{clearBehind}
-use Rattle.tree.specs.Place.{placeKey, openKey, tripleAt, placeAt, openAt}
+use Rattle.tree.specs.Place.{placeKey, tripleAt, placeAt}
 use Rattle.tree.specs.declared.stored.KeyOrder.{KeyOrder}
 use Rattle.tree.specs.declared.stored.KeyOrder.the-variants.{Spt, Tsp}
-use Rattle.tree.specs.declared.stored.LengthyAuthorisedEntry.{LengthyAuthorisedEntry}
 use Rattle.tree.proofs.FormedLaws.{formed-record}
-use Rattle.tree.proofs.FormedContents.{formed-next, formed-done}
 use Rattle.tree.proofs.RecordLaws.{value-of-record, record-forth}
 use Rattle.tree.proofs.WithinLaws.{at-bytes, formed-recorded, has-stored}
-use Rattle.tree.proofs.PlaceLaws.{covers-not, key-says}
-
-place-said : (o : KeyOrder) (ns r : List ℕ) → placeAt o r ≡ placeKey (stored o field ns r .entry .subspace) (stored o field ns r .entry .path)
-unfolding stored storedFrom
-place-said o ns r = refl
-
-open-said : (o : KeyOrder) (ns r : List ℕ) → openAt o r ≡ openKey (stored o field ns r .entry .subspace) (stored o field ns r .entry .path)
-unfolding stored storedFrom
-open-said o ns r = refl
-
-clear-uncovered : (a : Entry) (b : Stored) (l : List Stored) → covers a (b .entry) ≡ false → clearBehind a (b ∷ l) ≡ true
-unfolding clearBehind
-clear-uncovered a b l f = rw f
-
-own-namespace : (a : LengthyAuthorisedEntry) (ns r : List ℕ) → storedOf a ≡ stored Spt field ns r → a .entry .«namespace_id» ≡ ns
-unfolding storedOf entryOf stored storedFrom
-own-namespace a ns r q = ap (λ (s : Stored). s .entry .namespace) q
-
-module _ {count : ℕ} {dir tree : List ℕ} (v : Formed Spt count dir tree) (ns : List ℕ) (k : ℕ) where
-  pub clear-last : (e : Entry) → count ≤ k + 1 → true ≡ clearBehind e (drop (k + 1) (contents Spt field ns (records count dir tree)))
-  unfolding clearBehind
-  clear-last e h = sym (ap (clearBehind e) (formed-done v ns (k + 1) h))
-
-  pub clear-other : k + 1 < count → (front place : List ℕ) → front ≡ openAt Spt (recordAt k dir tree) → place ≡ placeAt Spt (recordAt (k + 1) dir tree)
-      → (t : Bool) → t ≡ prefixOf sameNumber front place → not t ≡ true
-      → true ≡ clearBehind (stored Spt field ns (recordAt k dir tree) .entry) (drop (k + 1) (contents Spt field ns (records count dir tree)))
-  clear-other h front place eo ep t e n =
-      let a = stored Spt field ns (recordAt k dir tree) .entry in
-      let b = stored Spt field ns (recordAt (k + 1) dir tree) in
-      let f : covers a (b .entry) ≡ false = covers-not a (b .entry) front place (eo ∙ open-said Spt ns (recordAt k dir tree)) (ep ∙ place-said Spt ns (recordAt (k + 1) dir tree)) t e n in
-      sym (ap (clearBehind a) (formed-next v ns (k + 1) h) ∙ clear-uncovered a b (drop (k + 1 + 1) (contents Spt field ns (records count dir tree))) f)
-
-  pub clear-read : (a : LengthyAuthorisedEntry) → storedOf a ≡ stored Spt field ns (recordAt k dir tree) → (t : Bool)
-      → t ≡ clearBehind (entryOf (a .entry)) (drop (k + 1) (contents Spt field (a .entry .«namespace_id») (records count dir tree)))
-      → t ≡ clearBehind (stored Spt field ns (recordAt k dir tree) .entry) (drop (k + 1) (contents Spt field ns (records count dir tree)))
-  unfolding storedOf
-  clear-read a q t e =
-      e ∙ ap₂ (λ (x : Entry) (m : List ℕ). clearBehind x (drop (k + 1) (contents Spt field m (records count dir tree)))) (ap (λ (s : Stored). s .entry) q) (own-namespace a ns (recordAt k dir tree) q)
+use Rattle.tree.proofs.PlaceLaws.{key-says}
 
 -- The time-first key is the time and the place.
 tsp-whole : (o : KeyOrder) (r : List ℕ) → keyIn Tsp (tripleAt o r) ≡ be 8 (tripleAt o r .timestamp) ++ placeAt o r

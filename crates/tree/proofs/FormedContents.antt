@@ -2,24 +2,22 @@
 -- over a subspace-first tree finds. Assumes nothing.
 use mathlib.Core.Path.{_≡_, sym, ap, _∙_}
 use mathlib.Core.List.{List, [], _∷_}
-use mathlib.Core.Bool.{Bool, true, false, not, _&&_}
 use Prim.Native.Nat.{ℕ, _+_, _≤_, _<_}
 use native.Mathlib.Omega.{arith}
 use lib.ListN.{length, drop, drop-of-length-le}
-use Rattle.laws.proofs.Truth.{not-true, not-false}
 use Rattle.layout.specs.Layout.{records, recordAt}
 use Rattle.layout.proofs.LaidLaws.{records-many, records-at}
 use Rattle.data_model.specs.Path.{Figures, field}
 use Rattle.key_laws.specs.Bytes.{Bytes}
 use Rattle.tree.specs.Stored.{orderIn, Stored, storedFrom, stored, contents}
 use Rattle.tree.specs.Tree.{Formed, Ordered}
-use Rattle.tree.specs.Apart.{apart, clearBehind, allClear}
+use Rattle.tree.specs.Apart.{apart}
 use Rattle.tree.specs.declared.stored.KeyOrder.{KeyOrder}
 use Rattle.tree.specs.declared.stored.KeyOrder.the-variants.{Spt}
 use Rattle.tree.proofs.RecordLaws.{contents-length, contents-drop, contents-view}
 use Rattle.tree.proofs.WithinLaws.{formed-recorded}
 use Rattle.tree.proofs.AgreeLaws.{contents-ascends}
-use Rattle.tree.proofs.WalkLaws.{OfOne, apart-walk}
+use Rattle.tree.proofs.WalkLaws.{OfOne, allClear, apart-walk}
 
 pub contents-one : (o : KeyOrder) (f : Figures) (ns : List ℕ) (recs : List (List ℕ)) → OfOne ns (contents o f ns recs)
 unfolding stored storedFrom
@@ -47,21 +45,3 @@ formed-walk {count} {dir} {tree} v ns b =
     apart-walk ns (contents Spt field ns (records count dir tree))
     (contents-ascends Spt field ns (records count dir tree) (formed-recorded (v .formed) b) (v .ascends))
     (contents-one Spt field ns (records count dir tree))
-
--- The walk from each entry, turn by turn: record k is the next.
-module _ {count : ℕ} {dir tree : List ℕ} (v : Formed Spt count dir tree) (ns : List ℕ) (k : ℕ) (there : k < count)
-    (whole : Bool) (w : whole ≡ allClear (drop k (contents Spt field ns (records count dir tree))))
-    (t : Bool) (h : t ≡ clearBehind (stored Spt field ns (recordAt k dir tree) .entry) (drop (k + 1) (contents Spt field ns (records count dir tree)))) where
-  all-next : whole ≡ (t && allClear (drop (k + 1) (contents Spt field ns (records count dir tree))))
-  unfolding allClear
-  all-next =
-      let rest = drop (k + 1) (contents Spt field ns (records count dir tree)) in
-      w
-      ∙ ap allClear (formed-next v ns k there)
-      ∙ ap (λ (b : Bool). b && allClear rest) (sym h)
-
-  pub all-stops : not t ≡ true → false ≡ whole
-  all-stops g = sym (all-next ∙ ap (λ (b : Bool). b && allClear (drop (k + 1) (contents Spt field ns (records count dir tree)))) (not-true t g))
-
-  pub all-goes : not t ≡ false → whole ≡ allClear (drop (k + 1) (contents Spt field ns (records count dir tree)))
-  all-goes g = all-next ∙ ap (λ (b : Bool). b && allClear (drop (k + 1) (contents Spt field ns (records count dir tree)))) (not-false t g)

@@ -20,7 +20,7 @@ use Rattle.data_model.specs.Path.{Figures, field}
 use Rattle.data_model.proofs.Orders.{bytes-linear}
 use Rattle.tree.specs.Value.{valueLength, readValue, isValue}
 use Rattle.tree.specs.Stored.{keyOf, valuePart, keyBelow, isKey, isRecord}
-use Rattle.tree.specs.Tree.{wellFormed, Formed, Ordered, Whole, InBounds}
+use Rattle.tree.specs.Tree.{wellFormed, Formed, Ordered, Whole, InBounds, Readable}
 use Rattle.tree.specs.declared.stored.KeyOrder.{KeyOrder}
 
 -- Keys are ordered as bytes are.
@@ -73,6 +73,9 @@ module _ {o : KeyOrder} {count : ℕ} {dir tree : List ℕ} (v : Formed o count 
           least = omega (arith, record-long o field (recordAt k dir tree) formed-record, cut-length);
           inside = v .inside k h;
         }
+
+    pub formed-readable : Readable o k dir tree
+    formed-readable = record { bounds = formed-bounds; is = formed-record }
 
 -- What a tree that was tested whole gives.
 module _ {o : KeyOrder} {count : ℕ} {dir tree : List ℕ} (small : length tree < 2 ^ 32) (w : wellFormed o field count dir tree ≡ true) where

@@ -14,4 +14,8 @@ pub mod FormedContents
 pub mod MarkingLaws
 pub mod PlaceLaws
 pub mod ClearLaws
+pub mod CoverLaws
+pub mod NearestLaws
+pub mod RankLaws
+pub mod ApartLaws
 pub mod SelectionLaws

@@ -31,12 +31,11 @@ use Rattle.key_laws.proofs.EntryLaws.{covers-view}
 use Rattle.key_laws.proofs.Fits.{bytes-take}
 use Rattle.tree.specs.Value.{valueLength, readValue, isValue}
 use Rattle.tree.specs.Stored.{keyIn, keyOf, valuePart, isKey, isRecord, storedFrom, stored}
-use Rattle.tree.specs.Tree.{Formed}
+use Rattle.tree.specs.Tree.{Readable}
 use Rattle.tree.specs.Matching.{outdates, removes, standsAt}
 use Rattle.tree.specs.Place.{placeKey, openPath, openKey, tripleAt, placeAt, openAt}
 use Rattle.tree.specs.declared.stored.KeyOrder.{KeyOrder}
 use Rattle.tree.specs.declared.stored.KeyOrder.the-variants.{Spt, Tsp}
-use Rattle.tree.proofs.FormedLaws.{formed-record}
 use Rattle.tree.proofs.RecordLaws.{key-is-forth, key-least}
 use Rattle.tree.proofs.RecordParts.{drop-cut, key-fits}
 use Rattle.tree.proofs.WithinLaws.{at-bytes}
@@ -142,20 +141,20 @@ module _ (s : Subspace) (p : Components) (l : List ℕ) (e : l ≡ placeKey s p)
   place-path = ap (drop 16) e ∙ drop-at (subspaceKey s) (pathKey p) 16 (subspace-length s)
 
 -- The subspace of record k, read off its place.
-pub subspace-read : {o : KeyOrder} {count : ℕ} {dir tree : List ℕ} → Formed o count dir tree → (k : ℕ) → k < count → Bytes tree → (l : List ℕ) → l ≡ placeAt o (recordAt k dir tree)
+pub subspace-read : {o : KeyOrder} {k : ℕ} {dir tree : List ℕ} → Readable o k dir tree → Bytes tree → (l : List ℕ) → l ≡ placeAt o (recordAt k dir tree)
     → (m n : ℕ) → m ≡ number l → n ≡ number (take (length l - 8) (drop 8 l)) → record { high = m; low = n } ≡ tripleAt o (recordAt k dir tree) .subspace
 unfolding placeKey subspaceAt
-subspace-read {o} {count} {dir} {tree} v k h b l e m n q r =
+subspace-read {o} {k} {dir} {tree} v b l e m n q r =
     let t = tripleAt o (recordAt k dir tree) in
-    let z = key-says o (recordAt k dir tree) (at-bytes k dir tree b) (formed-record v k h) .1 in
+    let z = key-says o (recordAt k dir tree) (at-bytes k dir tree b) (v .is) .1 in
     let low : n ≡ number (drop 8 l) = r ∙ ap number (rest l 8) in
     let is : subspaceAt l ≡ t .subspace = ap subspaceAt e ∙ subspace-back (t .subspace) (pathKey (t .path)) (z .high) (z .low) in
     (λ i. record { high = q i; low = low i }) ∙ is
 
 -- In the key of record k: its place, and its time.
-module _ {o : KeyOrder} {count : ℕ} {dir tree : List ℕ} (v : Formed o count dir tree) (k : ℕ) (h : k < count) (b : Bytes tree) (key : List ℕ) (e : key ≡ keyOf (recordAt k dir tree)) where
+module _ {o : KeyOrder} {k : ℕ} {dir tree : List ℕ} (v : Readable o k dir tree) (b : Bytes tree) (key : List ℕ) (e : key ≡ keyOf (recordAt k dir tree)) where
   says : (keyOf (recordAt k dir tree) ≡ keyIn o (tripleAt o (recordAt k dir tree))) × Sized (tripleAt o (recordAt k dir tree))
-  says = key-says o (recordAt k dir tree) (at-bytes k dir tree b) (formed-record v k h)
+  says = key-says o (recordAt k dir tree) (at-bytes k dir tree b) (v .is)
 
   pub key-long : 26 ≤ length key
   key-long = omega (arith, ap length (e ∙ says .0), key-least o (tripleAt o (recordAt k dir tree)))

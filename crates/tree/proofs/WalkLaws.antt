@@ -2,32 +2,39 @@
 -- Assumes nothing.
 use mathlib.Core.Path.{_≡_, refl, sym, ap, ap₂, _∙_}
 use mathlib.Core.Logic.{_⊎_, inl, inr, ⊎-elim}
-use mathlib.Core.Bool.{Bool, true, false, not, _&&_}
+use mathlib.Core.Bool.{Bool, true, false, not, cond, _&&_}
 use mathlib.Core.List.{List, [], _∷_, List·Memᴰ·head as here, List·Memᴰ·tail as there, List·Memᴰ·not-nil as none-in, List·Memᴰ·cases-cons as uncons}
 use Prim.Native.Nat.{ℕ}
 use Rattle.laws.specs.Order.{less, same, _then_, flip, byNumber, below}
 use Rattle.laws.specs.Sorted.{_∈_, all, Ascends}
-use Rattle.laws.proofs.Truth.{split, clash, refute, and-true, not-true, not-false, differ, alike}
+use Rattle.laws.proofs.Truth.{split, clash, refute, and-true, not-true, differ, alike}
 use Rattle.laws.proofs.Order.{less-greater, then-less-view, then-same, flip-then, is-less, number-linear}
 use Rattle.laws.proofs.Prefix.{prefix-refl}
 use Rattle.laws.proofs.Sorted.{all-view}
 use Rattle.laws.proofs.Sorted.{all-make}
 use Rattle.data_model.specs.Path.{sameComponent, samePath, byComponents, isPrefix}
 use Rattle.data_model.specs.Subspace.{sameSubspace, bySubspace}
-use Rattle.data_model.specs.Entry.{Entry, entryOf, newer, covers, prunes}
+use Rattle.data_model.specs.Entry.{Entry, newer, covers, prunes}
 use Rattle.keys.specs.Encode.{Triple}
 use Rattle.data_model.proofs.Orders.{component-equality, path-equality, path-linear, subspace-equality, subspace-linear, extensions-after}
 use Rattle.key_laws.specs.KeyOrder.{sptOrder}
 use Rattle.key_laws.proofs.EntryLaws.{covers-view, covers-make, prunes-view, prunes-make, prunes-irrefl}
 use Rattle.key_laws.proofs.Extensions.{run-order}
-use Rattle.data_model.specs.declared.entry.Entry.{Entry as EntryValue}
-use Rattle.tree.specs.Stored.{Stored, tripleOf, storedOf}
-use Rattle.tree.specs.Apart.{samePlace, noPlaceTwice, nonePrunes, apart, clearBehind, allClear}
-use Rattle.tree.specs.declared.stored.LengthyAuthorisedEntry.{LengthyAuthorisedEntry}
+use Rattle.tree.specs.Stored.{Stored, tripleOf}
+use Rattle.tree.specs.Apart.{samePlace, noPlaceTwice, nonePrunes, apart}
 
-and-assoc : (a b c : Bool) → (a && (b && c)) ≡ ((a && b) && c)
-and-assoc true b c = refl
-and-assoc false b c = refl
+-- An entry against one that it covers: not at its address, and not newer.
+unfoldable pub fine : Entry → Entry → Bool
+fine a b = not (samePlace a b) && not (newer a b)
+
+-- An entry against those behind it, for as long as it covers them.
+unfoldable pub clearBehind : Entry → List Stored → Bool
+clearBehind a [] = true
+clearBehind a (b ∷ l) = cond (covers a (b .entry)) (fine a (b .entry) && clearBehind a l) true
+
+unfoldable pub allClear : List Stored → Bool
+allClear [] = true
+allClear (a ∷ l) = clearBehind (a .entry) l && allClear l
 
 -- By subspace, path and timestamp.
 abbrev pub entryBelow : Stored → Stored → Bool
@@ -97,11 +104,11 @@ pub record Clear (a b : Entry) : Type 0 where
 
 clear-next : (a : Entry) (b : Stored) (l : List Stored) → clearBehind a (b ∷ l) ≡ true → covers a (b .entry) ≡ true
     → (samePlace a (b .entry) ≡ false) × ((newer a (b .entry) ≡ false) × (clearBehind a l ≡ true))
-unfolding clearBehind
+unfolding clearBehind fine
 clear-next a b l e f =
-    let k = and-true (not (samePlace a (b .entry))) (not (newer a (b .entry)) && clearBehind a l) (rw f at e) in
-    let m = and-true (not (newer a (b .entry))) (clearBehind a l) (k .1) in
-    (not-true _ (k .0), (not-true _ (m .0), m .1))
+    let k = and-true (not (samePlace a (b .entry)) && not (newer a (b .entry))) (clearBehind a l) (rw f at e) in
+    let m = and-true (not (samePlace a (b .entry))) (not (newer a (b .entry))) (k .0) in
+    (not-true _ (m .0), (not-true _ (m .1), k .1))
 
 -- The walk from one entry, and what it says of each behind it.
 behind-view : (namespace : List ℕ) (a : Stored) (l : List Stored) → Ascends entryBelow (a ∷ l) → OfOne namespace (a ∷ l) → clearBehind (a .entry) l ≡ true
@@ -133,7 +140,7 @@ behind-clear namespace a l s n e y m =
     }
 
 behind-make : (a : Stored) (l : List Stored) → ((y : Stored) → y ∈ l → (samePlace (a .entry) (y .entry) ≡ false) × (prunes (a .entry) (y .entry) ≡ false)) → clearBehind (a .entry) l ≡ true
-unfolding clearBehind
+unfolding clearBehind fine
 behind-make a [] h = refl
 behind-make a (b ∷ l) h = split (covers (a .entry) (b .entry))
     (λ f.
@@ -191,36 +198,3 @@ unfolding apart
 apart-walk namespace l s n = alike (noPlaceTwice l && nonePrunes l) (allClear l)
     (λ e. let k = and-true (noPlaceTwice l) (nonePrunes l) e in pairs-walk l (k .0) (prunes-none l (k .1)))
     (λ e. let k = walk-pairs namespace l s n e in rw (k .0, none-prunes l (k .1)))
-
--- The walk from an entry, turn by turn: s is the next, which a says.
-module _ (e : EntryValue) (a : LengthyAuthorisedEntry) (s : Stored) (q : storedOf a ≡ s) (whole : Bool) (d l : List Stored) (n : d ≡ s ∷ l)
-    (w : whole ≡ clearBehind (entryOf e) d) (r : Bool) (h : r ≡ covers (entryOf e) (entryOf (a .entry))) where
-  next-is : whole ≡ clearBehind (entryOf e) (storedOf a ∷ l)
-  next-is = w ∙ ap (clearBehind (entryOf e)) (n ∙ ap (_∷ l) (sym q))
-
-  pub behind-ends : not r ≡ true → true ≡ whole
-  unfolding clearBehind storedOf
-  behind-ends f = sym (next-is ∙ rw (sym h ∙ not-true r f))
-
-  module _ (f : not r ≡ false) (t : Bool) (k : t ≡ (not (samePlace (entryOf e) (entryOf (a .entry))) && not (newer (entryOf e) (entryOf (a .entry))))) where
-    next-covered : whole ≡ (t && clearBehind (entryOf e) l)
-    unfolding clearBehind storedOf
-    next-covered =
-        next-is
-        ∙ rw (sym h ∙ not-false r f) (and-assoc (not (samePlace (entryOf e) (entryOf (a .entry)))) (not (newer (entryOf e) (entryOf (a .entry)))) (clearBehind (entryOf e) l))
-        ∙ ap (λ (b : Bool). b && clearBehind (entryOf e) l) (sym k)
-
-    pub behind-stops : not t ≡ true → false ≡ whole
-    behind-stops g = sym (next-covered ∙ ap (λ (b : Bool). b && clearBehind (entryOf e) l) (not-true t g))
-
-    pub behind-goes : not t ≡ false → whole ≡ clearBehind (entryOf e) l
-    behind-goes g = next-covered ∙ ap (λ (b : Bool). b && clearBehind (entryOf e) l) (not-false t g)
-
--- Nothing is left.
-pub behind-end : (e : Entry) (d : List Stored) (whole : Bool) → d ≡ [] → whole ≡ clearBehind e d → true ≡ whole
-unfolding clearBehind
-behind-end e d whole n w = sym (w ∙ ap (clearBehind e) n)
-
-pub all-end : (d : List Stored) (whole : Bool) → d ≡ [] → whole ≡ allClear d → true ≡ whole
-unfolding allClear
-all-end d whole n w = sym (w ∙ ap allClear n)

@@ -7,7 +7,7 @@ use lib.ListN.{length, getD}
 use Rattle.laws.specs.Order.{isLess, isSame}
 use Rattle.laws.specs.Prefix.{sameNumber, sameList}
 use Rattle.laws.specs.Sorted.{any, all, keep, ascending, Ascends, _∈_}
-use Rattle.layout.specs.Layout.{records, laidOut, treeBytes, dirNumbers}
+use Rattle.layout.specs.Layout.{records, recordAt, laidOut, treeBytes, dirNumbers}
 use Rattle.data_model.specs.Path.{Figures, field, byBytes}
 use Rattle.tree.specs.Value.{valueLength}
 use Rattle.tree.specs.Stored.{keyOf, valuePart, keyBelow, isRecord, Stored, sameStored}
@@ -49,6 +49,11 @@ pub record InBounds (k : ℕ) (dir tree : List ℕ) : Type 0 where
   pub pair : 2 * k + 1 < length dir
   pub least : valueLength ≤ getD dir (2 * k + 1) 0
   pub inside : getD dir (2 * k) 0 + getD dir (2 * k + 1) 0 ≤ length tree
+
+-- The same, and what it cuts out is a record.
+pub record Readable (o : KeyOrder) (k : ℕ) (dir tree : List ℕ) : Type 0 where
+  pub bounds : InBounds k dir tree
+  pub is : isRecord o field (recordAt k dir tree) ≡ true
 
 -- How many keys are below a key, and whether it is there.
 unfoldable pub keysBelow : List ℕ → List (List ℕ) → ℕ

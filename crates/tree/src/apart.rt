@@ -1,83 +1,89 @@
-// Whether no subspace and path stands twice in the subspace-first tree and no entry prunes another. In key order the entries that one
-// covers stand right behind it: each is compared with those behind it for as long as it covers them.
-use crate::by_value::covers;
-use crate::by_value::is_newer;
-use crate::by_value::same_place;
+// Whether no subspace and path stands twice in the subspace-first tree and no entry prunes another. In key order the entries that cover a
+// record stand before it, each covering the next: a stack. Rank being transitive, a record is compared with the nearest of them alone, and
+// each record goes onto the stack once and off it once.
 use crate::place::begins;
 use crate::place::open_at;
 use crate::place::place_at;
+use crate::rank::compare_records;
 use crate::stored::KeyOrder;
-use crate::stored::stored_at;
-use data_model::entry::Entry;
+use data_model::answer::is_greater;
+use data_model::path::MCC;
+use layout::bytes::same;
+ghost use Prim.Native.Nat.{ℕ, _-_, _≤_, _<_};
 ghost use mathlib.Core.Path.{_≡_};
-ghost use mathlib.Core.Bool.{true, not, _&&_};
-ghost use Prim.Native.Nat.{_+_, _≤_, _<_};
-ghost use lib.ListN.{drop};
+ghost use mathlib.Core.Bool.{true, false, not, _&&_};
+ghost use mathlib.Core.List.{List};
+ghost use lib.ListN.{length, getD};
+ghost use Rattle.laws.specs.Order.{isGreater};
+ghost use Rattle.laws.specs.Prefix.{sameNumber, sameList, prefixOf};
 ghost use Rattle.layout.specs.Layout.{records, recordAt};
-ghost use Rattle.data_model.specs.Path.{field, legal};
-ghost use Rattle.data_model.specs.Entry.{entryOf, newer};
-ghost use Rattle.tree.specs.Stored.{contents, stored};
-ghost use Rattle.tree.specs.Tree.{Formed, Ordered};
-ghost use Rattle.tree.specs.Apart.{samePlace, clearBehind, apart};
+ghost use Rattle.data_model.specs.Path.{field};
+ghost use Rattle.data_model.specs.Entry.{byRank};
+ghost use Rattle.tree.specs.Stored.{contents};
+ghost use Rattle.tree.specs.Tree.{Readable, Ordered};
+ghost use Rattle.tree.specs.Apart.{apart};
+ghost use Rattle.tree.specs.Place.{placeAt, openAt, rankAt};
 ghost use Rattle.tree.specs.declared.stored.KeyOrder.the-variants.{Spt};
 
-// Whether an entry may stand before one that it covers.
-fn may_cover(e: Entry, x: Entry) -> bool
-    requires { ⌜ (legal field (e .path) ≡ true) × (legal field (x .path) ≡ true) ⌝ }
-    ensures { λ r. ⌜ r ≡ (not (samePlace (entryOf e) (entryOf x)) && not (newer (entryOf e) (entryOf x))) ⌝ }
+// The most entries that cover one another: their paths have 0 to MCC components.
+const DEEPEST: usize = MCC + 1;
+
+// How many of the first `depth` record numbers on the stack are left when those on top go that do not cover record k.
+fn covering(dir: &[u32], tree: &[u8], stack: &[usize], depth: usize, k: usize) -> usize
+    requires { ⌜ (Readable Spt k (now dir) (now tree)) × (depth ≤ length (now stack)) × ((i : ℕ) → i < depth → Readable Spt (getD (now stack) i 0) (now dir) (now tree)) ⌝ }
+    ensures { λ r. ⌜ (r ≤ depth) × ((i : ℕ) → r ≤ i → i < depth → prefixOf sameNumber (openAt Spt (recordAt (getD (now (stack .entry)) i 0) (now (dir .entry)) (now (tree .entry)))) (placeAt Spt (recordAt k (now (dir .entry)) (now (tree .entry)))) ≡ false) × (0 < r → prefixOf sameNumber (openAt Spt (recordAt (getD (now (stack .entry)) (r - 1) 0) (now (dir .entry)) (now (tree .entry)))) (placeAt Spt (recordAt k (now (dir .entry)) (now (tree .entry)))) ≡ true) ⌝ }
 {
-    if same_place(e, x) {
+    let address = place_at(KeyOrder::Spt, dir, tree, k);
+    let mut d = depth;
+    while 0 < d {
+        let j = stack[d - 1];
+        if begins(address, open_at(KeyOrder::Spt, dir, tree, j)) {
+            return d;
+        }
+        d -= 1;
+    }
+    d
+}
+
+// Whether record j may stand before record k, which it covers: it is at another address, and not newer.
+fn may_cover(dir: &[u32], tree: &[u8], j: usize, k: usize) -> bool
+    requires { ⌜ (Readable Spt j (now dir) (now tree)) × (Readable Spt k (now dir) (now tree)) ⌝ }
+    ensures { λ r. ⌜ r ≡ (not (sameList sameNumber (placeAt Spt (recordAt j (now (dir .entry)) (now (tree .entry)))) (placeAt Spt (recordAt k (now (dir .entry)) (now (tree .entry))))) && not (isGreater (byRank (rankAt Spt (recordAt j (now (dir .entry)) (now (tree .entry)))) (rankAt Spt (recordAt k (now (dir .entry)) (now (tree .entry))))))) ⌝ }
+{
+    let here = place_at(KeyOrder::Spt, dir, tree, k);
+    if same(place_at(KeyOrder::Spt, dir, tree, j), here) {
         return false;
     }
-    !is_newer(e, x)
+    !is_greater(compare_records(KeyOrder::Spt, dir, tree, j, k))
 }
 
-// Whether an entry may stand before the records from `from` on.
-fn clear_behind(e: Entry, count: usize, dir: &[u32], tree: &[u8], from: usize) -> bool
-    requires { ⌜ (Formed Spt count (now dir) (now tree)) × (from ≤ count) × (legal field (e .path) ≡ true) ⌝ }
-    ensures { λ r. ⌜ r ≡ clearBehind (entryOf e) (drop from (contents Spt field (e .«namespace_id») (records count (now (dir .entry)) (now (tree .entry))))) ⌝ }
+// Whether the nearest of the first `depth` record numbers on the stack, if there is one, may stand before record k.
+fn nearest_may(dir: &[u32], tree: &[u8], stack: &[usize], depth: usize, k: usize) -> bool
+    requires { ⌜ (Readable Spt k (now dir) (now tree)) × (depth ≤ length (now stack)) × ((i : ℕ) → i < depth → Readable Spt (getD (now stack) i 0) (now dir) (now tree)) ⌝ }
+    ensures { λ r. ⌜ (depth ≡ 0 → r ≡ true) × (0 < depth → r ≡ (not (sameList sameNumber (placeAt Spt (recordAt (getD (now (stack .entry)) (depth - 1) 0) (now (dir .entry)) (now (tree .entry)))) (placeAt Spt (recordAt k (now (dir .entry)) (now (tree .entry))))) && not (isGreater (byRank (rankAt Spt (recordAt (getD (now (stack .entry)) (depth - 1) 0) (now (dir .entry)) (now (tree .entry)))) (rankAt Spt (recordAt k (now (dir .entry)) (now (tree .entry)))))))) ⌝ }
 {
-    let namespace = e.namespace_id;
-    let mut k = from;
-    while k < count {
-        let a = stored_at(KeyOrder::Spt, namespace, dir, tree, k);
-        let x = a.entry;
-        if !covers(e, x) {
-            return true;
-        }
-        if !may_cover(e, x) {
-            return false;
-        }
-        k += 1;
-    }
-    true
-}
-
-// The same of the entry at record k and those behind it. Mostly the bytes of the next place tell that it covers none.
-fn clear_at(namespace: [u8; 16], count: usize, dir: &[u32], tree: &[u8], k: usize) -> bool
-    requires { ⌜ (Formed Spt count (now dir) (now tree)) × (k < count) ⌝ }
-    ensures { λ r. ⌜ r ≡ clearBehind (stored Spt field namespace (recordAt k (now (dir .entry)) (now (tree .entry))) .entry) (drop (k + 1) (contents Spt field namespace (records count (now (dir .entry)) (now (tree .entry))))) ⌝ }
-{
-    if count <= k + 1 {
+    if depth == 0 {
         return true;
     }
-    let front = open_at(KeyOrder::Spt, count, dir, tree, k);
-    if !begins(place_at(KeyOrder::Spt, count, dir, tree, k + 1), front) {
-        return true;
-    }
-    let a = stored_at(KeyOrder::Spt, namespace, dir, tree, k);
-    clear_behind(a.entry, count, dir, tree, k + 1)
+    let j = stack[depth - 1];
+    may_cover(dir, tree, j, k)
 }
 
-pub fn apart(namespace: [u8; 16], count: usize, dir: &[u32], tree: &[u8]) -> bool
+// Whether no two records are of one subspace and path, and none prunes another; whatever the namespace that they are of.
+pub fn apart(count: usize, dir: &[u32], tree: &[u8]) -> bool
     requires { ⌜ Ordered Spt count (now dir) (now tree) ⌝ }
-    ensures { λ r. ⌜ r ≡ apart (contents Spt field namespace (records count (now (dir .entry)) (now (tree .entry)))) ⌝ }
+    ensures { λ r. ⌜ ((namespace : List ℕ) → r ≡ apart (contents Spt field namespace (records count (now (dir .entry)) (now (tree .entry))))) ⌝ }
 {
+    let mut stack = [0usize; DEEPEST];
+    let mut depth: usize = 0;
     let mut k: usize = 0;
     while k < count {
-        if !clear_at(namespace, count, dir, tree, k) {
+        depth = covering(dir, tree, &stack, depth, k);
+        if !nearest_may(dir, tree, &stack, depth, k) {
             return false;
         }
+        stack[depth] = k;
+        depth += 1;
         k += 1;
     }
     true

@@ -72,7 +72,7 @@ pub fn interest_start(
     while 0 < k {
         if marks[k - 1] == 1 {
             let length = payload_length(value_at(tree, dir, k - 1));
-            time = time_at(KeyOrder::Tsp, count, dir, tree, k - 1);
+            time = time_at(KeyOrder::Tsp, dir, tree, k - 1);
             if breaks_one(max_count, max_size, n, size, length) {
                 return time;
             }

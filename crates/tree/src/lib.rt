@@ -4,10 +4,12 @@
 pub mod apart;
 pub mod by_value;
 pub mod edit;
+pub mod entries;
 pub mod interest;
 pub mod marks;
 pub mod matching;
 pub mod place;
+pub mod rank;
 pub mod search;
 pub mod selection;
 pub mod shape;

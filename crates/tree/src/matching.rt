@@ -1,44 +1,32 @@
-// The marks of a whole walk: 1 for each record that a test holds of, 0 for the others.
-use crate::by_value::covers;
-use crate::by_value::is_newer;
+// The marks of a whole walk by an area or a range: 1 for each record that a test holds of, 0 for the others.
 use crate::place::END;
 use crate::place::SUBSPACE;
-use crate::place::begins;
-use crate::place::open_at;
-use crate::place::place_at;
 use crate::place::write_path;
-use crate::place::write_place;
 use crate::selection::Selection;
 use crate::selection::mark_selected;
 use crate::stored::KeyOrder;
 use crate::stored::LengthyAuthorisedEntry;
-use crate::stored::stored_at;
 use data_model::area::Area;
 use data_model::area::AreaSubspace;
-use data_model::checked;
-use data_model::entry::Entry;
 use data_model::parameters::Subspace;
 use data_model::path::Path;
 use data_model::range::SubspaceEnd;
 use data_model::range::SubspaceRange;
 use data_model::range_3d::Range3d;
 use keys::encode::KEY_MOST;
-use layout::bytes::same;
 ghost use mathlib.Core.Path.{_≡_};
 ghost use mathlib.Core.Bool.{true, cond};
 ghost use mathlib.Core.List.{List};
-ghost use Prim.Native.Nat.{ℕ, _≤_, _<_};
+ghost use Prim.Native.Nat.{ℕ, _≤_};
 ghost use lib.ListN.{length};
 ghost use Rattle.laws.specs.Lists.{put};
-ghost use Rattle.layout.specs.Layout.{records, recordAt};
+ghost use Rattle.layout.specs.Layout.{records};
 ghost use Rattle.layout.specs.Marks.{marksOf};
-ghost use Rattle.data_model.specs.Path.{field, legal, components};
-ghost use Rattle.data_model.specs.Entry.{entryOf};
+ghost use Rattle.data_model.specs.Path.{field, legal};
 ghost use Rattle.data_model.specs.Range.{legalRange};
-ghost use Rattle.tree.specs.Stored.{contents, stored, storedOf};
+ghost use Rattle.tree.specs.Stored.{contents, storedOf};
 ghost use Rattle.tree.specs.Tree.{Formed};
-ghost use Rattle.tree.specs.Place.{placeKey, openKey};
-ghost use Rattle.tree.specs.Matching.{outdates, removes, standsAt, letThrough, noFlags, listedInArea, listedInRange};
+ghost use Rattle.tree.specs.Matching.{letThrough, noFlags, listedInArea, listedInRange};
 
 // Which entries to ignore in a query: those whose payload is not all there, those of an empty payload.
 pub struct QueryIgnoreParams {
@@ -56,38 +44,6 @@ pub fn no_flags() -> QueryIgnoreParams
     }
 }
 
-pub fn outdates(e: Entry, a: LengthyAuthorisedEntry) -> bool
-    requires { ⌜ (legal field (e .path) ≡ true) × (legal field (a .entry .path) ≡ true) ⌝ }
-    ensures { λ r. ⌜ r ≡ outdates (entryOf e) (storedOf a) ⌝ }
-{
-    let x = a.entry;
-    checked::prunes(x, e)
-}
-
-pub fn removes(e: Entry, a: LengthyAuthorisedEntry) -> bool
-    requires { ⌜ (legal field (e .path) ≡ true) × (legal field (a .entry .path) ≡ true) ⌝ }
-    ensures { λ r. ⌜ r ≡ removes (entryOf e) (storedOf a) ⌝ }
-{
-    let x = a.entry;
-    if covers(e, x) {
-        return !is_newer(x, e);
-    }
-    false
-}
-
-pub fn stands_at(subspace: Subspace, path: Path, a: LengthyAuthorisedEntry) -> bool
-    requires { ⌜ (legal field path ≡ true) × (legal field (a .entry .path) ≡ true) ⌝ }
-    ensures { λ r. ⌜ r ≡ standsAt subspace (components path) (storedOf a) ⌝ }
-{
-    let x = a.entry;
-    let s = x.subspace_id;
-    if !s.eq(subspace) {
-        return false;
-    }
-    let p = x.path;
-    checked::eq(p, path)
-}
-
 pub fn let_through(ignore: QueryIgnoreParams, a: LengthyAuthorisedEntry) -> bool
     ensures { λ r. ⌜ r ≡ letThrough ignore (storedOf a) ⌝ }
 {
@@ -97,209 +53,6 @@ pub fn let_through(ignore: QueryIgnoreParams, a: LengthyAuthorisedEntry) -> bool
         return false;
     }
     !(ignore.ignore_empty_payloads & (n == 0))
-}
-
-// The same of record k. `place`: the entry's.
-fn outdates_at(
-    order: KeyOrder,
-    namespace: [u8; 16],
-    count: usize,
-    dir: &[u32],
-    tree: &[u8],
-    k: usize,
-    e: Entry,
-    place: &[u8],
-) -> bool
-    requires { ⌜ (Formed order count (now dir) (now tree)) × (k < count) × (legal field (e .path) ≡ true) × (now place ≡ placeKey (e .«subspace_id») (components (e .path))) ⌝ }
-    ensures { λ r. ⌜ r ≡ outdates (entryOf e) (stored order field namespace (recordAt k (now (dir .entry)) (now (tree .entry)))) ⌝ }
-{
-    if !begins(place, open_at(order, count, dir, tree, k)) {
-        return false;
-    }
-    let a = stored_at(order, namespace, dir, tree, k);
-    outdates(e, a)
-}
-
-// `front`: the entry's place without its end.
-fn removes_at(
-    order: KeyOrder,
-    namespace: [u8; 16],
-    count: usize,
-    dir: &[u32],
-    tree: &[u8],
-    k: usize,
-    e: Entry,
-    front: &[u8],
-) -> bool
-    requires { ⌜ (Formed order count (now dir) (now tree)) × (k < count) × (legal field (e .path) ≡ true) × (now front ≡ openKey (e .«subspace_id») (components (e .path))) ⌝ }
-    ensures { λ r. ⌜ r ≡ removes (entryOf e) (stored order field namespace (recordAt k (now (dir .entry)) (now (tree .entry)))) ⌝ }
-{
-    if !begins(place_at(order, count, dir, tree, k), front) {
-        return false;
-    }
-    let a = stored_at(order, namespace, dir, tree, k);
-    removes(e, a)
-}
-
-fn stands_at_place(
-    order: KeyOrder,
-    namespace: [u8; 16],
-    count: usize,
-    dir: &[u32],
-    tree: &[u8],
-    k: usize,
-    subspace: Subspace,
-    path: Path,
-    place: &[u8],
-) -> bool
-    requires { ⌜ (Formed order count (now dir) (now tree)) × (k < count) × (legal field path ≡ true) × (now place ≡ placeKey subspace (components path)) ⌝ }
-    ensures { λ r. ⌜ r ≡ standsAt subspace (components path) (stored order field namespace (recordAt k (now (dir .entry)) (now (tree .entry)))) ⌝ }
-{
-    if !same(place_at(order, count, dir, tree, k), place) {
-        return false;
-    }
-    let a = stored_at(order, namespace, dir, tree, k);
-    stands_at(subspace, path, a)
-}
-
-fn outdating_from(
-    order: KeyOrder,
-    namespace: [u8; 16],
-    count: usize,
-    dir: &[u32],
-    tree: &[u8],
-    e: Entry,
-    place: &[u8],
-    marks: &mut [u8],
-)
-    requires { ⌜ (Formed order count (now dir) (now tree)) × (count ≤ length (now marks)) × (legal field (e .path) ≡ true) × (now place ≡ placeKey (e .«subspace_id») (components (e .path))) ⌝ }
-    ensures { λ _. ⌜ now (marks .exit) ≡ put (marksOf (outdates (entryOf e)) (contents order field namespace (records count (now (dir .entry)) (now (tree .entry))))) (now (marks .entry)) ⌝ }
-{
-    let mut k: usize = 0;
-    while k < count {
-        marks[k] = outdates_at(order, namespace, count, dir, tree, k, e, place) as u8;
-        k += 1;
-    }
-}
-
-// What makes an entry obsolete.
-pub fn mark_outdating(
-    order: KeyOrder,
-    namespace: [u8; 16],
-    count: usize,
-    dir: &[u32],
-    tree: &[u8],
-    e: Entry,
-    marks: &mut [u8],
-)
-    requires { ⌜ (Formed order count (now dir) (now tree)) × (count ≤ length (now marks)) × (legal field (e .path) ≡ true) ⌝ }
-    ensures { λ _. ⌜ now (marks .exit) ≡ put (marksOf (outdates (entryOf e)) (contents order field namespace (records count (now (dir .entry)) (now (tree .entry))))) (now (marks .entry)) ⌝ }
-{
-    let subspace = e.subspace_id;
-    let path = e.path;
-    let mut key = [0u8; KEY_MOST];
-    let n = write_place(subspace, path, &mut key);
-    outdating_from(order, namespace, count, dir, tree, e, &key[..n], marks);
-}
-
-fn removed_from(
-    order: KeyOrder,
-    namespace: [u8; 16],
-    count: usize,
-    dir: &[u32],
-    tree: &[u8],
-    e: Entry,
-    front: &[u8],
-    marks: &mut [u8],
-)
-    requires { ⌜ (Formed order count (now dir) (now tree)) × (count ≤ length (now marks)) × (legal field (e .path) ≡ true) × (now front ≡ openKey (e .«subspace_id») (components (e .path))) ⌝ }
-    ensures { λ _. ⌜ now (marks .exit) ≡ put (marksOf (removes (entryOf e)) (contents order field namespace (records count (now (dir .entry)) (now (tree .entry))))) (now (marks .entry)) ⌝ }
-{
-    let mut k: usize = 0;
-    while k < count {
-        marks[k] = removes_at(order, namespace, count, dir, tree, k, e, front) as u8;
-        k += 1;
-    }
-}
-
-// What an entry removes.
-pub fn mark_removed(
-    order: KeyOrder,
-    namespace: [u8; 16],
-    count: usize,
-    dir: &[u32],
-    tree: &[u8],
-    e: Entry,
-    marks: &mut [u8],
-)
-    requires { ⌜ (Formed order count (now dir) (now tree)) × (count ≤ length (now marks)) × (legal field (e .path) ≡ true) ⌝ }
-    ensures { λ _. ⌜ now (marks .exit) ≡ put (marksOf (removes (entryOf e)) (contents order field namespace (records count (now (dir .entry)) (now (tree .entry))))) (now (marks .entry)) ⌝ }
-{
-    let subspace = e.subspace_id;
-    let path = e.path;
-    let mut key = [0u8; KEY_MOST];
-    let n = write_place(subspace, path, &mut key) - END;
-    removed_from(order, namespace, count, dir, tree, e, &key[..n], marks);
-}
-
-fn standing_from(
-    order: KeyOrder,
-    namespace: [u8; 16],
-    count: usize,
-    dir: &[u32],
-    tree: &[u8],
-    subspace: Subspace,
-    path: Path,
-    place: &[u8],
-    marks: &mut [u8],
-)
-    requires { ⌜ (Formed order count (now dir) (now tree)) × (count ≤ length (now marks)) × (legal field path ≡ true) × (now place ≡ placeKey subspace (components path)) ⌝ }
-    ensures { λ _. ⌜ now (marks .exit) ≡ put (marksOf (standsAt subspace (components path)) (contents order field namespace (records count (now (dir .entry)) (now (tree .entry))))) (now (marks .entry)) ⌝ }
-{
-    let mut k: usize = 0;
-    while k < count {
-        marks[k] = stands_at_place(
-            order,
-            namespace,
-            count,
-            dir,
-            tree,
-            k,
-            subspace,
-            path,
-            place,
-        ) as u8;
-        k += 1;
-    }
-}
-
-// What stands at a subspace and path.
-pub fn mark_at(
-    order: KeyOrder,
-    namespace: [u8; 16],
-    count: usize,
-    dir: &[u32],
-    tree: &[u8],
-    subspace: Subspace,
-    path: Path,
-    marks: &mut [u8],
-)
-    requires { ⌜ (Formed order count (now dir) (now tree)) × (count ≤ length (now marks)) × (legal field path ≡ true) ⌝ }
-    ensures { λ _. ⌜ now (marks .exit) ≡ put (marksOf (standsAt subspace (components path)) (contents order field namespace (records count (now (dir .entry)) (now (tree .entry))))) (now (marks .entry)) ⌝ }
-{
-    let mut key = [0u8; KEY_MOST];
-    let n = write_place(subspace, path, &mut key);
-    standing_from(
-        order,
-        namespace,
-        count,
-        dir,
-        tree,
-        subspace,
-        path,
-        &key[..n],
-        marks,
-    );
 }
 
 // The path if it is looked at, else one that is legal.

@@ -9,13 +9,13 @@ use keys::number::read_u64;
 use layout::bytes::same;
 ghost use mathlib.Core.Path.{_≡_};
 ghost use mathlib.Core.Bool.{true, false};
-ghost use Prim.Native.Nat.{_-_, _≤_, _<_};
+ghost use Prim.Native.Nat.{_-_, _≤_};
 ghost use lib.ListN.{length, take, drop};
 ghost use Rattle.laws.specs.Prefix.{sameNumber, prefixOf};
 ghost use Rattle.layout.specs.Layout.{recordAt};
 ghost use Rattle.data_model.specs.Path.{field, legal, components};
 ghost use Rattle.keys.specs.Encode.{pathKey, keyMost};
-ghost use Rattle.tree.specs.Tree.{Formed};
+ghost use Rattle.tree.specs.Tree.{Readable};
 ghost use Rattle.tree.specs.Place.{placeKey, tripleAt, placeAt, openAt};
 
 // The bytes of a subspace, of a path's end, and of a timestamp.
@@ -25,14 +25,8 @@ pub const END: usize = 2;
 
 const TIME: usize = 8;
 
-pub fn place_at<'a>(
-    order: KeyOrder,
-    count: usize,
-    dir: &[u32],
-    tree: &'a [u8],
-    k: usize,
-) -> &'a [u8]
-    requires { ⌜ (Formed order count (now dir) (now tree)) × (k < count) ⌝ }
+pub fn place_at<'a>(order: KeyOrder, dir: &[u32], tree: &'a [u8], k: usize) -> &'a [u8]
+    requires { ⌜ Readable order k (now dir) (now tree) ⌝ }
     ensures { λ r. ⌜ now r ≡ placeAt order (recordAt k (now (dir .entry)) (now (tree .entry))) ⌝ }
 {
     let key = key_at(tree, dir, k);
@@ -43,37 +37,37 @@ pub fn place_at<'a>(
     }
 }
 
-pub fn open_at<'a>(order: KeyOrder, count: usize, dir: &[u32], tree: &'a [u8], k: usize) -> &'a [u8]
-    requires { ⌜ (Formed order count (now dir) (now tree)) × (k < count) ⌝ }
+pub fn open_at<'a>(order: KeyOrder, dir: &[u32], tree: &'a [u8], k: usize) -> &'a [u8]
+    requires { ⌜ Readable order k (now dir) (now tree) ⌝ }
     ensures { λ r. ⌜ now r ≡ openAt order (recordAt k (now (dir .entry)) (now (tree .entry))) ⌝ }
 {
-    let place = place_at(order, count, dir, tree, k);
+    let place = place_at(order, dir, tree, k);
     let n = place.len();
     &place[..n - END]
 }
 
 // The parts of a place: its subspace, and the bytes of its path.
-pub fn subspace_at(order: KeyOrder, count: usize, dir: &[u32], tree: &[u8], k: usize) -> Subspace
-    requires { ⌜ (Formed order count (now dir) (now tree)) × (k < count) ⌝ }
+pub fn subspace_at(order: KeyOrder, dir: &[u32], tree: &[u8], k: usize) -> Subspace
+    requires { ⌜ Readable order k (now dir) (now tree) ⌝ }
     ensures { λ r. ⌜ r ≡ tripleAt order (recordAt k (now (dir .entry)) (now (tree .entry))) .subspace ⌝ }
 {
-    let place = place_at(order, count, dir, tree, k);
+    let place = place_at(order, dir, tree, k);
     Subspace {
         high: read_u64(place),
         low: read_u64(&place[8..]),
     }
 }
 
-pub fn path_at<'a>(order: KeyOrder, count: usize, dir: &[u32], tree: &'a [u8], k: usize) -> &'a [u8]
-    requires { ⌜ (Formed order count (now dir) (now tree)) × (k < count) ⌝ }
+pub fn path_at<'a>(order: KeyOrder, dir: &[u32], tree: &'a [u8], k: usize) -> &'a [u8]
+    requires { ⌜ Readable order k (now dir) (now tree) ⌝ }
     ensures { λ r. ⌜ now r ≡ pathKey (tripleAt order (recordAt k (now (dir .entry)) (now (tree .entry))) .path) ⌝ }
 {
-    let place = place_at(order, count, dir, tree, k);
+    let place = place_at(order, dir, tree, k);
     &place[SUBSPACE..]
 }
 
-pub fn time_at(order: KeyOrder, count: usize, dir: &[u32], tree: &[u8], k: usize) -> u64
-    requires { ⌜ (Formed order count (now dir) (now tree)) × (k < count) ⌝ }
+pub fn time_at(order: KeyOrder, dir: &[u32], tree: &[u8], k: usize) -> u64
+    requires { ⌜ Readable order k (now dir) (now tree) ⌝ }
     ensures { λ r. ⌜ r ≡ tripleAt order (recordAt k (now (dir .entry)) (now (tree .entry))) .timestamp ⌝ }
 {
     let key = key_at(tree, dir, k);

@@ -14,14 +14,14 @@ use data_model::range::TimesRange;
 use layout::bytes::less;
 ghost use mathlib.Core.Path.{_≡_};
 ghost use mathlib.Core.List.{List};
-ghost use Prim.Native.Nat.{ℕ, _≤_, _<_};
+ghost use Prim.Native.Nat.{ℕ, _≤_};
 ghost use lib.ListN.{length};
 ghost use Rattle.laws.specs.Lists.{put};
 ghost use Rattle.layout.specs.Layout.{records, recordAt};
 ghost use Rattle.layout.specs.Marks.{marksOf};
 ghost use Rattle.data_model.specs.Path.{field};
 ghost use Rattle.tree.specs.Stored.{stored, contents};
-ghost use Rattle.tree.specs.Tree.{Formed, InBounds};
+ghost use Rattle.tree.specs.Tree.{Formed, InBounds, Readable};
 ghost use Rattle.tree.specs.Matching.{letThrough};
 ghost use Rattle.tree.specs.declared.stored.KeyOrder.{KeyOrder as AnyOrder};
 ghost use Rattle.tree.specs.Selection.{selectsPath, selects, selectsListed};
@@ -74,7 +74,6 @@ fn in_paths(path: &[u8], under: bool, open: bool, low: &[u8], high: &[u8]) -> bo
 // Whether record k is selected, whatever its namespace and the flags.
 fn is_selected_at(
     order: KeyOrder,
-    count: usize,
     dir: &[u32],
     tree: &[u8],
     k: usize,
@@ -82,11 +81,11 @@ fn is_selected_at(
     low: &[u8],
     high: &[u8],
 ) -> bool
-    requires { ⌜ (Formed order count (now dir) (now tree)) × (k < count) ⌝ }
+    requires { ⌜ Readable order k (now dir) (now tree) ⌝ }
     ensures { λ r. ⌜ ((ns : List ℕ) → r ≡ selects selection (now (low .entry)) (now (high .entry)) (stored order field ns (recordAt k (now (dir .entry)) (now (tree .entry))))) ⌝ }
 {
     if !in_paths(
-        path_at(order, count, dir, tree, k),
+        path_at(order, dir, tree, k),
         selection.under,
         selection.open,
         low,
@@ -94,7 +93,7 @@ fn is_selected_at(
     ) {
         return false;
     }
-    let subspace = subspace_at(order, count, dir, tree, k);
+    let subspace = subspace_at(order, dir, tree, k);
     let own = selection.own;
     if !own.includes(subspace) {
         return false;
@@ -104,13 +103,12 @@ fn is_selected_at(
         return false;
     }
     let times = selection.times;
-    times.includes(time_at(order, count, dir, tree, k))
+    times.includes(time_at(order, dir, tree, k))
 }
 
 // Whether record k is selected and the flags let it through.
 fn is_listed_at(
     order: KeyOrder,
-    count: usize,
     dir: &[u32],
     tree: &[u8],
     k: usize,
@@ -118,10 +116,10 @@ fn is_listed_at(
     low: &[u8],
     high: &[u8],
 ) -> bool
-    requires { ⌜ (Formed order count (now dir) (now tree)) × (k < count) ⌝ }
+    requires { ⌜ Readable order k (now dir) (now tree) ⌝ }
     ensures { λ r. ⌜ ((ns : List ℕ) → r ≡ selectsListed selection (now (low .entry)) (now (high .entry)) (stored order field ns (recordAt k (now (dir .entry)) (now (tree .entry))))) ⌝ }
 {
-    if is_selected_at(order, count, dir, tree, k, selection, low, high) {
+    if is_selected_at(order, dir, tree, k, selection, low, high) {
         let ignore = selection.ignore;
         return let_through_at(dir, tree, k, ignore);
     }
@@ -144,7 +142,7 @@ pub fn mark_selected(
 {
     let mut k: usize = 0;
     while k < count {
-        marks[k] = is_listed_at(order, count, dir, tree, k, selection, low, high) as u8;
+        marks[k] = is_listed_at(order, dir, tree, k, selection, low, high) as u8;
         k += 1;
     }
 }

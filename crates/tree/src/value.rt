@@ -106,6 +106,14 @@ pub fn available(value: &[u8]) -> u64
     read_u64(&value[AVAILABLE_AT..])
 }
 
+// The bytes of the digest, as a part of the value.
+pub fn payload_digest<'a>(value: &'a [u8]) -> &'a [u8]
+    requires { ⌜ length (now value) ≡ valueLength ⌝ }
+    ensures { λ r. ⌜ now r ≡ readValue (now (value .entry)) .«payload_digest» ⌝ }
+{
+    &value[DIGEST_AT..TOKEN_AT]
+}
+
 // Whether no more is available than there is.
 pub fn is_value(value: &[u8]) -> bool
     requires { ⌜ length (now value) ≡ valueLength ⌝ }

@@ -66,14 +66,12 @@ fn is_at(
     if count <= j {
         return false;
     }
-    if time_at(KeyOrder::Spt, count, spt_dir, spt, k)
-        != time_at(KeyOrder::Tsp, count, tsp_dir, tsp, j)
-    {
+    if time_at(KeyOrder::Spt, spt_dir, spt, k) != time_at(KeyOrder::Tsp, tsp_dir, tsp, j) {
         return false;
     }
     if !same(
-        place_at(KeyOrder::Spt, count, spt_dir, spt, k),
-        place_at(KeyOrder::Tsp, count, tsp_dir, tsp, j),
+        place_at(KeyOrder::Spt, spt_dir, spt, k),
+        place_at(KeyOrder::Tsp, tsp_dir, tsp, j),
     ) {
         return false;
     }
@@ -101,7 +99,7 @@ fn first_places(count: usize, tsp_dir: &[u32], tsp: &[u8], next: &mut [u16])
     let mut k = count;
     while 0 < k {
         k -= 1;
-        let at = slot(time_at(KeyOrder::Tsp, count, tsp_dir, tsp, k));
+        let at = slot(time_at(KeyOrder::Tsp, tsp_dir, tsp, k));
         next[at] = (k % 0x10000) as u16;
     }
 }
@@ -141,7 +139,7 @@ fn within_by(
 {
     let mut k: usize = 0;
     while k < count {
-        let at = slot(time_at(KeyOrder::Spt, count, spt_dir, spt, k));
+        let at = slot(time_at(KeyOrder::Spt, spt_dir, spt, k));
         let j = next[at];
         if !stands_near(namespace, count, spt_dir, spt, tsp_dir, tsp, k, wide(j)) {
             return false;

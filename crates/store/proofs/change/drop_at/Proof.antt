@@ -23,7 +23,7 @@ same-length-2 : tie.Need-same-length-2
 same-length-2 c = search needs
 
 returns : tie.Need-returns
-returns c = let p = (c .before .before .before .before .before .before .before .before .before .before .before .before .before .before .before) in let m = c .before .before .before .before .before .before .before .before .before .mark-at in let r = c .before .before .before .before .retain in dropped (p .pre .0) (λ i. c .before .before .before .before .before .before .before .before .before .before .before .before .before .before .slice-known .given i .fits) _ _ _ _ (m .ensures) (r .result) (r .last .1 .1 .0) (r .last .1 .1 .1 .0) (r .ensures .0) (r .ensures .1 .0) (r .ensures .1 .1)
+returns c = λ ns. let p = (c .before .before .before .before .before .before .before .before .before .before .before .before .before .before .before) in let m = c .before .before .before .before .before .before .before .before .before .mark-at in let r = c .before .before .before .before .retain in dropped (p .pre .0) (λ i. c .before .before .before .before .before .before .before .before .before .before .before .before .before .before .slice-known .given i .fits) ns _ _ _ (m .ensures ns) (r .result) (r .last .1 .1 .0) (r .last .1 .1 .1 .0) (r .ensures .0) (r .ensures .1 .0) (r .ensures .1 .1)
 
 pub drop-at-spec : {M : Type 1} → statement M
 drop-at-spec =

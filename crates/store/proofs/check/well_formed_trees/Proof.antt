@@ -35,7 +35,7 @@ apart-requires c κs = well-ordered (c .before .before .before .before .before .
 
 returns-4 : tie.Need-returns-4
 unfolding wellFormedTrees apart
-returns-4 c = simp (holds (c .before .before .before .before .before .before .well-formed .ensures) (c .before .before .before .before .before .if1 .left), holds (c .before .before .before .before .well-formed2 .ensures) (c .before .before .before .if2 .left), sym (trees-same _ (well-ordered (c .before .before .before .before .before .before .before .before .before .before .before .pre .0) (holds (c .before .before .before .before .before .before .well-formed .ensures) (c .before .before .before .before .before .if1 .left))) (well-formed-tree (c .before .before .before .before .before .before .before .before .before .before .before .pre .1) (holds (c .before .before .before .before .well-formed2 .ensures) (c .before .before .before .if2 .left))) (λ i. c .before .before .before .before .before .before .before .before .before .before .shared-slice-known .given i .fits) (λ i. c .before .before .before .before .before .before .before .before .shared-slice-known3 .given i .fits)) ∙ holds (c .before .before .within .ensures) (c .before .if3 .left)) (c .apart .ensures)
+returns-4 c = simp (holds (c .before .before .before .before .before .before .well-formed .ensures) (c .before .before .before .before .before .if1 .left), holds (c .before .before .before .before .well-formed2 .ensures) (c .before .before .before .if2 .left), sym (trees-same _ (well-ordered (c .before .before .before .before .before .before .before .before .before .before .before .pre .0) (holds (c .before .before .before .before .before .before .well-formed .ensures) (c .before .before .before .before .before .if1 .left))) (well-formed-tree (c .before .before .before .before .before .before .before .before .before .before .before .pre .1) (holds (c .before .before .before .before .well-formed2 .ensures) (c .before .before .before .if2 .left))) (λ i. c .before .before .before .before .before .before .before .before .before .before .shared-slice-known .given i .fits) (λ i. c .before .before .before .before .before .before .before .before .shared-slice-known3 .given i .fits)) ∙ holds (c .before .before .within .ensures) (c .before .if3 .left)) (c .apart .ensures (c .before .before .before .before .before .before .before .before .before .before .before .args .namespace))
 
 pub well-formed-trees-spec : {M : Type 1} → statement M
 well-formed-trees-spec =

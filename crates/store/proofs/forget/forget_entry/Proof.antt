@@ -78,7 +78,7 @@ same-length-8 : tie.Need-same-length-8
 same-length-8 c = search needs
 
 returns-2 : tie.Need-returns-2
-returns-2 c = let p = (c .before .before .before .before .before .before .before .before .before .before .before .before .before .before .before .before .before .before .before .before .before .before .before .before .before .before .before) in let a = c .before .before .before .before .before .before .before .before .before .before .before .drop-at in let b = c .before .before .before .before .drop-at2 in entry-done (storeOf (p .args .state) (p .args .spt .now) (p .args .«spt-dir» .now) (p .args .tsp .now) (p .args .«tsp-dir» .now)) (p .args .subspace) (p .args .path) (p .args .expects) (p .args .«expected-digest») (c .before .before .before .before .before .before .before .before .before .before .before .before .before .before .before .before .before .before .forget-entry-refusal .result) (c .before .before .before .before .before .before .before .before .before .before .before .before .before .before .before .before .before .before .forget-entry-refusal .ensures) (c .before .before .before .before .before .before .before .before .before .before .before .before .before .before .before .before .before .if1 .left) (a .result) (b .result) (a .last .1 .1 .1 .0) (a .last .1 .1 .1 .1 .0) (b .last .1 .1 .1 .0) (b .last .1 .1 .1 .1 .0) (a .ensures) (b .ensures)
+returns-2 c = let p = (c .before .before .before .before .before .before .before .before .before .before .before .before .before .before .before .before .before .before .before .before .before .before .before .before .before .before .before) in let a = c .before .before .before .before .before .before .before .before .before .before .before .drop-at in let b = c .before .before .before .before .drop-at2 in entry-done (storeOf (p .args .state) (p .args .spt .now) (p .args .«spt-dir» .now) (p .args .tsp .now) (p .args .«tsp-dir» .now)) (p .args .subspace) (p .args .path) (p .args .expects) (p .args .«expected-digest») (c .before .before .before .before .before .before .before .before .before .before .before .before .before .before .before .before .before .before .forget-entry-refusal .result) (c .before .before .before .before .before .before .before .before .before .before .before .before .before .before .before .before .before .before .forget-entry-refusal .ensures) (c .before .before .before .before .before .before .before .before .before .before .before .before .before .before .before .before .before .if1 .left) (a .result) (b .result) (a .last .1 .1 .0) (a .last .1 .1 .1 .0) (b .last .1 .1 .0) (b .last .1 .1 .1 .0) (a .ensures (p .args .state .«namespace_id»)) (b .ensures (p .args .state .«namespace_id»))
 
 pub forget-entry-spec : {M : Type 1} → statement M
 forget-entry-spec =

@@ -25,13 +25,13 @@ array-share-prefix-marks : tie.Need-array-share-prefix-marks
 array-share-prefix-marks c = search needs
 
 slice-aggregate-first-marked : tie.Need-slice-aggregate-first-marked
-slice-aggregate-first-marked c = let p = (c .before .before .before .before .before .before) in let g = c .before .before .mark-at in sym (length-take-le (p .args .count) (g .last .1 .1 .1 .1 .1 .1 .1 .0) (omega (arith, p .pre .1, g .kept .1 .1 .1 .1 .1 .1 .1 .0, length-replicate {A = ℕ} limitMost 0)))
+slice-aggregate-first-marked c = let p = (c .before .before .before .before .before .before) in let g = c .before .before .mark-at in sym (length-take-le (p .args .count) (g .last .1 .1 .1 .1 .1 .1 .0) (omega (arith, p .pre .1, g .kept .1 .1 .1 .1 .1 .1 .0, length-replicate {A = ℕ} limitMost 0)))
 
 first-marked-requires : tie.Need-first-marked-requires
 first-marked-requires c κs = search needs
 
 returns : tie.Need-returns
-returns c = let p = (c .before .before .before .before .before .before .before .before) in let m = c .before .before .before .before .mark-at in let f = c .before .first-marked in digest-absent (p .pre .0) (p .args .namespace) (p .args .subspace) (components (p .args .path)) (p .args .t7) _ _ (m .ensures) (f .result) (f .ensures) (c .if1 .taken)
+returns c = let p = (c .before .before .before .before .before .before .before .before) in let m = c .before .before .before .before .mark-at in let f = c .before .first-marked in digest-absent (p .pre .0) (p .args .namespace) (p .args .subspace) (components (p .args .path)) (p .args .t7) _ _ (m .ensures (p .args .namespace)) (f .result) (f .ensures) (c .if1 .taken)
 
 stored-at-requires : tie.Need-stored-at-requires
 stored-at-requires c κs = let p = (c .before .before .before .before .before .before .before .before) in formed-bounds (p .pre .0) _ (c .if1 .left)
@@ -46,7 +46,7 @@ same-bytes-requires : tie.Need-same-bytes-requires
 same-bytes-requires c κs = search needs
 
 returns-2 : tie.Need-returns-2
-returns-2 c = let p = (c .before .before .before .before .before .before .before .before .before .before .before .before .before .before) in let m = c .before .before .before .before .before .before .before .before .before .before .mark-at in let f = c .before .before .before .before .before .before .before .first-marked in let a = c .before .before .before .before .before .stored-at in digest-there (p .pre .0) (p .args .namespace) (p .args .subspace) (components (p .args .path)) (p .args .t7) _ _ (m .ensures) (f .result) (f .ensures) (p .pre .3) (c .before .before .before .before .before .before .if1 .left) (a .result) (a .ensures .1 .1) _ (c .same-bytes .ensures)
+returns-2 c = let p = (c .before .before .before .before .before .before .before .before .before .before .before .before .before .before) in let m = c .before .before .before .before .before .before .before .before .before .before .mark-at in let f = c .before .before .before .before .before .before .before .first-marked in let a = c .before .before .before .before .before .stored-at in digest-there (p .pre .0) (p .args .namespace) (p .args .subspace) (components (p .args .path)) (p .args .t7) _ _ (m .ensures (p .args .namespace)) (f .result) (f .ensures) (p .pre .3) (c .before .before .before .before .before .before .if1 .left) (a .result) (a .ensures .1 .1) _ (c .same-bytes .ensures)
 
 pub is-other-digest-spec : {M : Type 1} → statement M
 is-other-digest-spec =

@@ -22,7 +22,7 @@ array-share-prefix-marks c = search needs
 slice-aggregate-first-marked : tie.Need-slice-aggregate-first-marked
 slice-aggregate-first-marked c =
     let g = c .before .before .mark-outdating in
-    sym (length-take-le (c .before .before .before .before .before .before .args .count) (g .last .1 .1 .1 .1 .1 .1 .0) (omega (arith, c .before .before .before .before .before .before .pre .1, g .kept .1 .1 .1 .1 .1 .1 .0, length-replicate {A = ℕ} limitMost 0)))
+    sym (length-take-le (c .before .before .before .before .before .before .args .count) (g .last .1 .1 .1 .1 .1 .0) (omega (arith, c .before .before .before .before .before .before .pre .1, g .kept .1 .1 .1 .1 .1 .0, length-replicate {A = ℕ} limitMost 0)))
 
 first-marked-requires : tie.Need-first-marked-requires
 first-marked-requires c κs = search needs
@@ -32,7 +32,7 @@ returns c =
     let p = c .before .before .before .before .before .before .before .before in
     let g = c .before .before .before .before .mark-outdating in
     let f = c .before .first-marked in
-    decided-old (p .pre .0) _ _ _ _ (g .last .1 .1 .1 .1 .1 .1 .0) _ (g .ensures) (f .result) (f .ensures) (c .if1 .taken)
+    decided-old (p .pre .0) _ _ _ _ (g .last .1 .1 .1 .1 .1 .0) _ (g .ensures) (f .result) (f .ensures) (c .if1 .taken)
 
 slice-aggregate-mark-removed : tie.Need-slice-aggregate-mark-removed
 slice-aggregate-mark-removed c = search needs
@@ -46,7 +46,7 @@ array-share-prefix-removed c = search needs
 slice-aggregate-count-marked : tie.Need-slice-aggregate-count-marked
 slice-aggregate-count-marked c =
     let g = c .before .before .mark-removed in
-    sym (length-take-le (c .before .before .before .before .before .before .before .before .before .before .before .before .args .count) (g .last .1 .1 .1 .1 .1 .1 .0) (omega (arith, c .before .before .before .before .before .before .before .before .before .before .before .before .pre .1, g .kept .1 .1 .1 .1 .1 .1 .0, length-replicate {A = ℕ} limitMost 0)))
+    sym (length-take-le (c .before .before .before .before .before .before .before .before .before .before .before .before .args .count) (g .last .1 .1 .1 .1 .1 .0) (omega (arith, c .before .before .before .before .before .before .before .before .before .before .before .before .pre .1, g .kept .1 .1 .1 .1 .1 .0, length-replicate {A = ℕ} limitMost 0)))
 
 count-marked-requires : tie.Need-count-marked-requires
 count-marked-requires c κs = search needs
@@ -62,13 +62,13 @@ returns-2 c =
     let r = c .before .before .before .before .before .mark-removed in
     let m = c .before .before .count-marked in
     let t = c .before .is-prevented in
-    decided-prevented (p .pre .0) _ _ _ _ (g .last .1 .1 .1 .1 .1 .1 .0) _ (g .ensures) (f .result) (f .ensures) (c .before .before .before .before .before .before .before .if1 .left) (r .last .1 .1 .1 .1 .1 .1 .0) _ (r .ensures) (m .result) (m .ensures) (t .result) (t .ensures) (c .if2 .taken)
+    decided-prevented (p .pre .0) _ _ _ _ (g .last .1 .1 .1 .1 .1 .0) _ (g .ensures) (f .result) (f .ensures) (c .before .before .before .before .before .before .before .if1 .left) (r .last .1 .1 .1 .1 .1 .0) _ (r .ensures) (m .result) (m .ensures) (t .result) (t .ensures) (c .if2 .taken)
 
 sub-if3 : tie.Need-sub-if3
 sub-if3 c =
     let p = c .before .before .before .before .before .before .before .before .before .before .before .before .before .before .before in
     let r = c .before .before .before .before .before .mark-removed in
-    omega (arith, p .pre .1, c .before .before .count-marked .ensures, marks-few (p .args .count) (r .last .1 .1 .1 .1 .1 .1 .0) (omega (arith, p .pre .1, r .kept .1 .1 .1 .1 .1 .1 .0, length-replicate {A = ℕ} limitMost 0)))
+    omega (arith, p .pre .1, c .before .before .count-marked .ensures, marks-few (p .args .count) (r .last .1 .1 .1 .1 .1 .0) (omega (arith, p .pre .1, r .kept .1 .1 .1 .1 .1 .0, length-replicate {A = ℕ} limitMost 0)))
 
 returns-3 : tie.Need-returns-3
 returns-3 c =
@@ -78,7 +78,7 @@ returns-3 c =
     let r = c .before .before .before .before .before .before .mark-removed in
     let m = c .before .before .before .count-marked in
     let t = c .before .before .is-prevented in
-    decided-full (p .pre .0) _ _ _ _ (g .last .1 .1 .1 .1 .1 .1 .0) _ (g .ensures) (f .result) (f .ensures) (c .before .before .before .before .before .before .before .before .if1 .left) (r .last .1 .1 .1 .1 .1 .1 .0) _ (r .ensures) (m .result) (m .ensures) (t .result) (t .ensures) (c .before .if2 .left) (c .if3 .taken)
+    decided-full (p .pre .0) _ _ _ _ (g .last .1 .1 .1 .1 .1 .0) _ (g .ensures) (f .result) (f .ensures) (c .before .before .before .before .before .before .before .before .if1 .left) (r .last .1 .1 .1 .1 .1 .0) _ (r .ensures) (m .result) (m .ensures) (t .result) (t .ensures) (c .before .if2 .left) (c .if3 .taken)
 
 returns-4 : tie.Need-returns-4
 returns-4 c =
@@ -88,7 +88,7 @@ returns-4 c =
     let r = c .before .before .before .before .before .before .mark-removed in
     let m = c .before .before .before .count-marked in
     let t = c .before .before .is-prevented in
-    decided-take (p .pre .0) _ _ _ _ (g .last .1 .1 .1 .1 .1 .1 .0) _ (g .ensures) (f .result) (f .ensures) (c .before .before .before .before .before .before .before .before .if1 .left) (r .last .1 .1 .1 .1 .1 .1 .0) _ (r .ensures) (m .result) (m .ensures) (t .result) (t .ensures) (c .before .if2 .left) (c .if3 .left)
+    decided-take (p .pre .0) _ _ _ _ (g .last .1 .1 .1 .1 .1 .0) _ (g .ensures) (f .result) (f .ensures) (c .before .before .before .before .before .before .before .before .if1 .left) (r .last .1 .1 .1 .1 .1 .0) _ (r .ensures) (m .result) (m .ensures) (t .result) (t .ensures) (c .before .if2 .left) (c .if3 .left)
 
 pub decide-spec : {M : Type 1} → statement M
 decide-spec =

@@ -4,9 +4,10 @@ use mathlib.Core.Path.{_≡_, sym, _∙_}
 use native.Mathlib.Omega.{arith}
 use lib.Seq.{length-take-le}
 use Rattle.data_model.specs.Path.{field}
+use Rattle.data_model.specs.Entry.{entryOf}
 use Rattle.store.specs.Store.{Store, storeOf}
-use Rattle.store.specs.Ingest.{verdictSays, ingestRefusal}
-use Rattle.store.proofs.IngestLaws.{Ready, ready, ready-formed, answers-refused, answers-late, old-bounds, answers-old, take-fits, answers-take}
+use Rattle.store.specs.Ingest.{verdictSays, ingestRefusal, placeDecided}
+use Rattle.store.proofs.IngestLaws.{Ready, inSpt, decided-own, ready, ready-formed, answers-refused, answers-late, old-bounds, answers-old, take-fits, answers-take}
 use borrow.Author.Needs.{needs}
 use Rattle.store.proofs.ingest.ingest_answer.Statement.{statement}
 use Rattle.store.proofs.ingest.ingest_answer.Tie as tie
@@ -23,6 +24,15 @@ zero c = sym (c .before .ingest-refusal .ensures) ∙ c .if1 .left
 
 known : (c : tie.Else1) → Ready (lent (start c)) (start c .args .prune .now) (start c .args .entry)
 known c = ready (lent (start c)) (start c .args .prune .now) (start c .args .entry) (zero c)
+
+-- What is decided, in the store's namespace.
+abbrev tested : tie.After-decide → tie.Else1
+tested c = c .before .before .before
+
+own : (c : tie.After-decide) → c .decide .result ≡ placeDecided (start (tested c) .args .state .limit) (inSpt (lent (start (tested c)))) (entryOf (start (tested c) .args .entry)) (start (tested c) .args .«prevent-pruning»)
+own c =
+    let p = start (tested c) in
+    decided-own (lent p) (p .args .prune .now) (p .args .entry) (p .args .«prevent-pruning») (known (tested c)) (c .decide .result) (c .decide .ensures)
 
 ingest-refusal-requires : tie.Need-ingest-refusal-requires
 ingest-refusal-requires c κs = search needs
@@ -46,19 +56,19 @@ mul-m c =
 
 slice-aggregate-decide : tie.Need-slice-aggregate-decide
 slice-aggregate-decide c =
-    let e = c .before .before in
+    let e = c .before in
     let r = known e .passes .room .spt in
     sym (length-take-le _ (start e .args .spt .now) (omega arith))
 
 slice-aggregate-decide-2 : tie.Need-slice-aggregate-decide-2
 slice-aggregate-decide-2 c =
-    let e = c .before .before .before in
+    let e = c .before .before in
     let r = known e .passes .room .sptDir in
     sym (length-take-le (2 * start e .args .state .limit) (start e .args .«spt-dir» .now) (omega arith))
 
 decide-requires : tie.Need-decide-requires
 decide-requires c κs =
-    let e = c .before .before .before in
+    let e = c .before .before in
     let p = start e in
     let v = known e in
     let m = v .passes .most in
@@ -76,21 +86,21 @@ enum-known-d-2 c = search needs
 
 slice-aggregate-obsolete-answer : tie.Need-slice-aggregate-obsolete-answer
 slice-aggregate-obsolete-answer c =
-    let e = c .before .before .before .before .before .before .before .before in
+    let e = c .before .before .before .before .before .before .before in
     let r = known e .passes .room .spt in
     sym (length-take-le _ (start e .args .spt .now) (omega arith))
 
 slice-aggregate-obsolete-answer-2 : tie.Need-slice-aggregate-obsolete-answer-2
 slice-aggregate-obsolete-answer-2 c =
-    let e = c .before .before .before .before .before .before .before .before .before in
+    let e = c .before .before .before .before .before .before .before .before in
     let r = known e .passes .room .sptDir in
     sym (length-take-le (2 * start e .args .state .limit) (start e .args .«spt-dir» .now) (omega arith))
 
 obsolete-answer-requires : tie.Need-obsolete-answer-requires
 obsolete-answer-requires c κs =
-    let e = c .before .before .before .before .before .before .before .before .before in
+    let e = c .before .before .before .before .before .before .before .before in
     let p = start e in
-    old-bounds (lent p) (p .args .prune .now) (p .args .entry) (p .args .token) (p .args .«prevent-pruning») (zero e) (c .before .before .before .before .before .decide .result) (c .before .before .before .before .before .decide .ensures)
+    old-bounds (lent p) (p .args .prune .now) (p .args .entry) (p .args .token) (p .args .«prevent-pruning») (zero e) (c .before .before .before .before .before .decide .result) (own (c .before .before .before .before .before))
     _ (c .before .before .before .d2 .given .1)
 
 enum-known-d-3 : tie.Need-enum-known-d-3
@@ -98,32 +108,32 @@ enum-known-d-3 c = search needs
 
 taken-answer-requires : tie.Need-taken-answer-requires
 taken-answer-requires c κs =
-    let e = c .before .before .before .before .before .before .before in
+    let e = c .before .before .before .before .before .before in
     let p = start e in
-    take-fits (lent p) (p .args .prune .now) (p .args .entry) (p .args .token) (p .args .«prevent-pruning») (zero e) (c .before .before .before .decide .result) (c .before .before .before .decide .ensures)
+    take-fits (lent p) (p .args .prune .now) (p .args .entry) (p .args .token) (p .args .«prevent-pruning») (zero e) (c .before .before .before .decide .result) (own (c .before .before .before))
     _ (c .before .d3 .given .1)
 
 returns-2 : tie.Need-returns-2
 unfolding verdictSays
 returns-2 c =
-    let e = c .before .before .before .before .before .before .before .before in
+    let e = c .before .before .before .before .before .before .before in
     let p = start e in
-    answers-late (lent p) (p .args .prune .now) (p .args .entry) (p .args .token) (p .args .«prevent-pruning») (zero e) (c .before .before .before .before .decide .result) (c .before .before .before .before .decide .ensures)
+    answers-late (lent p) (p .args .prune .now) (p .args .entry) (p .args .token) (p .args .«prevent-pruning») (zero e) (c .before .before .before .before .decide .result) (own (c .before .before .before .before))
     _ (c .before .before .d .given .1) _ (c .plain-answer2 .ensures)
 
 returns-3 : tie.Need-returns-3
 returns-3 c =
-    let e = c .before .before .before .before .before .before .before .before .before .before in
+    let e = c .before .before .before .before .before .before .before .before .before in
     let p = start e in
-    answers-old (lent p) (p .args .prune .now) (p .args .entry) (p .args .token) (p .args .«prevent-pruning») (zero e) (c .before .before .before .before .before .before .decide .result) (c .before .before .before .before .before .before .decide .ensures)
+    answers-old (lent p) (p .args .prune .now) (p .args .entry) (p .args .token) (p .args .«prevent-pruning») (zero e) (c .before .before .before .before .before .before .decide .result) (own (c .before .before .before .before .before .before))
     _ (c .before .before .before .before .d2 .given .1) _ (c .obsolete-answer .ensures)
 
 returns-4 : tie.Need-returns-4
 unfolding verdictSays
 returns-4 c =
-    let e = c .before .before .before .before .before .before .before .before in
+    let e = c .before .before .before .before .before .before .before in
     let p = start e in
-    answers-take (lent p) (p .args .prune .now) (p .args .entry) (p .args .token) (p .args .«prevent-pruning») (zero e) (c .before .before .before .before .decide .result) (c .before .before .before .before .decide .ensures)
+    answers-take (lent p) (p .args .prune .now) (p .args .entry) (p .args .token) (p .args .«prevent-pruning») (zero e) (c .before .before .before .before .decide .result) (own (c .before .before .before .before))
     _ (c .before .before .d3 .given .1) _ (c .taken-answer .ensures)
 
 pub ingest-answer-spec : {M : Type 1} → statement M

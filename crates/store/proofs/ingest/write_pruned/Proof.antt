@@ -23,17 +23,17 @@ array-share-prefix-marks c = search needs
 slice-aggregate-write-pairs : tie.Need-slice-aggregate-write-pairs
 slice-aggregate-write-pairs c =
     let g = c .before .before .mark-removed in
-    sym (length-take-le (c .before .before .before .before .before .before .before .args .count) (g .last .1 .1 .1 .1 .1 .1 .0) (omega (arith, c .before .before .before .before .before .before .before .pre .1, g .kept .1 .1 .1 .1 .1 .1 .0, length-replicate {A = ℕ} limitMost 0)))
+    sym (length-take-le (c .before .before .before .before .before .before .before .args .count) (g .last .1 .1 .1 .1 .1 .0) (omega (arith, c .before .before .before .before .before .before .before .pre .1, g .kept .1 .1 .1 .1 .1 .0, length-replicate {A = ℕ} limitMost 0)))
 
 write-pairs-requires : tie.Need-write-pairs-requires
 write-pairs-requires c κs =
     let p = c .before .before .before .before .before .before .before .before in
     let g = c .before .before .before .mark-removed in
-    let h : p .args .count ≤ length (g .last .1 .1 .1 .1 .1 .1 .0) = omega (arith, p .pre .1, g .kept .1 .1 .1 .1 .1 .1 .0, length-replicate {A = ℕ} limitMost 0) in
-    let n = length-take-le (p .args .count) (g .last .1 .1 .1 .1 .1 .1 .0) h in
+    let h : p .args .count ≤ length (g .last .1 .1 .1 .1 .1 .0) = omega (arith, p .pre .1, g .kept .1 .1 .1 .1 .1 .0, length-replicate {A = ℕ} limitMost 0) in
+    let n = length-take-le (p .args .count) (g .last .1 .1 .1 .1 .1 .0) h in
     let f = p .pre .0 .few in
     let r = p .pre .3 in
-    (omega arith, omega (arith, marks-few (p .args .count) (g .last .1 .1 .1 .1 .1 .1 .0) h))
+    (omega arith, omega (arith, marks-few (p .args .count) (g .last .1 .1 .1 .1 .1 .0) h))
 
 same-length : tie.Need-same-length
 same-length c = search needs
@@ -42,7 +42,7 @@ returns : tie.Need-returns
 returns c =
     let p = c .before .before .before .before .before .before .before .before .before .before .before in
     let g = c .before .before .before .before .before .before .mark-removed in
-    pruned-pairs (p .pre .0) _ 0 _ true (g .last .1 .1 .1 .1 .1 .1 .0) _ (g .ensures) _ _ (c .before .before .write-pairs .ensures .1)
+    pruned-pairs (p .pre .0) _ 0 _ true (g .last .1 .1 .1 .1 .1 .0) _ (g .ensures) _ _ (c .before .before .write-pairs .ensures .1)
 
 pub write-pruned-spec : {M : Type 1} → statement M
 write-pruned-spec =

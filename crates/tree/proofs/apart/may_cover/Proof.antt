@@ -1,20 +1,29 @@
 -- `may_cover` meets its contract. Assumes nothing.
-use Rattle.tree.proofs.TestLaws.{stays-place, stays-newer}
+use Rattle.tree.proofs.RankLaws.{one-address, other-address}
 use borrow.Author.Needs.{needs}
 use Rattle.tree.proofs.apart.may_cover.Statement.{statement}
 use Rattle.tree.proofs.apart.may_cover.Tie as tie
 
-same-place-requires : tie.Need-same-place-requires
-same-place-requires c κs = c .pre
+place-at-requires : tie.Need-place-at-requires
+place-at-requires c κs = search needs
+
+place-at-requires-2 : tie.Need-place-at-requires-2
+place-at-requires-2 c κs = search needs
+
+same-requires : tie.Need-same-requires
+same-requires c κs = search needs
 
 returns : tie.Need-returns
-returns c = stays-place _ _ _ (c .before .same-place .ensures) (c .if1 .taken)
+returns c = one-address _ _ _ _ (c .before .before .place-at2 .ensures) (c .before .before .before .place-at .ensures) _ (c .before .same .ensures) (c .if1 .taken) _
 
-is-newer-requires : tie.Need-is-newer-requires
-is-newer-requires c κs = search needs
+compare-records-requires : tie.Need-compare-records-requires
+compare-records-requires c κs = search needs
+
+is-greater-requires : tie.Need-is-greater-requires
+is-greater-requires c κs = search needs
 
 returns-2 : tie.Need-returns-2
-returns-2 c = stays-newer _ _ _ (c .before .before .same-place .ensures) (c .before .if1 .left) _ (c .is-newer .ensures)
+returns-2 c = other-address _ _ _ _ (c .before .before .before .before .place-at2 .ensures) (c .before .before .before .before .before .place-at .ensures) _ (c .before .before .before .same .ensures) (c .before .before .if1 .left) _ _ (c .before .compare-records .ensures) _ (c .is-greater .ensures)
 
 pub may-cover-spec : {M : Type 1} → statement M
-may-cover-spec = tie.close (tie.spec same-place-requires returns is-newer-requires returns-2)
+may-cover-spec = tie.close (tie.spec place-at-requires place-at-requires-2 same-requires returns compare-records-requires is-greater-requires returns-2)

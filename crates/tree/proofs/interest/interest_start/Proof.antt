@@ -11,7 +11,7 @@ use Rattle.data_model.specs.Path.{field}
 use Rattle.tree.specs.Stored.{contents}
 use Rattle.tree.specs.Interest.{interestFrom}
 use Rattle.tree.specs.declared.stored.KeyOrder.the-variants.{Tsp}
-use Rattle.tree.proofs.FormedLaws.{formed-bounds}
+use Rattle.tree.proofs.FormedLaws.{formed-bounds, formed-readable}
 use Rattle.tree.proofs.RecordParts.{part-long}
 use Rattle.tree.proofs.SelectionLaws.{time-read, length-read}
 use Rattle.tree.proofs.InterestLaws.{interest-starts, interest-skips, interest-stops, interest-fits, interest-goes, interest-ends}
@@ -51,7 +51,7 @@ sub-time-at : tie.Need-sub-time-at Inv-loop μ-loop
 sub-time-at c = omega arith
 
 time-at-requires : tie.Need-time-at-requires Inv-loop μ-loop
-time-at-requires c κs = (c .before .before .before .before .before .before .before .before .before .pre .0, omega arith)
+time-at-requires c κs = formed-readable (c .before .before .before .before .before .before .before .before .before .pre .0) _ (omega arith)
 
 breaks-one-requires : tie.Need-breaks-one-requires Inv-loop μ-loop
 breaks-one-requires c κs = search needs

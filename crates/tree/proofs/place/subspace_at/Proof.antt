@@ -31,7 +31,7 @@ read-u64-requires-2 c κs =
 returns : tie.Need-returns
 returns c =
     let a = c .before .before .before .before .before .before in
-    subspace-read (a .pre .0) (a .args .k) (a .pre .1) (λ i. c .before .before .before .before .shared-slice-known2 .given i .fits) _ (c .before .before .before .place-at .ensures) _ _ (c .before .before .read-u64 .ensures) (c .read-u642 .ensures)
+    subspace-read (a .pre) (λ i. c .before .before .before .before .shared-slice-known2 .given i .fits) _ (c .before .before .before .place-at .ensures) _ _ (c .before .before .read-u64 .ensures) (c .read-u642 .ensures)
 
 pub subspace-at-spec : {M : Type 1} → statement M
 subspace-at-spec =

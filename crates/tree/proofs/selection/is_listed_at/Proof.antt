@@ -1,5 +1,4 @@
 -- `is_listed_at` meets its contract. Assumes nothing.
-use Rattle.tree.proofs.FormedLaws.{formed-bounds}
 use Rattle.tree.proofs.SelectionLaws.{listed-inside, listed-outside}
 use borrow.Author.Needs.{needs}
 use Rattle.tree.proofs.selection.is_listed_at.Statement.{statement}
@@ -9,7 +8,7 @@ is-selected-at-requires : tie.Need-is-selected-at-requires
 is-selected-at-requires c κs = search needs
 
 let-through-at-requires : tie.Need-let-through-at-requires
-let-through-at-requires c κs = formed-bounds (c .before .before .before .before .before .before .before .pre .0) _ (c .before .before .before .before .before .before .before .pre .1)
+let-through-at-requires c κs = c .before .before .before .before .before .before .before .pre .bounds
 
 returns : tie.Need-returns
 returns c = listed-inside _ _ _ _ _ _ (c .before .before .before .is-selected-at .ensures) (c .before .before .if1 .taken) _ (λ ns. c .let-through-at .ensures _ ns)

@@ -6,6 +6,7 @@ use Rattle.layout.specs.Layout.{records}
 use Rattle.data_model.specs.Path.{field}
 use Rattle.tree.specs.Stored.{contents}
 use Rattle.tree.specs.Selection.{selectsListed}
+use Rattle.tree.proofs.FormedLaws.{formed-readable}
 use Rattle.tree.proofs.MarkingLaws.{Marking, marking-start, mark-next, mark-end}
 use Rattle.tree.proofs.selection.mark_selected.Statement.{statement}
 use Rattle.tree.proofs.selection.mark_selected.Tie as tie
@@ -21,7 +22,7 @@ loop-holds : tie.Need-loop-holds Inv-loop μ-loop
 loop-holds c = (omega arith, λ ns. marking-start _ _ _)
 
 is-listed-at-requires : tie.Need-is-listed-at-requires Inv-loop μ-loop
-is-listed-at-requires c κs = (c .before .before .before .before .before .before .before .pre .0, omega arith)
+is-listed-at-requires c κs = formed-readable (c .before .before .before .before .before .before .before .pre .0) _ (omega arith)
 
 cast-marks : tie.Need-cast-marks Inv-loop μ-loop
 cast-marks c = tt

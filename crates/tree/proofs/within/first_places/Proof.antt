@@ -4,6 +4,7 @@ use mathlib.Core.Path.{_≡_, refl}
 use native.Mathlib.Omega.{arith}
 use lib.ListN.{length, length-set}
 use borrow.Author.Needs.{needs}
+use Rattle.tree.proofs.FormedLaws.{formed-readable}
 use Rattle.tree.proofs.within.first_places.Statement.{statement}
 use Rattle.tree.proofs.within.first_places.Tie as tie
 
@@ -20,7 +21,7 @@ sub-k : tie.Need-sub-k Inv-loop μ-loop
 sub-k c = omega arith
 
 time-at-requires : tie.Need-time-at-requires Inv-loop μ-loop
-time-at-requires c κs = (c .before .before .before .before .before .pre .0, omega arith)
+time-at-requires c κs = formed-readable (c .before .before .before .before .before .pre .0) _ (omega arith)
 
 slot-requires : tie.Need-slot-requires Inv-loop μ-loop
 slot-requires c κs = search needs

@@ -2,7 +2,7 @@
 use mathlib.Core.Path.{refl, sym, _∙_}
 use native.Mathlib.Omega.{arith}
 use Rattle.laws.proofs.Truth.{clash, not-false}
-use Rattle.tree.proofs.FormedLaws.{formed-bounds}
+use Rattle.tree.proofs.FormedLaws.{formed-bounds, formed-readable}
 use Rattle.tree.proofs.ClearLaws.{agree}
 use borrow.Author.Needs.{needs}
 use Rattle.tree.proofs.within.is_at.Statement.{statement}
@@ -12,19 +12,19 @@ returns : tie.Need-returns
 returns c = λ e. clash e refl
 
 time-at-requires : tie.Need-time-at-requires
-time-at-requires c κs = search needs
+time-at-requires c κs = search (needs, formed-readable)
 
 time-at-requires-2 : tie.Need-time-at-requires-2
-time-at-requires-2 c κs = search needs
+time-at-requires-2 c κs = search (needs, formed-readable)
 
 returns-2 : tie.Need-returns-2
 returns-2 c = λ e. clash e refl
 
 place-at-requires : tie.Need-place-at-requires
-place-at-requires c κs = search needs
+place-at-requires c κs = search (needs, formed-readable)
 
 place-at-requires-2 : tie.Need-place-at-requires-2
-place-at-requires-2 c κs = search needs
+place-at-requires-2 c κs = search (needs, formed-readable)
 
 same-requires : tie.Need-same-requires
 same-requires c κs = search needs

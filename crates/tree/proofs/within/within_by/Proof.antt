@@ -11,6 +11,7 @@ use Rattle.tree.specs.Tree.{within}
 use Rattle.tree.specs.declared.stored.KeyOrder.the-variants.{Spt, Tsp}
 use Rattle.tree.proofs.WithinLaws.{within-turn, within-stop, within-end}
 use borrow.Author.Needs.{needs}
+use Rattle.tree.proofs.FormedLaws.{formed-readable}
 use Rattle.tree.proofs.within.within_by.Statement.{statement}
 use Rattle.tree.proofs.within.within_by.Tie as tie
 
@@ -24,7 +25,7 @@ loop-holds : tie.Need-loop-holds Inv-loop μ-loop
 loop-holds c = (omega arith, refl, refl)
 
 time-at-requires : tie.Need-time-at-requires Inv-loop μ-loop
-time-at-requires c κs = (c .before .before .before .before .before .before .before .pre .0, omega arith)
+time-at-requires c κs = formed-readable (c .before .before .before .before .before .before .before .pre .0) _ (omega arith)
 
 slot-requires : tie.Need-slot-requires Inv-loop μ-loop
 slot-requires c κs = search needs

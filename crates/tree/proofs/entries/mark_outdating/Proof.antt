@@ -1,0 +1,33 @@
+-- `mark_outdating` meets its contract: the address is written once. Assumes nothing.
+use Prim.Native.Nat.{ℕ, _-_}
+use mathlib.Core.Path.{refl, sym}
+use native.Mathlib.Omega.{arith}
+use lib.ListN.{length-replicate}
+use lib.Seq.{length-take-le}
+use borrow.Author.Needs.{needs}
+use Rattle.tree.proofs.entries.mark_outdating.Statement.{statement}
+use Rattle.tree.proofs.entries.mark_outdating.Tie as tie
+
+slice-aggregate-write-place : tie.Need-slice-aggregate-write-place
+slice-aggregate-write-place c = search needs
+
+write-place-requires : tie.Need-write-place-requires
+write-place-requires c κs = search needs
+
+array-share-prefix-key : tie.Need-array-share-prefix-key
+array-share-prefix-key c = omega (arith, c .before .write-place .ensures .1)
+
+slice-aggregate-outdating-from : tie.Need-slice-aggregate-outdating-from
+slice-aggregate-outdating-from c = sym (length-take-le (c .before .before .write-place .result) (c .before .before .write-place .last .1 .1 .0) (omega (arith, c .before .before .write-place .ensures .1, c .before .before .write-place .kept .1 .1 .0, length-replicate {A = ℕ} 298 0)))
+
+outdating-from-requires : tie.Need-outdating-from-requires
+outdating-from-requires c κs = (c .before .before .before .before .before .before .before .before .before .before .pre .0, c .before .before .before .before .before .before .before .before .before .before .pre .1, c .before .before .before .write-place .ensures .2)
+
+same-length : tie.Need-same-length
+same-length c = search needs
+
+returns : tie.Need-returns
+returns c = search needs
+
+pub mark-outdating-spec : {M : Type 1} → statement M
+mark-outdating-spec = tie.close (tie.spec slice-aggregate-write-place write-place-requires array-share-prefix-key slice-aggregate-outdating-from outdating-from-requires same-length returns)

@@ -1,0 +1,179 @@
+// What is asked of record k about an entry, or a subspace and path, told by its bytes: does it make the entry obsolete, does the entry
+// remove it, does it stand there. And the marks of a whole walk: 1 for each record that a test holds of, 0 for the others.
+use crate::place::END;
+use crate::place::begins;
+use crate::place::open_at;
+use crate::place::place_at;
+use crate::place::write_place;
+use crate::rank::compare_with;
+use crate::stored::KeyOrder;
+use data_model::answer::is_greater;
+use data_model::entry::Entry;
+use data_model::parameters::Subspace;
+use data_model::path::Path;
+use keys::encode::KEY_MOST;
+use layout::bytes::same;
+ghost use Prim.Native.Nat.{ℕ, _≤_, _<_, _^_};
+ghost use mathlib.Core.Path.{_≡_};
+ghost use mathlib.Core.Bool.{true};
+ghost use mathlib.Core.List.{List};
+ghost use lib.ListN.{length};
+ghost use Rattle.laws.specs.Lists.{put};
+ghost use Rattle.layout.specs.Layout.{records, recordAt};
+ghost use Rattle.layout.specs.Marks.{marksOf};
+ghost use Rattle.data_model.specs.Path.{field, Components, legal, components};
+ghost use Rattle.data_model.specs.Entry.{entryOf};
+ghost use Rattle.data_model.specs.declared.parameters.Subspace.{Subspace};
+ghost use Rattle.tree.specs.Stored.{contents, stored};
+ghost use Rattle.tree.specs.Tree.{Formed, Readable};
+ghost use Rattle.tree.specs.Place.{placeKey, openKey};
+ghost use Rattle.tree.specs.Matching.{outdates, removes, standsAt};
+
+// Whether record k makes the entry obsolete. `address`: the entry's.
+fn outdates_at(
+    order: KeyOrder,
+    dir: &[u32],
+    tree: &[u8],
+    k: usize,
+    e: Entry,
+    address: &[u8],
+) -> bool
+    requires { ⌜ (Readable order k (now dir) (now tree)) × (now address ≡ placeKey (e .«subspace_id») (components (e .path))) ⌝ }
+    ensures { λ r. ⌜ r ≡ outdates (entryOf e) (stored order field (e .«namespace_id») (recordAt k (now (dir .entry)) (now (tree .entry)))) ⌝ }
+{
+    if !begins(address, open_at(order, dir, tree, k)) {
+        return false;
+    }
+    is_greater(compare_with(order, dir, tree, k, e))
+}
+
+// Whether the entry removes record k. `front`: the entry's address without its end.
+fn removes_at(order: KeyOrder, dir: &[u32], tree: &[u8], k: usize, e: Entry, front: &[u8]) -> bool
+    requires { ⌜ (Readable order k (now dir) (now tree)) × (now front ≡ openKey (e .«subspace_id») (components (e .path))) ⌝ }
+    ensures { λ r. ⌜ r ≡ removes (entryOf e) (stored order field (e .«namespace_id») (recordAt k (now (dir .entry)) (now (tree .entry)))) ⌝ }
+{
+    if !begins(place_at(order, dir, tree, k), front) {
+        return false;
+    }
+    !is_greater(compare_with(order, dir, tree, k, e))
+}
+
+// Whether record k stands at the subspace and path that the bytes of `address` are of.
+fn stands_at(order: KeyOrder, dir: &[u32], tree: &[u8], k: usize, address: &[u8]) -> bool
+    requires { ⌜ Readable order k (now dir) (now tree) ⌝ }
+    ensures { λ r. ⌜ ((namespace : List ℕ) (s : Subspace) (p : Components) → s .high < 2 ^ 64 → s .low < 2 ^ 64 → now (address .entry) ≡ placeKey s p → r ≡ standsAt s p (stored order field namespace (recordAt k (now (dir .entry)) (now (tree .entry))))) ⌝ }
+{
+    same(place_at(order, dir, tree, k), address)
+}
+
+fn outdating_from(
+    order: KeyOrder,
+    count: usize,
+    dir: &[u32],
+    tree: &[u8],
+    e: Entry,
+    address: &[u8],
+    marks: &mut [u8],
+)
+    requires { ⌜ (Formed order count (now dir) (now tree)) × (count ≤ length (now marks)) × (now address ≡ placeKey (e .«subspace_id») (components (e .path))) ⌝ }
+    ensures { λ _. ⌜ now (marks .exit) ≡ put (marksOf (outdates (entryOf e)) (contents order field (e .«namespace_id») (records count (now (dir .entry)) (now (tree .entry))))) (now (marks .entry)) ⌝ }
+{
+    let mut k: usize = 0;
+    while k < count {
+        marks[k] = outdates_at(order, dir, tree, k, e, address) as u8;
+        k += 1;
+    }
+}
+
+// Marks what makes an entry obsolete, in a tree of its namespace.
+pub fn mark_outdating(
+    order: KeyOrder,
+    count: usize,
+    dir: &[u32],
+    tree: &[u8],
+    e: Entry,
+    marks: &mut [u8],
+)
+    requires { ⌜ (Formed order count (now dir) (now tree)) × (count ≤ length (now marks)) × (legal field (e .path) ≡ true) ⌝ }
+    ensures { λ _. ⌜ now (marks .exit) ≡ put (marksOf (outdates (entryOf e)) (contents order field (e .«namespace_id») (records count (now (dir .entry)) (now (tree .entry))))) (now (marks .entry)) ⌝ }
+{
+    let subspace = e.subspace_id;
+    let path = e.path;
+    let mut key = [0u8; KEY_MOST];
+    let n = write_place(subspace, path, &mut key);
+    outdating_from(order, count, dir, tree, e, &key[..n], marks);
+}
+
+fn removed_from(
+    order: KeyOrder,
+    count: usize,
+    dir: &[u32],
+    tree: &[u8],
+    e: Entry,
+    front: &[u8],
+    marks: &mut [u8],
+)
+    requires { ⌜ (Formed order count (now dir) (now tree)) × (count ≤ length (now marks)) × (now front ≡ openKey (e .«subspace_id») (components (e .path))) ⌝ }
+    ensures { λ _. ⌜ now (marks .exit) ≡ put (marksOf (removes (entryOf e)) (contents order field (e .«namespace_id») (records count (now (dir .entry)) (now (tree .entry))))) (now (marks .entry)) ⌝ }
+{
+    let mut k: usize = 0;
+    while k < count {
+        marks[k] = removes_at(order, dir, tree, k, e, front) as u8;
+        k += 1;
+    }
+}
+
+// Marks what an entry removes, in a tree of its namespace.
+pub fn mark_removed(
+    order: KeyOrder,
+    count: usize,
+    dir: &[u32],
+    tree: &[u8],
+    e: Entry,
+    marks: &mut [u8],
+)
+    requires { ⌜ (Formed order count (now dir) (now tree)) × (count ≤ length (now marks)) × (legal field (e .path) ≡ true) ⌝ }
+    ensures { λ _. ⌜ now (marks .exit) ≡ put (marksOf (removes (entryOf e)) (contents order field (e .«namespace_id») (records count (now (dir .entry)) (now (tree .entry))))) (now (marks .entry)) ⌝ }
+{
+    let subspace = e.subspace_id;
+    let path = e.path;
+    let mut key = [0u8; KEY_MOST];
+    let n = write_place(subspace, path, &mut key) - END;
+    removed_from(order, count, dir, tree, e, &key[..n], marks);
+}
+
+fn standing_from(
+    order: KeyOrder,
+    count: usize,
+    dir: &[u32],
+    tree: &[u8],
+    address: &[u8],
+    marks: &mut [u8],
+)
+    requires { ⌜ (Formed order count (now dir) (now tree)) × (count ≤ length (now marks)) ⌝ }
+    ensures { λ _. ⌜ ((namespace : List ℕ) (s : Subspace) (p : Components) → s .high < 2 ^ 64 → s .low < 2 ^ 64 → now (address .entry) ≡ placeKey s p → now (marks .exit) ≡ put (marksOf (standsAt s p) (contents order field namespace (records count (now (dir .entry)) (now (tree .entry))))) (now (marks .entry))) ⌝ }
+{
+    let mut k: usize = 0;
+    while k < count {
+        marks[k] = stands_at(order, dir, tree, k, address) as u8;
+        k += 1;
+    }
+}
+
+// Marks what stands at a subspace and path, whatever the tree's namespace.
+pub fn mark_at(
+    order: KeyOrder,
+    count: usize,
+    dir: &[u32],
+    tree: &[u8],
+    subspace: Subspace,
+    path: Path,
+    marks: &mut [u8],
+)
+    requires { ⌜ (Formed order count (now dir) (now tree)) × (count ≤ length (now marks)) × (legal field path ≡ true) ⌝ }
+    ensures { λ _. ⌜ ((namespace : List ℕ) → now (marks .exit) ≡ put (marksOf (standsAt subspace (components path)) (contents order field namespace (records count (now (dir .entry)) (now (tree .entry))))) (now (marks .entry))) ⌝ }
+{
+    let mut key = [0u8; KEY_MOST];
+    let n = write_place(subspace, path, &mut key);
+    standing_from(order, count, dir, tree, &key[..n], marks);
+}

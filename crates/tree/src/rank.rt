@@ -1,0 +1,77 @@
+// Which of two records is newer, or of a record and an entry: by timestamp, then digest as bytes, then payload length. A key holds the
+// timestamp, and a value the digest behind the length.
+use crate::place::time_at;
+use crate::stored::KeyOrder;
+use crate::stored::value_at;
+use crate::value::payload_digest;
+use crate::value::payload_length;
+use data_model::answer::Ordering;
+use data_model::answer::compare_numbers;
+use data_model::checked::compare_bytes;
+use data_model::entry::Entry;
+ghost use mathlib.Core.Path.{_≡_};
+ghost use Rattle.layout.specs.Layout.{recordAt};
+ghost use Rattle.data_model.specs.Entry.{rankOf, byRank};
+ghost use Rattle.data_model.specs.Refusal.{orderingSays};
+ghost use Rattle.tree.specs.Tree.{Readable};
+ghost use Rattle.tree.specs.Place.{rankAt};
+
+// How the rank of the first three stands to that of the others.
+fn compare_ranks(
+    time: u64,
+    digest: &[u8],
+    length: u64,
+    other_time: u64,
+    other_digest: &[u8],
+    other_length: u64,
+) -> Ordering
+    ensures { λ r. ⌜ orderingSays r ≡ byRank (record { timestamp = time; «payload_digest» = now (digest .entry); «payload_length» = length }) (record { timestamp = «other_time»; «payload_digest» = now («other_digest» .entry); «payload_length» = «other_length» }) ⌝ }
+{
+    let times = compare_numbers(time, other_time);
+    match times {
+        Ordering::Less => Ordering::Less,
+        Ordering::Equal => {
+            let digests = compare_bytes(digest, other_digest);
+            match digests {
+                Ordering::Less => Ordering::Less,
+                Ordering::Equal => compare_numbers(length, other_length),
+                Ordering::Greater => Ordering::Greater,
+            }
+        }
+        Ordering::Greater => Ordering::Greater,
+    }
+}
+
+// How the rank of record j stands to that of record k.
+pub fn compare_records(order: KeyOrder, dir: &[u32], tree: &[u8], j: usize, k: usize) -> Ordering
+    requires { ⌜ (Readable order j (now dir) (now tree)) × (Readable order k (now dir) (now tree)) ⌝ }
+    ensures { λ r. ⌜ orderingSays r ≡ byRank (rankAt order (recordAt j (now (dir .entry)) (now (tree .entry)))) (rankAt order (recordAt k (now (dir .entry)) (now (tree .entry)))) ⌝ }
+{
+    let a = value_at(tree, dir, j);
+    let b = value_at(tree, dir, k);
+    compare_ranks(
+        time_at(order, dir, tree, j),
+        payload_digest(a),
+        payload_length(a),
+        time_at(order, dir, tree, k),
+        payload_digest(b),
+        payload_length(b),
+    )
+}
+
+// How the rank of record k stands to that of an entry.
+pub fn compare_with(order: KeyOrder, dir: &[u32], tree: &[u8], k: usize, e: Entry) -> Ordering
+    requires { ⌜ Readable order k (now dir) (now tree) ⌝ }
+    ensures { λ r. ⌜ orderingSays r ≡ byRank (rankAt order (recordAt k (now (dir .entry)) (now (tree .entry)))) (rankOf e) ⌝ }
+{
+    let a = value_at(tree, dir, k);
+    let digest = e.payload_digest;
+    compare_ranks(
+        time_at(order, dir, tree, k),
+        payload_digest(a),
+        payload_length(a),
+        e.timestamp,
+        &digest,
+        e.payload_length,
+    )
+}
