@@ -5,7 +5,9 @@ use keys::decode::Decoded;
 use keys::decode::Next;
 use keys::decode::PathRead;
 ghost use mathlib.Core.Path.{_≡_};
-ghost use lib.ListN.{drop};
+ghost use Prim.Native.Nat.{min};
+ghost use lib.ListN.{length, drop};
+ghost use Rattle.laws.specs.Parts.{partBegins};
 ghost use Rattle.data_model.specs.Path.{field};
 ghost use Rattle.keys.specs.Decode.{readPath, componentSays, componentRead, pathRead, readSpt, readTsp, decoded};
 ghost use Rattle.key_reader.specs.Reader.{behind, steppedSays, stepped};
@@ -27,9 +29,9 @@ pub fn position<'a>(r: KeyReader<'a>) -> usize
     r.at
 }
 
-// A slice from a position on; past the end: nothing.
+// A slice from a position on; past the end: nothing, at its end.
 fn from_position(bytes: &[u8], at: usize) -> &[u8]
-    ensures { λ s. ⌜ now s ≡ drop at (now (bytes .entry)) ⌝ }
+    ensures { λ s. ⌜ (now s ≡ drop at (now (bytes .entry))) × partBegins (bytes .entry .ptr) (s .ptr) (min at (length (now (bytes .entry)))) ⌝ }
 {
     if bytes.len() < at {
         return &bytes[bytes.len()..];
@@ -37,9 +39,9 @@ fn from_position(bytes: &[u8], at: usize) -> &[u8]
     &bytes[at..]
 }
 
-// What is left to read.
+// What is left to read, as a part of the key: its bytes, and where they lie.
 pub fn rest<'a>(r: KeyReader<'a>) -> &'a [u8]
-    ensures { λ s. ⌜ now s ≡ drop (r .entry .at) (now (r .entry .bytes)) ⌝ }
+    ensures { λ s. ⌜ (now s ≡ drop (r .entry .at) (now (r .entry .bytes))) × partBegins (r .entry .bytes .ptr) (s .ptr) (min (r .entry .at) (length (now (r .entry .bytes)))) ⌝ }
 {
     from_position(r.bytes, r.at)
 }

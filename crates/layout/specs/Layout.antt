@@ -1,5 +1,4 @@
 -- Records in two buffers: the bytes of one after the other and zeros behind, a pair of offset and length for each and zeros behind.
-use mathlib.Core.Path.{_≡_}
 use mathlib.Core.List.{List, [], _∷_, _++_}
 use mathlib.Core.Bool.{Bool, true, false, _&&_}
 use Prim.Native.Nat.{ℕ, zero, suc, _+_, _-_, _*_}
@@ -20,10 +19,6 @@ recordAt k dir tree = take (getD dir (2 * k + 1) 0) (drop (getD dir (2 * k) 0) t
 
 abbrev pub offsetAt : ℕ → List ℕ → ℕ
 offsetAt k dir = getD dir (2 * k) 0
-
--- A part of a lent slice begins at an offset: it lies in the slice's own memory, so many bytes behind the slice's first. (An address is a block of memory and a place in it.)
-abbrev pub partBegins : (whole part : ℕ × ℕ) → (offset : ℕ) → Type 0
-partBegins whole part offset = (part .0 ≡ whole .0) × (part .1 ≡ whole .1 + offset)
 
 -- The records one after the other, and a pair for each: the first at offset `at`, each other where the one before ends.
 abbrev pub joined : List (List ℕ) → List ℕ

@@ -68,8 +68,7 @@ pub struct PlainNumbersIngested {
     pub numbers: [u32; NUMBERS_MOST],
 }
 
-// Refusal 0, whether a component was taken (else the path's end), its length and bytes, where the reader then stands and how many bytes are left.
-// Or the refusal: nothing was taken and the reader stands where it stood.
+// Refusal 0, whether a component was taken (else the path's end), its length and bytes, the reader's position then and how many bytes are left; or the refusal, and the position as it was.
 #[repr(C)]
 pub struct PlainStepped {
     pub refusal: u8,

@@ -10,8 +10,9 @@ use lib.Seq.{getD-take, length-take-le}
 use lib.Dec.{eqb}
 use borrow.Author.Tests.{eqb-true}
 use Rattle.laws.specs.Lists.{put}
+use Rattle.laws.specs.Parts.{partBegins}
 use Rattle.laws.proofs.Truth.{split}
-use Rattle.layout.specs.Layout.{recordAt, offsetAt, partBegins}
+use Rattle.layout.specs.Layout.{recordAt, offsetAt}
 use Rattle.layout.specs.Marks.{marksOf, firstMark}
 use Rattle.layout.proofs.MarkLaws.{first-none}
 use Rattle.data_model.specs.Said.{Said, refuses, says}

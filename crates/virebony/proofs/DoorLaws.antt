@@ -4,7 +4,6 @@ use mathlib.Core.Path.{_≡_, ap, _∙_}
 use mathlib.Core.Bool.{Bool, _&&_}
 use mathlib.Core.List.{List}
 use mathlib.Core.Option.{Option}
-use lib.ListN.{take, drop}
 use Rattle.data_model.specs.Said.{Said}
 use Rattle.data_model.specs.Path.{field, legal, components}
 use Rattle.data_model.specs.Area.{areaIncludes}

@@ -2,7 +2,7 @@
 -- What bytes owns is had twice: once for the exit, and once inside the reader. What the reader owns that came back is had twice too: once for each of the last two calls.
 -- Assumes nothing.
 use mathlib.Core.Path.{_≡_, refl, ap, _∙_, subst}
-use Prim.Native.Nat.{ℕ, _<_, _^_}
+use Prim.Native.Nat.{ℕ, _<_, _^_, min}
 use mathlib.Core.List.{List, [], _∷_}
 use lib.Dec.{T as Holds}
 use lib.ListN.{length, drop as past}
@@ -43,6 +43,7 @@ use denote.Triple.Table.{entered, cited}
 use denote.Triple.Walked.{says, Stays, stay-none, stay-none-slice, walkOf, goes-none, goes-none-slice, Walks, ends-at, walked, walk-meets}
 use denote.Exit.{yes}
 use denote.Triple.Clauses.{ensured, lasts}
+use Rattle.laws.specs.Parts.{partBegins}
 use Rattle.data_model.specs.Path.{field}
 use Rattle.keys.specs.Decode.{StepRead, componentSays, componentRead}
 use Rattle.keys.specs.declared.decode.ComponentRead.{ComponentRead}
@@ -179,8 +180,12 @@ module _ {M : Type 1} (𝓤 : URA M) (H : Heap 𝓤) (A : Atoms 𝓤) (W : Given
   asked-rest : (r : KeyReader) → ent 𝓤 (⋆ 𝓤 H A (‵ (B κ .own r (mach r ∷ [])) ∷ (‵ (flft κ q) ⊛ ‵ ftrue) ∷ [])) (Rest 𝓤 H A at-mem run .pre (to-rest r))
   asked-rest r = qed W (‵ (B κ .own r (mach r ∷ [])) ∷ (‵ (flft κ q) ⊛ ‵ ftrue) ∷ []) ∵ nothing ! $ move ! (1 ∷ 0 ∷ []) $ fjoin ! $ move ! (1 ∷ 0 ∷ []) $ join ! $ frame ! $ done !
 
-  rest-said : (r : KeyReader) (l : RefT (List ℕ)) → ent 𝓤 (ensured 𝓤 H A rest.ended (rest.clauses 𝓤 H A at-mem run) (κ, tt) (r, tt) tt l) (fact 𝓤 (now l ≡ past (r .at) (now (r .bytes))))
-  rest-said r l = exE 𝓤 _ (λ ws. snd∗ 𝓤 (sem 𝓤 H A (lasts rest.ended (κ, tt) (r, tt) ws)) (fact 𝓤 (now l ≡ past (r .at) (now (r .bytes)))))
+  -- what `rest` says
+  abbrev Left : KeyReader → RefT (List ℕ) → Type 0
+  Left r l = (now l ≡ past (r .at) (now (r .bytes))) × partBegins (r .bytes .ptr) (l .ptr) (min (r .at) (length (now (r .bytes))))
+
+  rest-said : (r : KeyReader) (l : RefT (List ℕ)) → ent 𝓤 (ensured 𝓤 H A rest.ended (rest.clauses 𝓤 H A at-mem run) (κ, tt) (r, tt) tt l) (fact 𝓤 (Left r l))
+  rest-said r l = exE 𝓤 _ (λ ws. snd∗ 𝓤 (sem 𝓤 H A (lasts rest.ended (κ, tt) (r, tt) ws)) (fact 𝓤 (Left r l)))
 
   -- what the machine values that the calls return show
   room : (l : RefT (List ℕ)) (z : Val) → Is (ShrSlice (named 0) κ u8) l (z ∷ []) → length (now l) < 2 ^ 64
@@ -254,8 +259,8 @@ module _ {M : Type 1} (𝓤 : URA M) (H : Heap 𝓤) (A : Atoms 𝓤) (W : Given
         move ! (2 ∷ 1 ∷ []) $ use2 W (raw (Rest 𝓤 H A at-mem run .pre (to-rest (ws .0)))) (asked-rest (ws .0)) $
         calls-at ! fm (Rest 𝓤 H A at-mem run) known-rest (to-rest (ws .0)) (and-then ! (load ! (from ! (stop !)) (look ! 10 refl)) (no-more !)) (λ z.
         use1 W (later (some (λ (r : RefT (List ℕ)). ((‵ (flft κ q) ⊛ ‵ ftrue) ⊛ ‵ (ShrSlice (named 0) κ u8 .own r (z ∷ []))) ⊛ raw (ensured 𝓤 H A rest.ended (rest.clauses 𝓤 H A at-mem run) (κ, tt) (ws .0, tt) tt r)))) (id⊢ 𝓤 _) $ await ! tt $ pick ! (λ r.
-        split ! $ move ! (1 ∷ []) $ use1 W (raw (fact 𝓤 (now r ≡ past (ws .0 .at) (now (ws .0 .bytes))))) (rest-said (ws .0) r) $
-        heard ! (now r ≡ past (ws .0 .at) (now (ws .0 .bytes))) (λ er.
+        split ! $ move ! (1 ∷ []) $ use1 W (raw (fact 𝓤 (Left (ws .0) r))) (rest-said (ws .0) r) $
+        heard ! (Left (ws .0) r) (λ er.
         split ! $ move ! (1 ∷ []) $ peeks ! (ShrSlice (named 0) κ u8) (Is (ShrSlice (named 0) κ u8)) (shows 𝓤 H A (ShrSlice (named 0) κ u8)) r (z ∷ []) (λ iz.
         land ! (from ! (stop !)) (init ! 9 refl (shr-slice-lawful 𝓤 H A W (named 0) κ u8 .typed r _ iz .0)) $ rewrite ! 9 (λ (y′ : Val). ‵ (fat fullShare sliceTy l₉ 0 y′)) (ap only (shr-slice-tells (named 0) κ u8 r _ iz)) refl $
         assigns ! (of-opd ! (load ! (from ! (fld ! refl (stop !))) (look-in ! 9 (sub ! 1 refl (whole !))))) (from ! (stop !)) (init ! 15 refl (tt, record { fits = room r z iz })) $
@@ -266,7 +271,7 @@ module _ {M : Type 1} (𝓤 : URA M) (H : Heap 𝓤) (A : Atoms 𝓤) (W : Given
         move ! (18 ∷ 19 ∷ []) $ free1 ! $ move ! (16 ∷ 17 ∷ []) $ free1 ! $ move ! (14 ∷ 15 ∷ []) $ free1 ! $ move ! (12 ∷ 13 ∷ []) $ free1 ! $ move ! (10 ∷ 11 ∷ []) $
         free1 ! $ move ! (8 ∷ 9 ∷ []) $ free1 ! $ free0 ! $
         keep ! (1 ∷ 7 ∷ []) $
-        by ! (exits c m (length (now r)) fits (is-made c u m (length (now r)) ic (iy .1) (room r z iz)) (took c (ws .0) m (now r) e em er))))))))))))))))))))))))))))
+        by ! (exits c m (length (now r)) fits (is-made c u m (length (now r)) ic (iy .1) (room r z iz)) (took c (ws .0) m (now r) e em (er .0)))))))))))))))))))))))))))))
 
 module _ {M : Type 1} (𝓤 : URA M) (H : Heap 𝓤) (A : Atoms 𝓤) (W : Given 𝓤 H A) (mem : Memory → SProp 𝓤) (run : Routine → Fun 𝓤) where
   own-walks : (C : Calls 𝓤 H) (Λ : Loops 𝓤 H) → FmC 𝓤 H (W .laws) C → Triple 𝓤 (C #next) (Next 𝓤 H A mem run) → Triple 𝓤 (C #position) (Position 𝓤 H A mem run) → Triple 𝓤 (C #rest) (Rest 𝓤 H A mem run)

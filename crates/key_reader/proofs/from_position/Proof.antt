@@ -1,5 +1,5 @@
 -- `from_position` meets its contract. Assumes nothing.
-use mathlib.Core.Path.{_≡_, sym, _∙_}
+use mathlib.Core.Path.{_≡_, refl, sym, _∙_}
 use mathlib.Core.List.{List, []}
 use Prim.Native.Nat.{ℕ, _<_, _-_}
 use native.Mathlib.Omega.{arith}
@@ -22,7 +22,7 @@ part-result-end : tie.Need-part-result-end
 part-result-end c = search needs
 
 returns : tie.Need-returns
-returns c = past ((c .before .before) .args .bytes .now) ((c .before .before) .args .at) (omega arith)
+returns c = (past ((c .before .before) .args .bytes .now) ((c .before .before) .args .at) (omega arith), (refl, omega arith))
 
 sub-result-2 : tie.Need-sub-result-2
 sub-result-2 c = search needs
@@ -34,7 +34,7 @@ part-result-end-2 : tie.Need-part-result-end-2
 part-result-end-2 c = search needs
 
 returns-2 : tie.Need-returns-2
-returns-2 c = rest ((c .before .before) .args .bytes .now) ((c .before .before) .args .at)
+returns-2 c = (rest ((c .before .before) .args .bytes .now) ((c .before .before) .args .at), (refl, omega arith))
 
 pub from-position-spec : {M : Type 1} → statement M
 from-position-spec =

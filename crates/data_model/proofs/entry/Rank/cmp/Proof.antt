@@ -1,5 +1,5 @@
 -- `cmp` meets its contract. Assumes nothing.
-use mathlib.Core.Path.{sym, ap, _∙_}
+use mathlib.Core.Path.{sym, _∙_}
 use Rattle.laws.proofs.Order.{then-less, then-same, then-greater}
 use Rattle.data_model.specs.Entry.{byRank}
 use Rattle.data_model.proofs.Answers.{ordered-less, ordered-same, ordered-greater, answers-less, answers-greater}
@@ -50,7 +50,7 @@ returns-2 c = answers-less _ (then-same _ _ (ordered-same _ _ (c .before .before
 
 returns-3 : tie.Need-returns-3
 unfolding byRank
-returns-3 c = c .compare-numbers2 .ensures ∙ sym ((then-same _ _ (ordered-same _ _ (c .before .before .before .before .before .before .before .before .before .before .compare-numbers .ensures) (c .before .before .before .before .before .before .before .before .enum-told2 .given .1)) ∙ then-same _ _ (ordered-same _ _ (c .before .before .before .compare-bytes .ensures) (c .before .enum-told4 .given .1))))
+returns-3 c = c .compare-numbers2 .ensures ∙ sym (then-same _ _ (ordered-same _ _ (c .before .before .before .before .before .before .before .before .before .before .compare-numbers .ensures) (c .before .before .before .before .before .before .before .before .enum-told2 .given .1)) ∙ then-same _ _ (ordered-same _ _ (c .before .before .before .compare-bytes .ensures) (c .before .enum-told4 .given .1)))
 
 returns-4 : tie.Need-returns-4
 unfolding byRank

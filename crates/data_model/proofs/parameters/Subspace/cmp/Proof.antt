@@ -1,5 +1,5 @@
 -- `cmp` meets its contract. Assumes nothing.
-use mathlib.Core.Path.{sym, ap, _∙_}
+use mathlib.Core.Path.{sym, _∙_}
 use Rattle.laws.proofs.Order.{then-less, then-same, then-greater}
 use Rattle.data_model.specs.Subspace.{bySubspace}
 use Rattle.data_model.proofs.Answers.{ordered-less, ordered-same, ordered-greater, answers-less, answers-greater}
@@ -28,7 +28,7 @@ returns c = answers-less _ (then-less _ _ (ordered-less _ _ (c .before .before .
 
 returns-2 : tie.Need-returns-2
 unfolding bySubspace
-returns-2 c = c .compare-numbers2 .ensures ∙ sym ((then-same _ _ (ordered-same _ _ (c .before .before .before .compare-numbers .ensures) (c .before .enum-told2 .given .1))))
+returns-2 c = c .compare-numbers2 .ensures ∙ sym (then-same _ _ (ordered-same _ _ (c .before .before .before .compare-numbers .ensures) (c .before .enum-told2 .given .1)))
 
 returns-3 : tie.Need-returns-3
 unfolding bySubspace
