@@ -7,3 +7,4 @@ pub mod Entry
 pub mod Range
 pub mod Range3d
 pub mod Area
+pub mod Ignore

@@ -10,3 +10,4 @@ pub mod parameters;
 pub mod path;
 pub mod range;
 pub mod range_3d;
+pub mod store;

@@ -16,6 +16,7 @@ use Rattle.laws.specs.Prefix.{prefixOf}
 use Rattle.laws.specs.Sorted.{all, keep}
 use Rattle.laws.proofs.Truth.{split}
 use Rattle.laws.proofs.Lists.{Wrote, wrote-first, wrote-lent, wrote-length, wrote-all}
+use Rattle.data_model.specs.Ignore.{noFlags}
 use Rattle.data_model.specs.Said.{Said, says}
 use Rattle.data_model.specs.Path.{field, legal, joined, isPath, pathOf}
 use Rattle.data_model.specs.Range.{timesInclude, includes, beforeEnd, timesEnd}
@@ -24,19 +25,19 @@ use Rattle.data_model.specs.declared.area.Area.{Area}
 use Rattle.key_laws.proofs.Fits.{legal-of, components-of}
 use Rattle.tree.specs.Stored.{Stored, storedFrom, stored, contents}
 use Rattle.tree.specs.Matching.{inArea, listedInArea}
-use Rattle.tree.specs.declared.matching.QueryIgnoreParams.{QueryIgnoreParams}
+use Rattle.data_model.specs.declared.store.QueryIgnoreParams.{QueryIgnoreParams}
 use Rattle.tree.specs.declared.stored.KeyOrder.the-variants.{Spt}
 use Rattle.tree.proofs.FormedContents.{formed-many}
 use Rattle.tree.proofs.RecordLaws.{contents-length}
 use Rattle.store.specs.Store.{Store, limitMost, treeOf, dirOf, held}
 use Rattle.store.specs.Refusal.{storeRefusal, unless, _orElse_}
-use Rattle.query.specs.Reading.{readRefusal, areaRefusal, noFlags}
+use Rattle.query.specs.Reading.{readRefusal, areaRefusal}
 use Rattle.query.specs.Listing.{areaListed, areaPart}
 use Rattle.query.specs.Count.{counted, areaCounted}
 use Rattle.query.specs.Walk.{Walks, matching}
 use Rattle.query.specs.declared.answer.Counted.{Counted}
 use Rattle.query.proofs.Tested.{read-tested, formed-spt}
-use Rattle.query.proofs.NextLaws.{unflagged-area}
+use Rattle.tree.proofs.TestLaws.{unflagged-area}
 use Rattle.query.proofs.Walked.{area-lists, area-counts}
 use Rattle.listing.specs.Input.{newline}
 use Rattle.listing.specs.Say.{numbered, entryText, recordText}

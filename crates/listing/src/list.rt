@@ -6,13 +6,12 @@ use data_model::area::AreaSubspace;
 use data_model::path::Path;
 use data_model::range::RangeEnd;
 use data_model::range::TimesRange;
+use data_model::store::QueryIgnoreParams;
 use query::answer::Listed;
-use query::check::no_flags;
 use query::count::count_area;
 use query::listing::query_area;
 use query::listing::query_area_place;
 use store::state::State;
-use tree::matching::QueryIgnoreParams;
 ghost use mathlib.Core.Path.{_≡_};
 ghost use mathlib.Core.Bool.{true};
 ghost use Prim.Native.Nat.{_≤_};
@@ -52,7 +51,7 @@ pub fn write_list(
     ensures { λ r. ⌜ (r ≡ length (listText (held field Spt (storeOf state (now (spt .entry)) (now («spt_dir» .entry)) (now (tsp .entry)) (now («tsp_dir» .entry)))))) × (r ≤ length (now (out .entry))) × (now (out .exit) ≡ put (listText (held field Spt (storeOf state (now (spt .entry)) (now («spt_dir» .entry)) (now (tsp .entry)) (now («tsp_dir» .entry))))) (now (out .entry))) ⌝ }
 {
     let area = everything();
-    let ignore = no_flags();
+    let ignore = QueryIgnoreParams::default();
     let counted = count_area(state, spt, spt_dir, tsp, tsp_dir, area);
     let mut left = counted.count;
     let mut at = write_numbered(b"list ", left as u64, out);

@@ -10,9 +10,9 @@ use data_model::range::SubspaceEnd;
 use data_model::range::SubspaceRange;
 use data_model::range::TimesRange;
 use data_model::range_3d::Range3d;
+use data_model::store::QueryIgnoreParams;
 use pairs::Pair;
 use store::state::LIMIT_MOST;
-use tree::matching::QueryIgnoreParams;
 ghost use mathlib.Core.Path.{_≡_};
 ghost use Rattle.plain.specs.Input.{isYes, areaSubspaceOf, timesOf, subspacesOf, pathsOf, areaOf, rangeOf, interestOf, ignoreOf};
 

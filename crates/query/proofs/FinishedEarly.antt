@@ -14,6 +14,7 @@ use Rattle.laws.specs.Prefix.{prefixOf}
 use Rattle.laws.specs.Sorted.{all, keep, insert}
 use Rattle.laws.proofs.Truth.{split, clash, and-true}
 use Rattle.layout.specs.Layout.{recordAt}
+use Rattle.data_model.specs.Ignore.{noFlags}
 use Rattle.data_model.specs.Said.{Said, refuses, says}
 use Rattle.data_model.specs.Path.{field, cut, components, legal, joined, endsFrom, isPath, valueOf, pathOf}
 use Rattle.data_model.specs.Subspace.{firstSubspace}
@@ -35,7 +36,7 @@ use Rattle.store.proofs.Meaning.{SoundHeld, sound-nothing, sound-filed}
 use Rattle.store.proofs.Lifted.{Fit, listOf, bears-held, bears-well, holding-bears, holding-roomy}
 use Rattle.store.proofs.CheckLaws.{Passed, refuses-none}
 use Rattle.store.proofs.IngestLaws.{stands-at}
-use Rattle.query.specs.Reading.{areaRefusal, noFlags}
+use Rattle.query.specs.Reading.{areaRefusal}
 use Rattle.query.specs.Listing.{next, listed}
 use Rattle.query.specs.EarlyFinish.{Wanted, of-area, of-range, refusalOf, isWanted, Matches, RightAnswer, EarlyFinish}
 use Rattle.query.proofs.Tested.{read-passes, read-tested, formed-spt}

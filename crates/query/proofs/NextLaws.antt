@@ -19,9 +19,8 @@ use Rattle.data_model.specs.declared.«range_3d».Range3d.{Range3d}
 use Rattle.tree.specs.Stored.{Stored}
 use Rattle.tree.specs.Matching.{inArea, inRange, letThrough, listedInArea, listedInRange}
 use Rattle.tree.specs.Interest.{interestFrom}
-use Rattle.tree.specs.declared.matching.QueryIgnoreParams.{QueryIgnoreParams}
+use Rattle.data_model.specs.declared.store.QueryIgnoreParams.{QueryIgnoreParams}
 use Rattle.store.proofs.DecideLaws.{marks-front, marks-number}
-use Rattle.query.specs.Reading.{noFlags}
 use Rattle.query.specs.Listing.{next, isMark}
 
 module _ {A : Type 0} (test : A → Bool) (place : ℕ) where
@@ -90,20 +89,6 @@ pub keep-same : {A : Type 0} (p q : A → Bool) → ((x : A) → p x ≡ q x) �
 unfolding keep
 keep-same p q e [] = refl
 keep-same {A} p q e (x ∷ l) = let h = keep-same p q e l in split (q x) (λ r. rw (e x, r) (ap (x ∷_) h)) (λ r. rw (e x, r) h)
-
--- No flags let everything through.
-and-all : (b : Bool) → (b && true) ≡ b
-and-all true = refl
-and-all false = refl
-
-module _ (g : QueryIgnoreParams) (e : g ≡ noFlags) where
-  pub unflagged-area : (area : Area) (x : Stored) → listedInArea area g x ≡ inArea area x
-  unfolding listedInArea letThrough
-  unflagged-area area x = ap (λ (h : QueryIgnoreParams). listedInArea area h x) e ∙ and-all (inArea area x)
-
-  pub unflagged-range : (range : Range3d) (x : Stored) → listedInRange range g x ≡ inRange range x
-  unfolding listedInRange letThrough
-  unflagged-range range x = ap (λ (h : QueryIgnoreParams). listedInRange range h x) e ∙ and-all (inRange range x)
 
 -- What the marks of a test in a buffer give: the next match, how many, and from which time on.
 module _ (p : Stored → Bool) (l : List Stored) (n : ℕ) (many : length l ≡ n) (marks old : List ℕ) (e : marks ≡ put (marksOf p l) old) where

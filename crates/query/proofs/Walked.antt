@@ -16,6 +16,7 @@ use Rattle.laws.proofs.Truth.{split, clash}
 use Rattle.laws.proofs.Sorted.{keep-ascends, any-make}
 use Rattle.layout.specs.Layout.{records, recordAt}
 use Rattle.layout.proofs.LaidLaws.{records-many, records-at}
+use Rattle.data_model.specs.Ignore.{noFlags}
 use Rattle.data_model.specs.Said.{Said, says, numberOf}
 use Rattle.data_model.specs.Path.{field, legal, components}
 use Rattle.data_model.specs.Range.{legalRange}
@@ -26,7 +27,7 @@ use Rattle.data_model.specs.declared.«range_3d».Range3d.{Range3d}
 use Rattle.tree.specs.Stored.{Stored, stored, contents, lengthy, keyBelow}
 use Rattle.tree.specs.Value.{valueLength}
 use Rattle.tree.specs.Matching.{standsAt, letThrough, inArea, inRange, listedInArea, listedInRange}
-use Rattle.tree.specs.declared.matching.QueryIgnoreParams.{QueryIgnoreParams}
+use Rattle.data_model.specs.declared.store.QueryIgnoreParams.{QueryIgnoreParams}
 use Rattle.tree.specs.declared.stored.KeyOrder.the-variants.{Spt}
 use Rattle.tree.proofs.FormedLaws.{record-long, formed-record}
 use Rattle.tree.proofs.RecordLaws.{contents-length}
@@ -35,7 +36,7 @@ use Rattle.store.specs.Ingest.{firstThat}
 use Rattle.store.proofs.CheckLaws.{Passed}
 use Rattle.store.proofs.IngestLaws.{first-absent}
 use Rattle.store.proofs.ForgetLaws.{only-one}
-use Rattle.query.specs.Reading.{readRefusal, areaRefusal, rangeRefusal, noFlags}
+use Rattle.query.specs.Reading.{readRefusal, areaRefusal, rangeRefusal}
 use Rattle.query.specs.Listing.{next, listed, areaListed, rangeListed, part, partOf, areaPart, rangePart}
 use Rattle.query.specs.Count.{counted, areaCounted, summarised}
 use Rattle.query.specs.Lookup.{notFound, foundOf, entryFound}
@@ -43,7 +44,8 @@ use Rattle.query.specs.Walk.{Walks, matching, Lists, Finds}
 use Rattle.query.specs.declared.answer.EntryFound.{EntryFound}
 use Rattle.query.proofs.Tested.{read-tested, formed-spt}
 use Rattle.query.proofs.FoundLaws.{match-below}
-use Rattle.query.proofs.NextLaws.{next-drop, keep-same, unflagged-area, unflagged-range}
+use Rattle.tree.proofs.TestLaws.{unflagged-area, unflagged-range}
+use Rattle.query.proofs.NextLaws.{next-drop, keep-same}
 
 -- The number of what a listing answers is the refusal, 0 for none.
 pub listed-number : (s : Store) (refusal : ℕ) (test : Stored → Bool) (place : ℕ) → numberOf (listed field s refusal test place) ≡ refusal

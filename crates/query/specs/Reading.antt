@@ -1,12 +1,11 @@
 -- What every call that only reads begins with: 1, 2, 3, and 4 for the paths that it looks at.
 use Prim.Native.Nat.{ℕ}
-use mathlib.Core.Bool.{Bool, true, false}
+use mathlib.Core.Bool.{Bool, true}
 use Rattle.data_model.specs.Path.{Figures, legal}
 use Rattle.data_model.specs.Range.{legalRange}
 use Rattle.data_model.specs.Refusal.{illegalPath}
 use Rattle.data_model.specs.declared.area.Area.{Area}
 use Rattle.data_model.specs.declared.«range_3d».Range3d.{Range3d}
-use Rattle.tree.specs.declared.matching.QueryIgnoreParams.{QueryIgnoreParams}
 use Rattle.store.specs.Store.{Store}
 use Rattle.store.specs.Refusal.{unless, _orElse_, storeRefusal}
 
@@ -20,7 +19,3 @@ areaRefusal f s area = readRefusal f s (legal f (area .path))
 
 abbrev pub rangeRefusal : Figures → Store → Range3d → ℕ
 rangeRefusal f s range = readRefusal f s (legalRange f (range .paths))
-
--- Nothing is ignored.
-abbrev pub noFlags : QueryIgnoreParams
-noFlags = record { «ignore_incomplete_payloads» = false; «ignore_empty_payloads» = false }

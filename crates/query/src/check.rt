@@ -1,12 +1,11 @@
-// What the calls that only read begin with: their tests; and the flags of those that ignore nothing.
+// What the calls that only read begin with: their tests.
 use data_model::answer::ILLEGAL_PATH;
 use store::check::check_store;
 use store::state::State;
-use tree::matching::QueryIgnoreParams;
 ghost use mathlib.Core.Path.{_≡_};
 ghost use Rattle.data_model.specs.Path.{field};
 ghost use Rattle.store.specs.Store.{storeOf};
-ghost use Rattle.query.specs.Reading.{readRefusal, noFlags};
+ghost use Rattle.query.specs.Reading.{readRefusal};
 
 // 1, 2, 3 or 4; else 0. `paths`: the paths that are looked at are legal.
 pub fn read_refusal(
@@ -27,13 +26,4 @@ pub fn read_refusal(
         return ILLEGAL_PATH;
     }
     0
-}
-
-pub fn no_flags() -> QueryIgnoreParams
-    ensures { λ r. ⌜ r ≡ noFlags ⌝ }
-{
-    QueryIgnoreParams {
-        ignore_incomplete_payloads: false,
-        ignore_empty_payloads: false,
-    }
 }

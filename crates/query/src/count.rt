@@ -1,9 +1,9 @@
 // Counts: of an area, and of a 3d range.
 use crate::answer::Counted;
-use crate::check::no_flags;
 use crate::check::read_refusal;
 use data_model::area::Area;
 use data_model::range_3d::Range3d;
+use data_model::store::QueryIgnoreParams;
 use store::state::LIMIT_MOST;
 use store::state::RECORD_MOST;
 use store::state::State;
@@ -33,7 +33,7 @@ fn count_in_area(count: usize, spt: &[u8], spt_dir: &[u32], area: Area) -> usize
     requires { ⌜ (Formed Spt count (now «spt_dir») (now spt)) × (count ≤ limitMost) × (legal field (area .path) ≡ true) ⌝ }
     ensures { λ r. ⌜ ((ns : List ℕ) → r ≡ length (keep (inArea area) (inTree Spt ns count (now («spt_dir» .entry)) (now (spt .entry))))) ⌝ }
 {
-    let ignore = no_flags();
+    let ignore = QueryIgnoreParams::default();
     let mut marks = [0u8; LIMIT_MOST];
     mark_area(KeyOrder::Spt, count, spt_dir, spt, area, ignore, &mut marks);
     count_marked(&marks[..count])
@@ -43,7 +43,7 @@ fn count_in_range(count: usize, spt: &[u8], spt_dir: &[u32], range: Range3d) -> 
     requires { ⌜ (Formed Spt count (now «spt_dir») (now spt)) × (count ≤ limitMost) × (legalRange field (range .paths) ≡ true) ⌝ }
     ensures { λ r. ⌜ ((ns : List ℕ) → r ≡ length (keep (inRange range) (inTree Spt ns count (now («spt_dir» .entry)) (now (spt .entry))))) ⌝ }
 {
-    let ignore = no_flags();
+    let ignore = QueryIgnoreParams::default();
     let mut marks = [0u8; LIMIT_MOST];
     mark_range(
         KeyOrder::Spt,

@@ -1,6 +1,5 @@
 // The 3d range of an area of interest.
 use crate::answer::InterestRange;
-use crate::check::no_flags;
 use crate::check::read_refusal;
 use data_model::area::Area;
 use data_model::area_of_interest::AreaOfInterest;
@@ -14,6 +13,7 @@ use data_model::range::SubspaceEnd;
 use data_model::range::SubspaceRange;
 use data_model::range::TimesRange;
 use data_model::range_3d::Range3d;
+use data_model::store::QueryIgnoreParams;
 use store::state::LIMIT_MOST;
 use store::state::RECORD_MOST;
 use store::state::State;
@@ -41,7 +41,7 @@ fn interest_time(count: usize, tsp: &[u8], tsp_dir: &[u32], aoi: AreaOfInterest)
 {
     let area = aoi.area;
     let times = area.times;
-    let ignore = no_flags();
+    let ignore = QueryIgnoreParams::default();
     let mut marks = [0u8; LIMIT_MOST];
     mark_area(KeyOrder::Tsp, count, tsp_dir, tsp, area, ignore, &mut marks);
     interest_start(

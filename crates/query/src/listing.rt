@@ -3,20 +3,21 @@ use crate::answer::Listed;
 use crate::check::read_refusal;
 use data_model::area::Area;
 use data_model::range_3d::Range3d;
+use data_model::store::QueryIgnoreParams;
 use store::state::LIMIT_MOST;
 use store::state::RECORD_MOST;
 use store::state::State;
 use tree::by_value::is_legal;
 use tree::by_value::is_legal_range;
 use tree::marks::first_marked;
-use tree::matching::QueryIgnoreParams;
 use tree::matching::mark_area;
 use tree::matching::mark_range;
 use tree::stored::KeyOrder;
 use tree::stored::record_at;
 ghost use mathlib.Core.Path.{_≡_};
 ghost use mathlib.Core.Bool.{true};
-ghost use Prim.Native.Nat.{_≤_};
+ghost use mathlib.Core.List.{List};
+ghost use Prim.Native.Nat.{ℕ, _≤_};
 ghost use Rattle.laws.specs.Parts.{partBegins};
 ghost use Rattle.data_model.specs.Said.{says};
 ghost use Rattle.data_model.specs.Path.{field, legal};
@@ -45,7 +46,6 @@ fn next_marked(marks: &[u8], place: usize) -> Listed
 
 // Over the subspace-first tree in its room.
 fn next_in_area(
-    namespace: [u8; 16],
     count: usize,
     spt: &[u8],
     spt_dir: &[u32],
@@ -54,7 +54,7 @@ fn next_in_area(
     place: usize,
 ) -> Listed
     requires { ⌜ (Formed Spt count (now «spt_dir») (now spt)) × (count ≤ limitMost) × (legal field (area .path) ≡ true) ⌝ }
-    ensures { λ r. ⌜ listedSays r ≡ says (next (listedInArea area ignore) place 0 (inTree Spt namespace count (now («spt_dir» .entry)) (now (spt .entry)))) ⌝ }
+    ensures { λ r. ⌜ ((ns : List ℕ) → listedSays r ≡ says (next (listedInArea area ignore) place 0 (inTree Spt ns count (now («spt_dir» .entry)) (now (spt .entry))))) ⌝ }
 {
     let mut marks = [0u8; LIMIT_MOST];
     mark_area(KeyOrder::Spt, count, spt_dir, spt, area, ignore, &mut marks);
@@ -62,7 +62,6 @@ fn next_in_area(
 }
 
 fn next_in_range(
-    namespace: [u8; 16],
     count: usize,
     spt: &[u8],
     spt_dir: &[u32],
@@ -71,7 +70,7 @@ fn next_in_range(
     place: usize,
 ) -> Listed
     requires { ⌜ (Formed Spt count (now «spt_dir») (now spt)) × (count ≤ limitMost) × (legalRange field (range .paths) ≡ true) ⌝ }
-    ensures { λ r. ⌜ listedSays r ≡ says (next (listedInRange range ignore) place 0 (inTree Spt namespace count (now («spt_dir» .entry)) (now (spt .entry)))) ⌝ }
+    ensures { λ r. ⌜ ((ns : List ℕ) → listedSays r ≡ says (next (listedInRange range ignore) place 0 (inTree Spt ns count (now («spt_dir» .entry)) (now (spt .entry))))) ⌝ }
 {
     let mut marks = [0u8; LIMIT_MOST];
     mark_range(
@@ -104,18 +103,9 @@ pub fn query_area_place(
     if refusal != 0 {
         return Listed::Refused(refusal);
     }
-    let namespace = state.namespace_id;
     let t = RECORD_MOST * state.limit;
     let d = 2 * state.limit;
-    next_in_area(
-        namespace,
-        state.count,
-        &spt[..t],
-        &spt_dir[..d],
-        area,
-        ignore,
-        place,
-    )
+    next_in_area(state.count, &spt[..t], &spt_dir[..d], area, ignore, place)
 }
 
 // The place of a 3d range's next match.
@@ -136,18 +126,9 @@ pub fn query_range_place(
     if refusal != 0 {
         return Listed::Refused(refusal);
     }
-    let namespace = state.namespace_id;
     let t = RECORD_MOST * state.limit;
     let d = 2 * state.limit;
-    next_in_range(
-        namespace,
-        state.count,
-        &spt[..t],
-        &spt_dir[..d],
-        range,
-        ignore,
-        place,
-    )
+    next_in_range(state.count, &spt[..t], &spt_dir[..d], range, ignore, place)
 }
 
 // The record of a match, as a part of the tree: its bytes, and where they lie. Where there is none, nothing at the tree's first byte.

@@ -26,9 +26,10 @@ use Rattle.key_laws.specs.KeyOrder.{Sized}
 use Rattle.tree.specs.Value.{valueLength, valueBytes}
 use Rattle.tree.specs.Stored.{keyIn, orderIn, keyOf, keyBelow, Stored, stored, contents, tripleOf, valueFor, recordOf, Lawful, storedOf}
 use Rattle.tree.specs.Tree.{Ordered, Whole, keysBelow, hasKey}
+use Rattle.data_model.specs.Ignore.{noFlags}
 use Rattle.data_model.specs.declared.area.Area.{Area}
-use Rattle.tree.specs.Matching.{outdates, removes, inArea, isForgotten, noFlags, listedInArea}
-use Rattle.tree.specs.declared.matching.QueryIgnoreParams.{QueryIgnoreParams}
+use Rattle.tree.specs.Matching.{outdates, removes, inArea, isForgotten, listedInArea}
+use Rattle.data_model.specs.declared.store.QueryIgnoreParams.{QueryIgnoreParams}
 use Rattle.tree.proofs.TestLaws.{unflagged-area}
 use Rattle.tree.specs.declared.stored.KeyOrder.{KeyOrder}
 use Rattle.tree.specs.declared.stored.KeyOrder.the-variants.{Spt, Tsp}

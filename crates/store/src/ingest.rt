@@ -26,7 +26,8 @@ use tree::stored::LengthyAuthorisedEntry;
 use tree::stored::stored_at;
 ghost use mathlib.Core.Path.{_≡_};
 ghost use mathlib.Core.Bool.{true, _&&_};
-ghost use Prim.Native.Nat.{_-_, _+_, _*_, _≤_, _<_};
+ghost use mathlib.Core.List.{List};
+ghost use Prim.Native.Nat.{ℕ, _-_, _+_, _*_, _≤_, _<_};
 ghost use lib.ListN.{length};
 ghost use lib.Dec.{ltb};
 ghost use Rattle.laws.specs.Lists.{put};
@@ -194,7 +195,7 @@ fn taken_answer(state: State, n: usize) -> Ingested
     plain_answer(IngestVerdict::Success(n), after)
 }
 
-// The whole answer, over shared slices.
+// The whole answer, over shared slices, whatever the token.
 fn ingest_answer(
     state: State,
     spt: &[u8],
@@ -203,10 +204,9 @@ fn ingest_answer(
     tsp_dir: &[u32],
     prune: &[u32],
     entry: Entry,
-    token: [u8; 64],
     prevent_pruning: bool,
 ) -> Ingested
-    ensures { λ r. ⌜ ingestedSays r ≡ ingested field (storeOf state (now (spt .entry)) (now («spt_dir» .entry)) (now (tsp .entry)) (now («tsp_dir» .entry))) (now (prune .entry)) entry token «prevent_pruning» .answer ⌝ }
+    ensures { λ r. ⌜ ((token : List ℕ) → ingestedSays r ≡ ingested field (storeOf state (now (spt .entry)) (now («spt_dir» .entry)) (now (tsp .entry)) (now («tsp_dir» .entry))) (now (prune .entry)) entry token «prevent_pruning» .answer) ⌝ }
 {
     let refusal = ingest_refusal(state, spt, spt_dir, tsp, tsp_dir, prune, entry);
     if refusal != 0 {
@@ -291,7 +291,6 @@ pub fn ingest_entry_numbers(
         tsp_dir,
         prune,
         entry,
-        token,
         prevent_pruning,
     );
     let verdict = given.verdict;

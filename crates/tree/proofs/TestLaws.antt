@@ -8,9 +8,10 @@ use Rattle.laws.specs.Prefix.{sameNumber}
 use Rattle.laws.proofs.Truth.{clash}
 use Rattle.data_model.specs.declared.area.Area.{Area}
 use Rattle.data_model.specs.declared.«range_3d».Range3d.{Range3d}
+use Rattle.data_model.specs.Ignore.{noFlags}
 use Rattle.tree.specs.Stored.{Stored}
-use Rattle.tree.specs.Matching.{inArea, inRange, letThrough, noFlags, listedInArea, listedInRange}
-use Rattle.tree.specs.declared.matching.QueryIgnoreParams.{QueryIgnoreParams}
+use Rattle.tree.specs.Matching.{inArea, inRange, letThrough, listedInArea, listedInRange}
+use Rattle.data_model.specs.declared.store.QueryIgnoreParams.{QueryIgnoreParams}
 
 -- Let through: with no flag set, payloads that are not all there, empty ones. The two lengths may be read in any way.
 module _ (g : QueryIgnoreParams) (x : Stored) where

@@ -12,7 +12,7 @@ use Rattle.data_model.specs.declared.parameters.Subspace.{Subspace}
 use Rattle.data_model.specs.declared.area.Area.{Area}
 use Rattle.data_model.specs.declared.«range_3d».Range3d.{Range3d}
 use Rattle.tree.specs.Stored.{Stored}
-use Rattle.tree.specs.declared.matching.QueryIgnoreParams.{QueryIgnoreParams}
+use Rattle.data_model.specs.declared.store.QueryIgnoreParams.{QueryIgnoreParams}
 
 -- It makes an entry obsolete: of its subspace, at a prefix of its path or the path itself, and newer.
 unfoldable pub outdates : Entry → Stored → Bool
@@ -40,10 +40,6 @@ unfoldable pub letThrough : QueryIgnoreParams → Stored → Bool
 letThrough g x =
     not (g .«ignore_incomplete_payloads» && ltb (x .available) (x .entry .rank .«payload_length»)) &&
     not (g .«ignore_empty_payloads» && sameNumber (x .entry .rank .«payload_length») 0)
-
--- Nothing is ignored.
-abbrev pub noFlags : QueryIgnoreParams
-noFlags = record { «ignore_incomplete_payloads» = false; «ignore_empty_payloads» = false }
 
 unfoldable pub listedInArea : Area → QueryIgnoreParams → Stored → Bool
 listedInArea a g x = inArea a x && letThrough g x

@@ -13,6 +13,7 @@ use data_model::path::Path;
 use data_model::range::SubspaceEnd;
 use data_model::range::SubspaceRange;
 use data_model::range_3d::Range3d;
+use data_model::store::QueryIgnoreParams;
 use keys::encode::KEY_MOST;
 ghost use mathlib.Core.Path.{_≡_};
 ghost use mathlib.Core.Bool.{true, cond};
@@ -26,24 +27,9 @@ ghost use Rattle.data_model.specs.Path.{field, legal};
 ghost use Rattle.data_model.specs.Range.{legalRange};
 ghost use Rattle.tree.specs.Stored.{contents, storedOf};
 ghost use Rattle.tree.specs.Tree.{Formed};
-ghost use Rattle.tree.specs.Matching.{letThrough, noFlags, listedInArea, listedInRange};
+ghost use Rattle.tree.specs.Matching.{letThrough, listedInArea, listedInRange};
 
-// Which entries to ignore in a query: those whose payload is not all there, those of an empty payload.
-pub struct QueryIgnoreParams {
-    pub ignore_incomplete_payloads: bool,
-    pub ignore_empty_payloads: bool,
-}
-
-// Nothing is ignored.
-pub fn no_flags() -> QueryIgnoreParams
-    ensures { λ r. ⌜ r ≡ noFlags ⌝ }
-{
-    QueryIgnoreParams {
-        ignore_incomplete_payloads: false,
-        ignore_empty_payloads: false,
-    }
-}
-
+// Whether the flags let an entry through.
 pub fn let_through(ignore: QueryIgnoreParams, a: LengthyAuthorisedEntry) -> bool
     ensures { λ r. ⌜ r ≡ letThrough ignore (storedOf a) ⌝ }
 {

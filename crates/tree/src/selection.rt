@@ -1,5 +1,4 @@
 // The one walk that marks what lies in an area or a 3d range, and its test of a record, told by the record's bytes.
-use crate::matching::QueryIgnoreParams;
 use crate::place::begins;
 use crate::place::path_at;
 use crate::place::subspace_at;
@@ -11,6 +10,7 @@ use crate::value::payload_length;
 use data_model::area::AreaSubspace;
 use data_model::range::SubspaceRange;
 use data_model::range::TimesRange;
+use data_model::store::QueryIgnoreParams;
 use layout::bytes::less;
 ghost use mathlib.Core.Path.{_≡_};
 ghost use mathlib.Core.List.{List};

@@ -47,8 +47,8 @@ unmatched (Refused n) k h e = let z : _≡_ {A = ℕ} 0 1 = cc in omega arith
 everything-requires : tie.Need-everything-requires Inv-loop μ-loop
 everything-requires c κs = search needs
 
-no-flags-requires : tie.Need-no-flags-requires Inv-loop μ-loop
-no-flags-requires c κs = search needs
+default-requires : tie.Need-default-requires Inv-loop μ-loop
+default-requires c κs = search needs
 
 count-area-requires : tie.Need-count-area-requires Inv-loop μ-loop
 count-area-requires c κs = search needs
@@ -63,7 +63,7 @@ loop-holds : tie.Need-loop-holds Inv-loop μ-loop
 loop-holds c =
     let p = (c .before .before .before .before .before .before .before .before .before .before .before .before .before) in
     let area = c .before .before .before .before .before .before .before .everything in
-    let ignore = c .before .before .before .before .before .before .no-flags in
+    let ignore = c .before .before .before .before .before .before .default in
     let w = c .before .before .before .before .before .count-area in
     let z = p .pre .0 in
     let f = c .before .before .write-numbered in
@@ -82,7 +82,7 @@ same-length : tie.Need-same-length Inv-loop μ-loop
 same-length c =
     let p = (c .before .before .before .before .before .before .before .before .before .before .before .before .before .before .before .before .before) in
     let area = c .before .before .before .before .before .before .before .before .before .before .before .everything in
-    let ignore = c .before .before .before .before .before .before .before .before .before .before .no-flags in
+    let ignore = c .before .before .before .before .before .before .before .before .before .before .default in
     let w = c .before .before .before .before .before .before .before .before .before .count-area in
     let f = c .before .before .before .before .before .before .write-numbered in
     let old = p .args .out .now in
@@ -93,7 +93,7 @@ returns : tie.Need-returns Inv-loop μ-loop
 returns c =
     let p = (c .before .before .before .before .before .before .before .before .before .before .before .before .before .before .before .before .before) in
     let area = c .before .before .before .before .before .before .before .before .before .before .before .everything in
-    let ignore = c .before .before .before .before .before .before .before .before .before .before .no-flags in
+    let ignore = c .before .before .before .before .before .before .before .before .before .before .default in
     let w = c .before .before .before .before .before .before .before .before .before .count-area in
     let f = c .before .before .before .before .before .before .write-numbered in
     let old = p .args .out .now in
@@ -121,7 +121,7 @@ unfolding listedSays
 write-line-requires c κs =
     let p = (c .before .before .before .before .before .before .before .before .before .before .before .before .before .before .before .before .before .before .before .before .before) in
     let area = c .before .before .before .before .before .before .before .before .before .before .before .before .before .before .before .everything in
-    let ignore = c .before .before .before .before .before .before .before .before .before .before .before .before .before .before .no-flags in
+    let ignore = c .before .before .before .before .before .before .before .before .before .before .before .before .before .before .default in
     let w = c .before .before .before .before .before .before .before .before .before .before .before .before .before .count-area in
     let l = c .before .before .before .before .before .before .before .loop in
     let t = c .before .before .before .before .before .before .loop-test .taken in
@@ -143,7 +143,7 @@ unfolding listedSays
 add-place c =
     let p = (c .before .before .before .before .before .before .before .before .before .before .before .before .before .before .before .before .before .before .before .before .before .before .before .before) in
     let area = c .before .before .before .before .before .before .before .before .before .before .before .before .before .before .before .before .before .before .everything in
-    let ignore = c .before .before .before .before .before .before .before .before .before .before .before .before .before .before .before .before .before .no-flags in
+    let ignore = c .before .before .before .before .before .before .before .before .before .before .before .before .before .before .before .before .before .default in
     let w = c .before .before .before .before .before .before .before .before .before .before .before .before .before .before .before .before .count-area in
     let l = c .before .before .before .before .before .before .before .before .before .before .loop in
     let t = c .before .before .before .before .before .before .before .before .before .loop-test .taken in
@@ -163,7 +163,7 @@ unfolding listedSays
 loop-again c =
     let p = (c .before .before .before .before .before .before .before .before .before .before .before .before .before .before .before .before .before .before .before .before .before .before .before .before) in
     let area = c .before .before .before .before .before .before .before .before .before .before .before .before .before .before .before .before .before .before .everything in
-    let ignore = c .before .before .before .before .before .before .before .before .before .before .before .before .before .before .before .before .before .no-flags in
+    let ignore = c .before .before .before .before .before .before .before .before .before .before .before .before .before .before .before .before .before .default in
     let w = c .before .before .before .before .before .before .before .before .before .before .before .before .before .before .before .before .count-area in
     let f = c .before .before .before .before .before .before .before .before .before .before .before .before .before .write-numbered in
     let old = p .args .out .now in
@@ -182,7 +182,7 @@ same-length-2 : tie.Need-same-length-2 Inv-loop μ-loop
 same-length-2 c =
     let p = (c .before .before .before .before .before .before .before .before .before .before .before .before .before .before .before) in
     let area = c .before .before .before .before .before .before .before .before .before .everything in
-    let ignore = c .before .before .before .before .before .before .before .before .no-flags in
+    let ignore = c .before .before .before .before .before .before .before .before .default in
     let w = c .before .before .before .before .before .before .before .count-area in
     let f = c .before .before .before .before .write-numbered in
     let old = p .args .out .now in
@@ -193,7 +193,7 @@ returns-2 : tie.Need-returns-2 Inv-loop μ-loop
 returns-2 c =
     let p = (c .before .before .before .before .before .before .before .before .before .before .before .before .before .before .before) in
     let area = c .before .before .before .before .before .before .before .before .before .everything in
-    let ignore = c .before .before .before .before .before .before .before .before .no-flags in
+    let ignore = c .before .before .before .before .before .before .before .before .default in
     let w = c .before .before .before .before .before .before .before .count-area in
     let z = p .pre .0 in
     let f = c .before .before .before .before .write-numbered in
@@ -210,7 +210,7 @@ write-list-spec =
     Inv-loop
     μ-loop
     everything-requires
-    no-flags-requires
+    default-requires
     count-area-requires
     slice-aggregate-write-numbered
     write-numbered-requires

@@ -31,7 +31,7 @@ next-marked-requires : tie.Need-next-marked-requires
 next-marked-requires c κs = search needs
 
 returns : tie.Need-returns
-returns c = let p = (c .before .before .before .before .before .before .before) in let m = c .before .before .before .mark-area in next-marked (listedInArea (p .args .area) (p .args .ignore)) _ (p .args .count) (formed-many (p .pre .0) (p .args .namespace)) _ _ (m .ensures (p .args .namespace)) (p .args .place) _ (c .next-marked .ensures)
+returns c = λ ns. let p = (c .before .before .before .before .before .before .before) in let m = c .before .before .before .mark-area in next-marked (listedInArea (p .args .area) (p .args .ignore)) _ (p .args .count) (formed-many (p .pre .0) ns) _ _ (m .ensures ns) (p .args .place) _ (c .next-marked .ensures)
 
 pub next-in-area-spec : {M : Type 1} → statement M
 next-in-area-spec =

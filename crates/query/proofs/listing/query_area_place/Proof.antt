@@ -35,22 +35,22 @@ unfolding listedSays
 returns c = let p = (c .before .before .before .before .before .before .before .before) in list-refused (lent (c .before .before .before .before .before .before .before .before)) (c .before .before .is-legal .result) _ (c .before .before .is-legal .ensures) (c .before .read-refusal .result) (c .before .read-refusal .ensures) (listedInArea (p .args .area) (p .args .ignore)) (p .args .place) (c .if1 .taken)
 
 mul-t : tie.Need-mul-t
-mul-t c = let m = known (c .before .before) .0 .most in omega arith
+mul-t c = let m = known (c .before) .0 .most in omega arith
 
 mul-d : tie.Need-mul-d
-mul-d c = let m = known (c .before .before .before) .0 .most in omega arith
+mul-d c = let m = known (c .before .before) .0 .most in omega arith
 
 slice-aggregate-next-in-area : tie.Need-slice-aggregate-next-in-area
-slice-aggregate-next-in-area c = sym (length-take-le _ _ (known (c .before .before .before .before) .0 .room .spt))
+slice-aggregate-next-in-area c = sym (length-take-le _ _ (known (c .before .before .before) .0 .room .spt))
 
 slice-aggregate-next-in-area-2 : tie.Need-slice-aggregate-next-in-area-2
-slice-aggregate-next-in-area-2 c = sym (length-take-le _ _ (known (c .before .before .before .before .before) .0 .room .sptDir))
+slice-aggregate-next-in-area-2 c = sym (length-take-le _ _ (known (c .before .before .before .before) .0 .room .sptDir))
 
 next-in-area-requires : tie.Need-next-in-area-requires
-next-in-area-requires c κs = let k = known (c .before .before .before .before .before) in let m = k .0 .most in let f = k .0 .few in (formed-spt (lent (c .before .before .before .before .before .before .before .before .before .before .before .before .before)) (k .0), omega arith, k .1)
+next-in-area-requires c κs = let k = known (c .before .before .before .before) in let m = k .0 .most in let f = k .0 .few in (formed-spt (lent (c .before .before .before .before .before .before .before .before .before .before .before .before)) (k .0), omega arith, k .1)
 
 returns-2 : tie.Need-returns-2
-returns-2 c = let p = (c .before .before .before .before .before .before .before .before .before .before .before .before .before .before) in list-next (lent (c .before .before .before .before .before .before .before .before .before .before .before .before .before .before)) (c .before .before .before .before .before .before .before .before .is-legal .result) _ (c .before .before .before .before .before .before .before .before .is-legal .ensures) (c .before .before .before .before .before .before .before .read-refusal .result) (c .before .before .before .before .before .before .before .read-refusal .ensures) (listedInArea (p .args .area) (p .args .ignore)) (p .args .place) (c .before .before .before .before .before .before .if1 .left) _ (c .next-in-area .ensures)
+returns-2 c = let p = (c .before .before .before .before .before .before .before .before .before .before .before .before .before) in list-next (lent (c .before .before .before .before .before .before .before .before .before .before .before .before .before)) (c .before .before .before .before .before .before .before .is-legal .result) _ (c .before .before .before .before .before .before .before .is-legal .ensures) (c .before .before .before .before .before .before .read-refusal .result) (c .before .before .before .before .before .before .read-refusal .ensures) (listedInArea (p .args .area) (p .args .ignore)) (p .args .place) (c .before .before .before .before .before .if1 .left) _ (c .next-in-area .ensures (c .before .before .before .before .before .before .before .before .before .before .before .before .before .args .state .«namespace_id»))
 
 pub query-area-place-spec : {M : Type 1} → statement M
 query-area-place-spec =

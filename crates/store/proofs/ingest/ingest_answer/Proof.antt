@@ -1,6 +1,7 @@
 -- `ingest_answer` meets its contract: each way's answer is the definition's. Assumes nothing.
 use Prim.Native.Nat.{_*_}
 use mathlib.Core.Path.{_≡_, sym, _∙_}
+use mathlib.Core.List.{[]}
 use native.Mathlib.Omega.{arith}
 use lib.Seq.{length-take-le}
 use Rattle.data_model.specs.Path.{field}
@@ -42,9 +43,9 @@ plain-answer-requires c κs = search needs
 
 returns : tie.Need-returns
 unfolding verdictSays
-returns c =
+returns c = λ token.
     let p = c .before .before .before .before .before .before .before .before in
-    answers-refused (lent p) (p .args .prune .now) (p .args .entry) (p .args .token) (p .args .«prevent-pruning») (c .before .before .ingest-refusal .result) (c .before .before .ingest-refusal .ensures) (c .before .if1 .taken) _ (c .plain-answer .ensures)
+    answers-refused (lent p) (p .args .prune .now) (p .args .entry) token (p .args .«prevent-pruning») (c .before .before .ingest-refusal .result) (c .before .before .ingest-refusal .ensures) (c .before .if1 .taken) _ (c .plain-answer .ensures)
 
 mul-n : tie.Need-mul-n
 mul-n c =
@@ -100,7 +101,7 @@ obsolete-answer-requires : tie.Need-obsolete-answer-requires
 obsolete-answer-requires c κs =
     let e = c .before .before .before .before .before .before .before .before in
     let p = start e in
-    old-bounds (lent p) (p .args .prune .now) (p .args .entry) (p .args .token) (p .args .«prevent-pruning») (zero e) (c .before .before .before .before .before .decide .result) (own (c .before .before .before .before .before))
+    old-bounds (lent p) (p .args .prune .now) (p .args .entry) [] (p .args .«prevent-pruning») (zero e) (c .before .before .before .before .before .decide .result) (own (c .before .before .before .before .before))
     _ (c .before .before .before .d2 .given .1)
 
 enum-known-d-3 : tie.Need-enum-known-d-3
@@ -110,30 +111,30 @@ taken-answer-requires : tie.Need-taken-answer-requires
 taken-answer-requires c κs =
     let e = c .before .before .before .before .before .before in
     let p = start e in
-    take-fits (lent p) (p .args .prune .now) (p .args .entry) (p .args .token) (p .args .«prevent-pruning») (zero e) (c .before .before .before .decide .result) (own (c .before .before .before))
+    take-fits (lent p) (p .args .prune .now) (p .args .entry) [] (p .args .«prevent-pruning») (zero e) (c .before .before .before .decide .result) (own (c .before .before .before))
     _ (c .before .d3 .given .1)
 
 returns-2 : tie.Need-returns-2
 unfolding verdictSays
-returns-2 c =
+returns-2 c = λ token.
     let e = c .before .before .before .before .before .before .before in
     let p = start e in
-    answers-late (lent p) (p .args .prune .now) (p .args .entry) (p .args .token) (p .args .«prevent-pruning») (zero e) (c .before .before .before .before .decide .result) (own (c .before .before .before .before))
+    answers-late (lent p) (p .args .prune .now) (p .args .entry) token (p .args .«prevent-pruning») (zero e) (c .before .before .before .before .decide .result) (own (c .before .before .before .before))
     _ (c .before .before .d .given .1) _ (c .plain-answer2 .ensures)
 
 returns-3 : tie.Need-returns-3
-returns-3 c =
+returns-3 c = λ token.
     let e = c .before .before .before .before .before .before .before .before .before in
     let p = start e in
-    answers-old (lent p) (p .args .prune .now) (p .args .entry) (p .args .token) (p .args .«prevent-pruning») (zero e) (c .before .before .before .before .before .before .decide .result) (own (c .before .before .before .before .before .before))
+    answers-old (lent p) (p .args .prune .now) (p .args .entry) token (p .args .«prevent-pruning») (zero e) (c .before .before .before .before .before .before .decide .result) (own (c .before .before .before .before .before .before))
     _ (c .before .before .before .before .d2 .given .1) _ (c .obsolete-answer .ensures)
 
 returns-4 : tie.Need-returns-4
 unfolding verdictSays
-returns-4 c =
+returns-4 c = λ token.
     let e = c .before .before .before .before .before .before .before in
     let p = start e in
-    answers-take (lent p) (p .args .prune .now) (p .args .entry) (p .args .token) (p .args .«prevent-pruning») (zero e) (c .before .before .before .before .decide .result) (own (c .before .before .before .before))
+    answers-take (lent p) (p .args .prune .now) (p .args .entry) token (p .args .«prevent-pruning») (zero e) (c .before .before .before .before .decide .result) (own (c .before .before .before .before))
     _ (c .before .before .d3 .given .1) _ (c .taken-answer .ensures)
 
 pub ingest-answer-spec : {M : Type 1} → statement M
