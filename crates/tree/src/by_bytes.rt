@@ -1,9 +1,9 @@
 // What is asked of record k, told by its bytes: does an area or a range include it, and do the flags let it through.
+use crate::address::begins;
+use crate::address::path_at;
+use crate::address::subspace_at;
+use crate::address::time_at;
 use crate::matching::QueryIgnoreParams;
-use crate::place::begins;
-use crate::place::path_at;
-use crate::place::subspace_at;
-use crate::place::time_at;
 use crate::stored::KeyOrder;
 use crate::stored::value_at;
 use crate::value::available;

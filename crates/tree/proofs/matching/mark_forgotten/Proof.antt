@@ -10,8 +10,8 @@ use Rattle.layout.specs.Marks.{marksOf}
 use Rattle.data_model.specs.Path.{field, components}
 use Rattle.data_model.specs.declared.path.Path.{Path}
 use Rattle.tree.specs.Stored.{Stored, contents}
-use Rattle.tree.specs.Place.{openPath}
-use Rattle.tree.proofs.PlaceLaws.{front-path}
+use Rattle.tree.specs.Address.{openPath}
+use Rattle.tree.proofs.AddressLaws.{front-path}
 use Rattle.tree.proofs.ByteLaws.{forgotten-bytes}
 use borrow.Author.Needs.{needs}
 use Rattle.tree.proofs.matching.mark_forgotten.Statement.{statement}
