@@ -19,7 +19,7 @@ use Rattle.key_laws.specs.Bytes.{Bytes}
 use Rattle.tree.specs.Stored.{Stored, stored, contents}
 use Rattle.tree.specs.Tree.{Formed, Ordered}
 use Rattle.tree.specs.Apart.{apart}
-use Rattle.tree.specs.Place.{placeAt, openAt, rankAt}
+use Rattle.tree.specs.Address.{addressAt, openAt, rankAt}
 use Rattle.tree.specs.declared.stored.KeyOrder.the-variants.{Spt}
 use Rattle.tree.proofs.FormedLaws.{formed-record, formed-readable}
 use Rattle.tree.proofs.FormedContents.{formed-next, formed-done, formed-walk}
@@ -58,12 +58,12 @@ walk-end {count} {dir} {tree} v ns stack depth k h w = sym (w .left ∙ ap (walk
 -- A turn: r are left of the stack, and t says whether the nearest may stand before record k.
 module _ {count : ℕ} {dir tree : List ℕ} (v : Formed Spt count dir tree) (b : Bytes tree) (stack : List ℕ) (depth k : ℕ) (there : k < count)
     (below : (i : ℕ) → i < depth → getD stack i 0 < k) (r : ℕ) (few : r ≤ depth)
-    (off : (i : ℕ) → r ≤ i → i < depth → prefixOf sameNumber (openAt Spt (recordAt (getD stack i 0) dir tree)) (placeAt Spt (recordAt k dir tree)) ≡ false)
-    (on : 0 < r → prefixOf sameNumber (openAt Spt (recordAt (getD stack (r - 1) 0) dir tree)) (placeAt Spt (recordAt k dir tree)) ≡ true)
+    (off : (i : ℕ) → r ≤ i → i < depth → prefixOf sameNumber (openAt Spt (recordAt (getD stack i 0) dir tree)) (addressAt Spt (recordAt k dir tree)) ≡ false)
+    (on : 0 < r → prefixOf sameNumber (openAt Spt (recordAt (getD stack (r - 1) 0) dir tree)) (addressAt Spt (recordAt k dir tree)) ≡ true)
     (t : Bool) (none : r ≡ 0 → t ≡ true)
-    (some : 0 < r → t ≡ (not (sameList sameNumber (placeAt Spt (recordAt (getD stack (r - 1) 0) dir tree)) (placeAt Spt (recordAt k dir tree))) && not (isGreater (byRank (rankAt Spt (recordAt (getD stack (r - 1) 0) dir tree)) (rankAt Spt (recordAt k dir tree))))))
+    (some : 0 < r → t ≡ (not (sameList sameNumber (addressAt Spt (recordAt (getD stack (r - 1) 0) dir tree)) (addressAt Spt (recordAt k dir tree))) && not (isGreater (byRank (rankAt Spt (recordAt (getD stack (r - 1) 0) dir tree)) (rankAt Spt (recordAt k dir tree))))))
     (ns : List ℕ) (w : Walked count dir tree ns stack depth k) where
-  covers-is : (i : ℕ) → i < depth → prefixOf sameNumber (openAt Spt (recordAt (getD stack i 0) dir tree)) (placeAt Spt (recordAt k dir tree)) ≡ covers (entryAt dir tree ns (getD stack i 0)) (entryAt dir tree ns k)
+  covers-is : (i : ℕ) → i < depth → prefixOf sameNumber (openAt Spt (recordAt (getD stack i 0) dir tree)) (addressAt Spt (recordAt k dir tree)) ≡ covers (entryAt dir tree ns (getD stack i 0)) (entryAt dir tree ns k)
   covers-is i h = let j = below i h in covers-at (formed-readable v (getD stack i 0) (omega arith)) (formed-readable v k there) b ns
 
   popped-is : popped (entryAt dir tree ns k) (stackOf (entryAt dir tree ns) stack depth) ≡ stackOf (entryAt dir tree ns) stack r
@@ -80,7 +80,7 @@ module _ {count : ℕ} {dir tree : List ℕ} (v : Formed Spt count dir tree) (b 
       let x = formed-readable v (getD stack d 0) (omega arith) in
       let y = formed-readable v k there in
       some (omega arith)
-      ∙ ap (λ (n : ℕ). not (sameList sameNumber (placeAt Spt (recordAt (getD stack n 0) dir tree)) (placeAt Spt (recordAt k dir tree))) && not (isGreater (byRank (rankAt Spt (recordAt (getD stack n 0) dir tree)) (rankAt Spt (recordAt k dir tree))))) i
+      ∙ ap (λ (n : ℕ). not (sameList sameNumber (addressAt Spt (recordAt (getD stack n 0) dir tree)) (addressAt Spt (recordAt k dir tree))) && not (isGreater (byRank (rankAt Spt (recordAt (getD stack n 0) dir tree)) (rankAt Spt (recordAt k dir tree))))) i
       ∙ ap₂ (λ (p q : Bool). not p && not q) (same-at x y b ns) (newer-at x y b ns)
 
   next-is : apart (contents Spt field ns (records count dir tree)) ≡ (t && walkBy (entryAt dir tree ns k ∷ stackOf (entryAt dir tree ns) stack r) (drop (k + 1) (contents Spt field ns (records count dir tree))))

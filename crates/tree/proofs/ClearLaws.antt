@@ -16,17 +16,17 @@ use Rattle.key_laws.specs.Bytes.{Bytes}
 use Rattle.tree.specs.Value.{valueBytes}
 use Rattle.tree.specs.Stored.{keyIn, keyOf, valuePart, storedFrom, stored, contents, tripleOf, valueFor, sameStored}
 use Rattle.tree.specs.Tree.{Formed, hasRecord}
-use Rattle.tree.specs.Place.{placeKey, tripleAt, placeAt}
+use Rattle.tree.specs.Address.{addressKey, tripleAt, addressAt}
 use Rattle.tree.specs.declared.stored.KeyOrder.{KeyOrder}
 use Rattle.tree.specs.declared.stored.KeyOrder.the-variants.{Spt, Tsp}
 use Rattle.tree.proofs.FormedLaws.{formed-record}
 use Rattle.tree.proofs.RecordLaws.{value-of-record, record-forth}
 use Rattle.tree.proofs.WithinLaws.{at-bytes, formed-recorded, has-stored}
-use Rattle.tree.proofs.PlaceLaws.{key-says}
+use Rattle.tree.proofs.AddressLaws.{key-says}
 
 -- The time-first key is the time and the place.
-tsp-whole : (o : KeyOrder) (r : List ℕ) → keyIn Tsp (tripleAt o r) ≡ be 8 (tripleAt o r .timestamp) ++ placeAt o r
-unfolding keyIn tspKey placeKey
+tsp-whole : (o : KeyOrder) (r : List ℕ) → keyIn Tsp (tripleAt o r) ≡ be 8 (tripleAt o r .timestamp) ++ addressAt o r
+unfolding keyIn tspKey addressKey
 tsp-whole o r = refl
 
 triple-said : (o : KeyOrder) (ns r : List ℕ) → tripleOf (stored o field ns r .entry) ≡ tripleAt o r
@@ -37,7 +37,7 @@ triple-said o ns r = refl
 module _ {count : ℕ} {dir tree dir2 tree2 : List ℕ} (v : Formed Spt count dir tree) (w : Formed Tsp count dir2 tree2) (bytes : Bytes tree) (bytes2 : Bytes tree2)
     (ns : List ℕ) (k j : ℕ) (h : k < count) (g : j < count) where
   pub agree : (x y : ℕ) → x ≡ tripleAt Spt (recordAt k dir tree) .timestamp → y ≡ tripleAt Tsp (recordAt j dir2 tree2) .timestamp → x ≡ y
-      → (p q : List ℕ) → p ≡ placeAt Spt (recordAt k dir tree) → q ≡ placeAt Tsp (recordAt j dir2 tree2) → sameList sameNumber p q ≡ true
+      → (p q : List ℕ) → p ≡ addressAt Spt (recordAt k dir tree) → q ≡ addressAt Tsp (recordAt j dir2 tree2) → sameList sameNumber p q ≡ true
       → (u z : List ℕ) → u ≡ valuePart (recordAt j dir2 tree2) → z ≡ valuePart (recordAt k dir tree) → sameList sameNumber u z ≡ true
       → any (sameStored (stored Spt field ns (recordAt k dir tree))) (contents Tsp field ns (records count dir2 tree2)) ≡ true
   unfolding hasRecord
@@ -47,7 +47,7 @@ module _ {count : ℕ} {dir tree dir2 tree2 : List ℕ} (v : Formed Spt count di
       let a = stored Spt field ns rk in
       let f = record-forth Spt field ns rk (at-bytes k dir tree bytes) (formed-record v k h) in
       let time : tripleAt Tsp rj .timestamp ≡ tripleAt Spt rk .timestamp = sym ey ∙ sym et ∙ ex in
-      let place : placeAt Tsp rj ≡ placeAt Spt rk = sym eq ∙ sym (component-equality .equal p q s) ∙ ep in
+      let place : addressAt Tsp rj ≡ addressAt Spt rk = sym eq ∙ sym (component-equality .equal p q s) ∙ ep in
       let key : keyOf rj ≡ keyIn Tsp (tripleOf (a .entry))
       = key-says Tsp rj (at-bytes j dir2 tree2 bytes2) (formed-record w j g) .0
       ∙ tsp-whole Tsp rj ∙ ap₂ (λ (n : ℕ) (l : List ℕ). be 8 n ++ l) time place ∙ sym (tsp-whole Spt rk)

@@ -29,12 +29,12 @@ use Rattle.tree.specs.Stored.{keyIn, storedFrom, stored, tripleOf}
 use Rattle.tree.specs.Tree.{Readable}
 use Rattle.tree.specs.Apart.{samePlace}
 use Rattle.tree.specs.Matching.{outdates, removes, standsAt}
-use Rattle.tree.specs.Place.{placeKey, openPath, openKey, tripleAt, placeAt, openAt, rankAt}
+use Rattle.tree.specs.Address.{addressKey, openPath, openKey, tripleAt, addressAt, openAt, rankAt}
 use Rattle.tree.specs.declared.stored.KeyOrder.{KeyOrder}
 use Rattle.tree.specs.declared.stored.KeyOrder.the-variants.{Spt}
 use Rattle.tree.proofs.RecordLaws.{key-apart}
 use Rattle.tree.proofs.WithinLaws.{at-bytes}
-use Rattle.tree.proofs.PlaceLaws.{open-begins, covers-begins, key-says}
+use Rattle.tree.proofs.AddressLaws.{open-begins, covers-begins, key-says}
 
 -- Of two lists that begin alike, cut after as many, the first parts are the same and the second begin alike.
 prefix-parts : (k l x y : List ℕ) → length k ≡ length l → prefixOf sameNumber (k ++ x) (l ++ y) ≡ true → (k ≡ l) × (prefixOf sameNumber x y ≡ true)
@@ -50,8 +50,8 @@ module _ (s t : Subspace) (sh : s .high < 2 ^ 64) (sl : s .low < 2 ^ 64) (th : t
   subspace-known : subspaceKey s ≡ subspaceKey t → s ≡ t
   subspace-known e = sym (subspace-back s [] sh sl) ∙ ap (λ (k : List ℕ). subspaceAt (k ++ [])) e ∙ subspace-back t [] th tl
 
-  address-known : (p q : Components) → placeKey s p ≡ placeKey t q → (s ≡ t) × (p ≡ q)
-  unfolding keyIn sptKey placeKey
+  address-known : (p q : Components) → addressKey s p ≡ addressKey t q → (s ≡ t) × (p ≡ q)
+  unfolding keyIn sptKey addressKey
   address-known p q e =
       let x = triple s p 0 in
       let y = triple t q 0 in
@@ -60,21 +60,21 @@ module _ (s t : Subspace) (sh : s .high < 2 ^ 64) (sl : s .low < 2 ^ 64) (th : t
       (ap (λ (z : Triple). z .subspace) r, ap (λ (z : Triple). z .path) r)
 
   -- The bytes of two addresses are the same exactly if subspace and path are.
-  pub address-same : (p q : Components) → sameList sameNumber (placeKey s p) (placeKey t q) ≡ (sameSubspace s t && samePath p q)
-  address-same p q = alike (sameList sameNumber (placeKey s p) (placeKey t q)) (sameSubspace s t && samePath p q)
+  pub address-same : (p q : Components) → sameList sameNumber (addressKey s p) (addressKey t q) ≡ (sameSubspace s t && samePath p q)
+  address-same p q = alike (sameList sameNumber (addressKey s p) (addressKey t q)) (sameSubspace s t && samePath p q)
       (λ e.
-      let r = address-known p q (component-equality .equal (placeKey s p) (placeKey t q) e) in
+      let r = address-known p q (component-equality .equal (addressKey s p) (addressKey t q) e) in
       ap₂ _&&_ (ap (sameSubspace s) (sym (r .0)) ∙ subspace-equality .self s) (ap (samePath p) (sym (r .1)) ∙ path-equality .self p))
       (λ e.
       let k = and-true (sameSubspace s t) (samePath p q) e in
-      let r : placeKey s p ≡ placeKey t q = ap₂ placeKey (subspace-equality .equal s t (k .0)) (path-equality .equal p q (k .1)) in
-      ap (λ (l : List ℕ). sameList sameNumber l (placeKey t q)) r ∙ component-equality .self (placeKey t q))
+      let r : addressKey s p ≡ addressKey t q = ap₂ addressKey (subspace-equality .equal s t (k .0)) (path-equality .equal p q (k .1)) in
+      ap (λ (l : List ℕ). sameList sameNumber l (addressKey t q)) r ∙ component-equality .self (addressKey t q))
 
 -- An entry covers another of its namespace exactly if its open address begins the other's.
 pub covers-bytes : (a b : Entry) → a .namespace ≡ b .namespace → Sized (tripleOf a) → Sized (tripleOf b)
-    → prefixOf sameNumber (openKey (a .subspace) (a .path)) (placeKey (b .subspace) (b .path)) ≡ covers a b
-unfolding tripleOf openKey placeKey
-covers-bytes a b n h k = alike (prefixOf sameNumber (openKey (a .subspace) (a .path)) (placeKey (b .subspace) (b .path))) (covers a b)
+    → prefixOf sameNumber (openKey (a .subspace) (a .path)) (addressKey (b .subspace) (b .path)) ≡ covers a b
+unfolding tripleOf openKey addressKey
+covers-bytes a b n h k = alike (prefixOf sameNumber (openKey (a .subspace) (a .path)) (addressKey (b .subspace) (b .path))) (covers a b)
     (λ e.
     let v = prefix-parts (subspaceKey (a .subspace)) (subspaceKey (b .subspace)) (openPath (a .path)) (pathKey (b .path)) (subspace-length (a .subspace) ∙ sym (subspace-length (b .subspace))) e in
     covers-make a b (record { namespace = n; subspace = subspace-known (a .subspace) (b .subspace) (h .high) (h .low) (k .high) (k .low) (v .0); path = sym (open-begins (a .path) (b .path)) ∙ v .1 }))
@@ -92,38 +92,38 @@ module _ {o : KeyOrder} {k : ℕ} {dir tree : List ℕ} (v : Readable o k dir tr
     unfolding newer entryOf stored storedFrom
     greater-is = eg ∙ ap isGreater ex
 
-    pub outdates-rank : (front place : List ℕ) → front ≡ openAt o (recordAt k dir tree) → place ≡ placeKey (e .«subspace_id») (entryOf e .path)
-        → t ≡ prefixOf sameNumber front place → not t ≡ false → g ≡ outdates (entryOf e) (stored o field (e .«namespace_id») (recordAt k dir tree))
+    pub outdates-rank : (front address : List ℕ) → front ≡ openAt o (recordAt k dir tree) → address ≡ addressKey (e .«subspace_id») (entryOf e .path)
+        → t ≡ prefixOf sameNumber front address → not t ≡ false → g ≡ outdates (entryOf e) (stored o field (e .«namespace_id») (recordAt k dir tree))
     unfolding outdates prunes entryOf stored storedFrom
-    outdates-rank front place ef ep et y =
+    outdates-rank front address ef ep et y =
         let s = stored o field (e .«namespace_id») (recordAt k dir tree) .entry in
         let c : covers s (entryOf e) ≡ true = sym (covers-bytes s (entryOf e) refl (sized-at v b (e .«namespace_id»)) sized) ∙ sym (ap₂ (prefixOf sameNumber) ef ep) ∙ sym et ∙ not-false t y in
         greater-is ∙ ap (λ (q : Bool). q && newer s (entryOf e)) (sym c)
 
-    pub removes-rank : (front place : List ℕ) → front ≡ openKey (e .«subspace_id») (entryOf e .path) → place ≡ placeAt o (recordAt k dir tree)
-        → t ≡ prefixOf sameNumber front place → not t ≡ false → not g ≡ removes (entryOf e) (stored o field (e .«namespace_id») (recordAt k dir tree))
+    pub removes-rank : (front address : List ℕ) → front ≡ openKey (e .«subspace_id») (entryOf e .path) → address ≡ addressAt o (recordAt k dir tree)
+        → t ≡ prefixOf sameNumber front address → not t ≡ false → not g ≡ removes (entryOf e) (stored o field (e .«namespace_id») (recordAt k dir tree))
     unfolding removes entryOf stored storedFrom
-    removes-rank front place ef ep et y =
+    removes-rank front address ef ep et y =
         let s = stored o field (e .«namespace_id») (recordAt k dir tree) .entry in
         let c : covers (entryOf e) s ≡ true = sym (covers-bytes (entryOf e) s refl sized (sized-at v b (e .«namespace_id»))) ∙ sym (ap₂ (prefixOf sameNumber) ef ep) ∙ sym et ∙ not-false t y in
         ap not greater-is ∙ ap (λ (q : Bool). q && not (newer s (entryOf e))) (sym c)
 
 -- Whether record k stands at an address.
-pub stands-bytes : {o : KeyOrder} {k : ℕ} {dir tree : List ℕ} → Readable o k dir tree → Bytes tree → (place address : List ℕ) → place ≡ placeAt o (recordAt k dir tree)
-    → (t : Bool) → t ≡ sameList sameNumber place address
-    → (ns : List ℕ) (s : Subspace) (p : Components) → s .high < 2 ^ 64 → s .low < 2 ^ 64 → address ≡ placeKey s p → t ≡ standsAt s p (stored o field ns (recordAt k dir tree))
+pub stands-bytes : {o : KeyOrder} {k : ℕ} {dir tree : List ℕ} → Readable o k dir tree → Bytes tree → (mine address : List ℕ) → mine ≡ addressAt o (recordAt k dir tree)
+    → (t : Bool) → t ≡ sameList sameNumber mine address
+    → (ns : List ℕ) (s : Subspace) (p : Components) → s .high < 2 ^ 64 → s .low < 2 ^ 64 → address ≡ addressKey s p → t ≡ standsAt s p (stored o field ns (recordAt k dir tree))
 unfolding standsAt stored storedFrom tripleOf
-stands-bytes {o} {k} {dir} {tree} v b place address ep t et ns s p sh sl ea =
+stands-bytes {o} {k} {dir} {tree} v b mine address ep t et ns s p sh sl ea =
     let z = sized-at v b ns in
     et ∙ ap₂ (sameList sameNumber) ep ea ∙ address-same (tripleAt o (recordAt k dir tree) .subspace) s (z .high) (z .low) sh sl (tripleAt o (recordAt k dir tree) .path) p
 
 -- Two records of one namespace: covering, standing at one address, which is newer.
 module _ {o : KeyOrder} {j k : ℕ} {dir tree : List ℕ} (v : Readable o j dir tree) (w : Readable o k dir tree) (b : Bytes tree) (ns : List ℕ) where
-  pub covers-at : prefixOf sameNumber (openAt o (recordAt j dir tree)) (placeAt o (recordAt k dir tree)) ≡ covers (stored o field ns (recordAt j dir tree) .entry) (stored o field ns (recordAt k dir tree) .entry)
+  pub covers-at : prefixOf sameNumber (openAt o (recordAt j dir tree)) (addressAt o (recordAt k dir tree)) ≡ covers (stored o field ns (recordAt j dir tree) .entry) (stored o field ns (recordAt k dir tree) .entry)
   unfolding stored storedFrom
   covers-at = covers-bytes (stored o field ns (recordAt j dir tree) .entry) (stored o field ns (recordAt k dir tree) .entry) refl (sized-at v b ns) (sized-at w b ns)
 
-  pub same-at : sameList sameNumber (placeAt o (recordAt j dir tree)) (placeAt o (recordAt k dir tree)) ≡ samePlace (stored o field ns (recordAt j dir tree) .entry) (stored o field ns (recordAt k dir tree) .entry)
+  pub same-at : sameList sameNumber (addressAt o (recordAt j dir tree)) (addressAt o (recordAt k dir tree)) ≡ samePlace (stored o field ns (recordAt j dir tree) .entry) (stored o field ns (recordAt k dir tree) .entry)
   unfolding samePlace stored storedFrom tripleOf
   same-at =
       let x = sized-at v b ns in

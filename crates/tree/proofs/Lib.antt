@@ -12,7 +12,7 @@ pub mod WithinLaws
 pub mod AgreeLaws
 pub mod FormedContents
 pub mod MarkingLaws
-pub mod PlaceLaws
+pub mod AddressLaws
 pub mod ClearLaws
 pub mod CoverLaws
 pub mod NearestLaws

@@ -16,7 +16,7 @@ use Rattle.data_model.specs.declared.answer.Ordering.{Ordering}
 use Rattle.data_model.specs.declared.entry.Rank.{Rank}
 use Rattle.tree.specs.Value.{readValue}
 use Rattle.tree.specs.Stored.{valuePart}
-use Rattle.tree.specs.Place.{openAt, tripleAt, rankAt}
+use Rattle.tree.specs.Address.{openAt, tripleAt, rankAt}
 use Rattle.tree.specs.declared.stored.KeyOrder.{KeyOrder}
 use Rattle.tree.specs.declared.stored.KeyOrder.the-variants.{Spt}
 

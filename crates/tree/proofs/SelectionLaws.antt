@@ -24,13 +24,13 @@ use Rattle.key_laws.proofs.NextSubspace.{less-cases}
 use Rattle.key_laws.proofs.Ordered.{path-ordered}
 use Rattle.tree.specs.Value.{readValue}
 use Rattle.tree.specs.Stored.{valuePart, Stored, stored, storedFrom}
-use Rattle.tree.specs.Place.{openPath, tripleAt}
+use Rattle.tree.specs.Address.{openPath, tripleAt}
 use Rattle.tree.specs.Matching.{inArea, inRange, letThrough, listedInArea, listedInRange}
 use Rattle.tree.specs.Selection.{selectsPath, selects, selectsListed}
 use Rattle.tree.specs.declared.selection.Selection.{Selection}
 use Rattle.tree.specs.declared.stored.KeyOrder.{KeyOrder}
 use Rattle.data_model.specs.declared.store.QueryIgnoreParams.{QueryIgnoreParams}
-use Rattle.tree.proofs.PlaceLaws.{open-begins}
+use Rattle.tree.proofs.AddressLaws.{open-begins}
 
 -- The numbers of a record, each read by itself.
 module _ (o : KeyOrder) (ns r : List ℕ) (n : ℕ) where

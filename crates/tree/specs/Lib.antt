@@ -4,5 +4,5 @@ pub mod Tree
 pub mod Apart
 pub mod Matching
 pub mod Interest
-pub mod Place
+pub mod Address
 pub mod Selection

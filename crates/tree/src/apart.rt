@@ -1,9 +1,9 @@
 // Whether no subspace and path stands twice in the subspace-first tree and no entry prunes another. In key order the entries that cover a
 // record stand before it, each covering the next: a stack. Rank being transitive, a record is compared with the nearest of them alone, and
 // each record goes onto the stack once and off it once.
-use crate::place::begins;
-use crate::place::open_at;
-use crate::place::place_at;
+use crate::address::address_at;
+use crate::address::begins;
+use crate::address::open_at;
 use crate::rank::compare_records;
 use crate::stored::KeyOrder;
 use data_model::answer::is_greater;
@@ -22,7 +22,7 @@ ghost use Rattle.data_model.specs.Entry.{byRank};
 ghost use Rattle.tree.specs.Stored.{contents};
 ghost use Rattle.tree.specs.Tree.{Readable, Ordered};
 ghost use Rattle.tree.specs.Apart.{apart};
-ghost use Rattle.tree.specs.Place.{placeAt, openAt, rankAt};
+ghost use Rattle.tree.specs.Address.{addressAt, openAt, rankAt};
 ghost use Rattle.tree.specs.declared.stored.KeyOrder.the-variants.{Spt};
 
 // The most entries that cover one another: their paths have 0 to MCC components.
@@ -31,9 +31,9 @@ const DEEPEST: usize = MCC + 1;
 // How many of the first `depth` record numbers on the stack are left when those on top go that do not cover record k.
 fn covering(dir: &[u32], tree: &[u8], stack: &[usize], depth: usize, k: usize) -> usize
     requires { ⌜ (Readable Spt k (now dir) (now tree)) × (depth ≤ length (now stack)) × ((i : ℕ) → i < depth → Readable Spt (getD (now stack) i 0) (now dir) (now tree)) ⌝ }
-    ensures { λ r. ⌜ (r ≤ depth) × ((i : ℕ) → r ≤ i → i < depth → prefixOf sameNumber (openAt Spt (recordAt (getD (now (stack .entry)) i 0) (now (dir .entry)) (now (tree .entry)))) (placeAt Spt (recordAt k (now (dir .entry)) (now (tree .entry)))) ≡ false) × (0 < r → prefixOf sameNumber (openAt Spt (recordAt (getD (now (stack .entry)) (r - 1) 0) (now (dir .entry)) (now (tree .entry)))) (placeAt Spt (recordAt k (now (dir .entry)) (now (tree .entry)))) ≡ true) ⌝ }
+    ensures { λ r. ⌜ (r ≤ depth) × ((i : ℕ) → r ≤ i → i < depth → prefixOf sameNumber (openAt Spt (recordAt (getD (now (stack .entry)) i 0) (now (dir .entry)) (now (tree .entry)))) (addressAt Spt (recordAt k (now (dir .entry)) (now (tree .entry)))) ≡ false) × (0 < r → prefixOf sameNumber (openAt Spt (recordAt (getD (now (stack .entry)) (r - 1) 0) (now (dir .entry)) (now (tree .entry)))) (addressAt Spt (recordAt k (now (dir .entry)) (now (tree .entry)))) ≡ true) ⌝ }
 {
-    let address = place_at(KeyOrder::Spt, dir, tree, k);
+    let address = address_at(KeyOrder::Spt, dir, tree, k);
     let mut d = depth;
     while 0 < d {
         let j = stack[d - 1];
@@ -48,10 +48,10 @@ fn covering(dir: &[u32], tree: &[u8], stack: &[usize], depth: usize, k: usize) -
 // Whether record j may stand before record k, which it covers: it is at another address, and not newer.
 fn may_cover(dir: &[u32], tree: &[u8], j: usize, k: usize) -> bool
     requires { ⌜ (Readable Spt j (now dir) (now tree)) × (Readable Spt k (now dir) (now tree)) ⌝ }
-    ensures { λ r. ⌜ r ≡ (not (sameList sameNumber (placeAt Spt (recordAt j (now (dir .entry)) (now (tree .entry)))) (placeAt Spt (recordAt k (now (dir .entry)) (now (tree .entry))))) && not (isGreater (byRank (rankAt Spt (recordAt j (now (dir .entry)) (now (tree .entry)))) (rankAt Spt (recordAt k (now (dir .entry)) (now (tree .entry))))))) ⌝ }
+    ensures { λ r. ⌜ r ≡ (not (sameList sameNumber (addressAt Spt (recordAt j (now (dir .entry)) (now (tree .entry)))) (addressAt Spt (recordAt k (now (dir .entry)) (now (tree .entry))))) && not (isGreater (byRank (rankAt Spt (recordAt j (now (dir .entry)) (now (tree .entry)))) (rankAt Spt (recordAt k (now (dir .entry)) (now (tree .entry))))))) ⌝ }
 {
-    let here = place_at(KeyOrder::Spt, dir, tree, k);
-    if same(place_at(KeyOrder::Spt, dir, tree, j), here) {
+    let here = address_at(KeyOrder::Spt, dir, tree, k);
+    if same(address_at(KeyOrder::Spt, dir, tree, j), here) {
         return false;
     }
     !is_greater(compare_records(KeyOrder::Spt, dir, tree, j, k))
@@ -60,7 +60,7 @@ fn may_cover(dir: &[u32], tree: &[u8], j: usize, k: usize) -> bool
 // Whether the nearest of the first `depth` record numbers on the stack, if there is one, may stand before record k.
 fn nearest_may(dir: &[u32], tree: &[u8], stack: &[usize], depth: usize, k: usize) -> bool
     requires { ⌜ (Readable Spt k (now dir) (now tree)) × (depth ≤ length (now stack)) × ((i : ℕ) → i < depth → Readable Spt (getD (now stack) i 0) (now dir) (now tree)) ⌝ }
-    ensures { λ r. ⌜ (depth ≡ 0 → r ≡ true) × (0 < depth → r ≡ (not (sameList sameNumber (placeAt Spt (recordAt (getD (now (stack .entry)) (depth - 1) 0) (now (dir .entry)) (now (tree .entry)))) (placeAt Spt (recordAt k (now (dir .entry)) (now (tree .entry))))) && not (isGreater (byRank (rankAt Spt (recordAt (getD (now (stack .entry)) (depth - 1) 0) (now (dir .entry)) (now (tree .entry)))) (rankAt Spt (recordAt k (now (dir .entry)) (now (tree .entry)))))))) ⌝ }
+    ensures { λ r. ⌜ (depth ≡ 0 → r ≡ true) × (0 < depth → r ≡ (not (sameList sameNumber (addressAt Spt (recordAt (getD (now (stack .entry)) (depth - 1) 0) (now (dir .entry)) (now (tree .entry)))) (addressAt Spt (recordAt k (now (dir .entry)) (now (tree .entry))))) && not (isGreater (byRank (rankAt Spt (recordAt (getD (now (stack .entry)) (depth - 1) 0) (now (dir .entry)) (now (tree .entry)))) (rankAt Spt (recordAt k (now (dir .entry)) (now (tree .entry)))))))) ⌝ }
 {
     if depth == 0 {
         return true;

@@ -1,10 +1,10 @@
 // What is asked of record k about an entry, or a subspace and path, told by its bytes: does it make the entry obsolete, does the entry
 // remove it, does it stand there. And the marks of a whole walk: 1 for each record that a test holds of, 0 for the others.
-use crate::place::END;
-use crate::place::begins;
-use crate::place::open_at;
-use crate::place::place_at;
-use crate::place::write_place;
+use crate::address::END;
+use crate::address::address_at;
+use crate::address::begins;
+use crate::address::open_at;
+use crate::address::write_address;
 use crate::rank::compare_with;
 use crate::stored::KeyOrder;
 use data_model::answer::is_greater;
@@ -26,7 +26,7 @@ ghost use Rattle.data_model.specs.Entry.{entryOf};
 ghost use Rattle.data_model.specs.declared.parameters.Subspace.{Subspace};
 ghost use Rattle.tree.specs.Stored.{contents, stored};
 ghost use Rattle.tree.specs.Tree.{Formed, Readable};
-ghost use Rattle.tree.specs.Place.{placeKey, openKey};
+ghost use Rattle.tree.specs.Address.{addressKey, openKey};
 ghost use Rattle.tree.specs.Matching.{outdates, removes, standsAt};
 
 // Whether record k makes the entry obsolete. `address`: the entry's.
@@ -38,7 +38,7 @@ fn outdates_at(
     e: Entry,
     address: &[u8],
 ) -> bool
-    requires { ⌜ (Readable order k (now dir) (now tree)) × (now address ≡ placeKey (e .«subspace_id») (components (e .path))) ⌝ }
+    requires { ⌜ (Readable order k (now dir) (now tree)) × (now address ≡ addressKey (e .«subspace_id») (components (e .path))) ⌝ }
     ensures { λ r. ⌜ r ≡ outdates (entryOf e) (stored order field (e .«namespace_id») (recordAt k (now (dir .entry)) (now (tree .entry)))) ⌝ }
 {
     if !begins(address, open_at(order, dir, tree, k)) {
@@ -52,7 +52,7 @@ fn removes_at(order: KeyOrder, dir: &[u32], tree: &[u8], k: usize, e: Entry, fro
     requires { ⌜ (Readable order k (now dir) (now tree)) × (now front ≡ openKey (e .«subspace_id») (components (e .path))) ⌝ }
     ensures { λ r. ⌜ r ≡ removes (entryOf e) (stored order field (e .«namespace_id») (recordAt k (now (dir .entry)) (now (tree .entry)))) ⌝ }
 {
-    if !begins(place_at(order, dir, tree, k), front) {
+    if !begins(address_at(order, dir, tree, k), front) {
         return false;
     }
     !is_greater(compare_with(order, dir, tree, k, e))
@@ -61,9 +61,9 @@ fn removes_at(order: KeyOrder, dir: &[u32], tree: &[u8], k: usize, e: Entry, fro
 // Whether record k stands at the subspace and path that the bytes of `address` are of.
 fn stands_at(order: KeyOrder, dir: &[u32], tree: &[u8], k: usize, address: &[u8]) -> bool
     requires { ⌜ Readable order k (now dir) (now tree) ⌝ }
-    ensures { λ r. ⌜ ((namespace : List ℕ) (s : Subspace) (p : Components) → s .high < 2 ^ 64 → s .low < 2 ^ 64 → now (address .entry) ≡ placeKey s p → r ≡ standsAt s p (stored order field namespace (recordAt k (now (dir .entry)) (now (tree .entry))))) ⌝ }
+    ensures { λ r. ⌜ ((namespace : List ℕ) (s : Subspace) (p : Components) → s .high < 2 ^ 64 → s .low < 2 ^ 64 → now (address .entry) ≡ addressKey s p → r ≡ standsAt s p (stored order field namespace (recordAt k (now (dir .entry)) (now (tree .entry))))) ⌝ }
 {
-    same(place_at(order, dir, tree, k), address)
+    same(address_at(order, dir, tree, k), address)
 }
 
 fn outdating_from(
@@ -75,7 +75,7 @@ fn outdating_from(
     address: &[u8],
     marks: &mut [u8],
 )
-    requires { ⌜ (Formed order count (now dir) (now tree)) × (count ≤ length (now marks)) × (now address ≡ placeKey (e .«subspace_id») (components (e .path))) ⌝ }
+    requires { ⌜ (Formed order count (now dir) (now tree)) × (count ≤ length (now marks)) × (now address ≡ addressKey (e .«subspace_id») (components (e .path))) ⌝ }
     ensures { λ _. ⌜ now (marks .exit) ≡ put (marksOf (outdates (entryOf e)) (contents order field (e .«namespace_id») (records count (now (dir .entry)) (now (tree .entry))))) (now (marks .entry)) ⌝ }
 {
     let mut k: usize = 0;
@@ -100,7 +100,7 @@ pub fn mark_outdating(
     let subspace = e.subspace_id;
     let path = e.path;
     let mut key = [0u8; KEY_MOST];
-    let n = write_place(subspace, path, &mut key);
+    let n = write_address(subspace, path, &mut key);
     outdating_from(order, count, dir, tree, e, &key[..n], marks);
 }
 
@@ -138,7 +138,7 @@ pub fn mark_removed(
     let subspace = e.subspace_id;
     let path = e.path;
     let mut key = [0u8; KEY_MOST];
-    let n = write_place(subspace, path, &mut key) - END;
+    let n = write_address(subspace, path, &mut key) - END;
     removed_from(order, count, dir, tree, e, &key[..n], marks);
 }
 
@@ -151,7 +151,7 @@ fn standing_from(
     marks: &mut [u8],
 )
     requires { ⌜ (Formed order count (now dir) (now tree)) × (count ≤ length (now marks)) ⌝ }
-    ensures { λ _. ⌜ ((namespace : List ℕ) (s : Subspace) (p : Components) → s .high < 2 ^ 64 → s .low < 2 ^ 64 → now (address .entry) ≡ placeKey s p → now (marks .exit) ≡ put (marksOf (standsAt s p) (contents order field namespace (records count (now (dir .entry)) (now (tree .entry))))) (now (marks .entry))) ⌝ }
+    ensures { λ _. ⌜ ((namespace : List ℕ) (s : Subspace) (p : Components) → s .high < 2 ^ 64 → s .low < 2 ^ 64 → now (address .entry) ≡ addressKey s p → now (marks .exit) ≡ put (marksOf (standsAt s p) (contents order field namespace (records count (now (dir .entry)) (now (tree .entry))))) (now (marks .entry))) ⌝ }
 {
     let mut k: usize = 0;
     while k < count {
@@ -174,6 +174,6 @@ pub fn mark_at(
     ensures { λ _. ⌜ ((namespace : List ℕ) → now (marks .exit) ≡ put (marksOf (standsAt subspace (components path)) (contents order field namespace (records count (now (dir .entry)) (now (tree .entry))))) (now (marks .entry))) ⌝ }
 {
     let mut key = [0u8; KEY_MOST];
-    let n = write_place(subspace, path, &mut key);
+    let n = write_address(subspace, path, &mut key);
     standing_from(order, count, dir, tree, &key[..n], marks);
 }

@@ -1,5 +1,5 @@
 // From which time on an area of interest takes entries.
-use crate::place::time_at;
+use crate::address::time_at;
 use crate::stored::KeyOrder;
 use crate::stored::value_at;
 use crate::value::payload_length;

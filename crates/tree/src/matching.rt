@@ -1,7 +1,7 @@
 // The marks of a whole walk by an area or a range: 1 for each record that a test holds of, 0 for the others.
-use crate::place::END;
-use crate::place::SUBSPACE;
-use crate::place::write_path;
+use crate::address::END;
+use crate::address::SUBSPACE;
+use crate::address::write_path;
 use crate::selection::Selection;
 use crate::selection::mark_selected;
 use crate::stored::KeyOrder;

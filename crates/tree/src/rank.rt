@@ -1,6 +1,6 @@
 // Which of two records is newer, or of a record and an entry: by timestamp, then digest as bytes, then payload length. A key holds the
 // timestamp, and a value the digest behind the length.
-use crate::place::time_at;
+use crate::address::time_at;
 use crate::stored::KeyOrder;
 use crate::stored::value_at;
 use crate::value::payload_digest;
@@ -14,7 +14,7 @@ ghost use Rattle.layout.specs.Layout.{recordAt};
 ghost use Rattle.data_model.specs.Entry.{rankOf, byRank};
 ghost use Rattle.data_model.specs.Refusal.{orderingSays};
 ghost use Rattle.tree.specs.Tree.{Readable};
-ghost use Rattle.tree.specs.Place.{rankAt};
+ghost use Rattle.tree.specs.Address.{rankAt};
 
 // How the rank of the first three stands to that of the others.
 fn compare_ranks(

@@ -1,8 +1,8 @@
 // The one walk that marks what lies in an area or a 3d range, and its test of a record, told by the record's bytes.
-use crate::place::begins;
-use crate::place::path_at;
-use crate::place::subspace_at;
-use crate::place::time_at;
+use crate::address::begins;
+use crate::address::path_at;
+use crate::address::subspace_at;
+use crate::address::time_at;
 use crate::stored::KeyOrder;
 use crate::stored::value_at;
 use crate::value::available;

@@ -1,6 +1,6 @@
 // Whether what one tree holds stands in the other, in its order.
-use crate::place::place_at;
-use crate::place::time_at;
+use crate::address::address_at;
+use crate::address::time_at;
 use crate::search::has_record;
 use crate::stored::KeyOrder;
 use crate::stored::encode_key;
@@ -16,7 +16,7 @@ ghost use Rattle.laws.specs.Sorted.{any};
 ghost use Rattle.layout.specs.Layout.{records, recordAt};
 ghost use Rattle.data_model.specs.Path.{field};
 ghost use Rattle.tree.specs.Stored.{contents, stored, sameStored};
-ghost use Rattle.tree.specs.Place.{slots};
+ghost use Rattle.tree.specs.Address.{slots};
 ghost use Rattle.tree.specs.Tree.{Formed, Ordered, within};
 ghost use Rattle.tree.specs.declared.stored.KeyOrder.the-variants.{Spt, Tsp};
 
@@ -70,8 +70,8 @@ fn is_at(
         return false;
     }
     if !same(
-        place_at(KeyOrder::Spt, spt_dir, spt, k),
-        place_at(KeyOrder::Tsp, tsp_dir, tsp, j),
+        address_at(KeyOrder::Spt, spt_dir, spt, k),
+        address_at(KeyOrder::Tsp, tsp_dir, tsp, j),
     ) {
         return false;
     }

@@ -7,7 +7,7 @@ use native.Mathlib.Omega.{arith}
 use lib.ListN.{getD}
 use Rattle.laws.specs.Prefix.{sameNumber, prefixOf}
 use Rattle.layout.specs.Layout.{recordAt}
-use Rattle.tree.specs.Place.{openAt}
+use Rattle.tree.specs.Address.{openAt}
 use Rattle.tree.specs.declared.stored.KeyOrder.the-variants.{Spt}
 use Rattle.tree.proofs.RankLaws.{above-next}
 use borrow.Author.Needs.{needs}
@@ -21,8 +21,8 @@ Inv-loop dir tree stack depth k address d₀ d =
 abbrev μ-loop : tie.MeasureT-loop
 μ-loop dir tree stack depth k address d₀ d = d
 
-place-at-requires : tie.Need-place-at-requires Inv-loop μ-loop
-place-at-requires c κs = c .before .before .before .pre .0
+address-at-requires : tie.Need-address-at-requires Inv-loop μ-loop
+address-at-requires c κs = c .before .before .before .pre .0
 
 loop-holds : tie.Need-loop-holds Inv-loop μ-loop
 loop-holds c = (omega arith, λ i x y. absurd (omega arith))
@@ -44,7 +44,7 @@ begins-requires c κs = search needs
 
 returns : tie.Need-returns Inv-loop μ-loop
 returns c =
-    let e = c .before .before .before .before .before .before .place-at .ensures in
+    let e = c .before .before .before .before .before .before .address-at .ensures in
     let l = c .before .before .before .before .before .loop in
     (l .inv .0, λ i x y. ap (prefixOf sameNumber _) (sym e) ∙ l .inv .1 i x y, λ h. sym (ap₂ (prefixOf sameNumber) (c .before .before .open-at .ensures) e) ∙ sym (c .before .begins .ensures) ∙ c .if1 .taken)
 
@@ -58,12 +58,12 @@ loop-again : tie.Need-loop-again Inv-loop μ-loop
 loop-again c =
     let l = c .before .before .before .before .before .loop in
     let p = c .before .before .before .before .before .before .before .before .before .before in
-    let a = c .before .before .before .before .before .before .place-at .result .now in
+    let a = c .before .before .before .before .before .before .address-at .result .now in
     (omega arith, above-next (p .args .dir .now) (p .args .tree .now) (p .args .stack .now) a (l .d) (omega arith) (l .inv .1) (sym (ap (λ (f : List ℕ). prefixOf sameNumber f a) (c .before .before .open-at .ensures)) ∙ sym (c .before .begins .ensures) ∙ c .if1 .left))
 
 returns-2 : tie.Need-returns-2 Inv-loop μ-loop
 returns-2 c =
-    let e = c .before .before .place-at .ensures in
+    let e = c .before .before .address-at .ensures in
     let l = c .before .loop in
     (l .inv .0, λ i x y. ap (prefixOf sameNumber _) (sym e) ∙ l .inv .1 i x y, λ h. absurd (omega arith))
 
@@ -73,7 +73,7 @@ covering-spec =
     (tie.spec
     Inv-loop
     μ-loop
-    place-at-requires
+    address-at-requires
     loop-holds
     sub-j
     mul-j

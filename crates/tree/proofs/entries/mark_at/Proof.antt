@@ -11,17 +11,17 @@ use Rattle.tree.proofs.entries.mark_at.Tie as tie
 narrow : (c : tie.Start) → (c .args .subspace .high < 2 ^ 64) × (c .args .subspace .low < 2 ^ 64)
 narrow c = (search needs, search needs)
 
-slice-aggregate-write-place : tie.Need-slice-aggregate-write-place
-slice-aggregate-write-place c = search needs
+slice-aggregate-write-address : tie.Need-slice-aggregate-write-address
+slice-aggregate-write-address c = search needs
 
-write-place-requires : tie.Need-write-place-requires
-write-place-requires c κs = search needs
+write-address-requires : tie.Need-write-address-requires
+write-address-requires c κs = search needs
 
 array-share-prefix-key : tie.Need-array-share-prefix-key
-array-share-prefix-key c = omega (arith, c .before .write-place .ensures .1)
+array-share-prefix-key c = omega (arith, c .before .write-address .ensures .1)
 
 slice-aggregate-standing-from : tie.Need-slice-aggregate-standing-from
-slice-aggregate-standing-from c = sym (length-take-le (c .before .before .write-place .result) (c .before .before .write-place .last .1 .1 .0) (omega (arith, c .before .before .write-place .ensures .1, c .before .before .write-place .kept .1 .1 .0, length-replicate {A = ℕ} 298 0)))
+slice-aggregate-standing-from c = sym (length-take-le (c .before .before .write-address .result) (c .before .before .write-address .last .1 .1 .0) (omega (arith, c .before .before .write-address .ensures .1, c .before .before .write-address .kept .1 .1 .0, length-replicate {A = ℕ} 298 0)))
 
 standing-from-requires : tie.Need-standing-from-requires
 standing-from-requires c κs = (c .before .before .before .before .before .before .before .before .pre .0, c .before .before .before .before .before .before .before .before .pre .1)
@@ -32,7 +32,7 @@ same-length c = search needs
 returns : tie.Need-returns
 returns c =
     let p = c .before .before .before .before .before .before .before .before .before .before .before in
-    λ ns. c .before .before .standing-from .ensures ns _ _ (narrow p .0) (narrow p .1) (c .before .before .before .before .before .before .write-place .ensures .2)
+    λ ns. c .before .before .standing-from .ensures ns _ _ (narrow p .0) (narrow p .1) (c .before .before .before .before .before .before .write-address .ensures .2)
 
 pub mark-at-spec : {M : Type 1} → statement M
-mark-at-spec = tie.close (tie.spec slice-aggregate-write-place write-place-requires array-share-prefix-key slice-aggregate-standing-from standing-from-requires same-length returns)
+mark-at-spec = tie.close (tie.spec slice-aggregate-write-address write-address-requires array-share-prefix-key slice-aggregate-standing-from standing-from-requires same-length returns)

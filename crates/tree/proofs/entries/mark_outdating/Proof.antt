@@ -8,20 +8,20 @@ use borrow.Author.Needs.{needs}
 use Rattle.tree.proofs.entries.mark_outdating.Statement.{statement}
 use Rattle.tree.proofs.entries.mark_outdating.Tie as tie
 
-slice-aggregate-write-place : tie.Need-slice-aggregate-write-place
-slice-aggregate-write-place c = search needs
+slice-aggregate-write-address : tie.Need-slice-aggregate-write-address
+slice-aggregate-write-address c = search needs
 
-write-place-requires : tie.Need-write-place-requires
-write-place-requires c κs = search needs
+write-address-requires : tie.Need-write-address-requires
+write-address-requires c κs = search needs
 
 array-share-prefix-key : tie.Need-array-share-prefix-key
-array-share-prefix-key c = omega (arith, c .before .write-place .ensures .1)
+array-share-prefix-key c = omega (arith, c .before .write-address .ensures .1)
 
 slice-aggregate-outdating-from : tie.Need-slice-aggregate-outdating-from
-slice-aggregate-outdating-from c = sym (length-take-le (c .before .before .write-place .result) (c .before .before .write-place .last .1 .1 .0) (omega (arith, c .before .before .write-place .ensures .1, c .before .before .write-place .kept .1 .1 .0, length-replicate {A = ℕ} 298 0)))
+slice-aggregate-outdating-from c = sym (length-take-le (c .before .before .write-address .result) (c .before .before .write-address .last .1 .1 .0) (omega (arith, c .before .before .write-address .ensures .1, c .before .before .write-address .kept .1 .1 .0, length-replicate {A = ℕ} 298 0)))
 
 outdating-from-requires : tie.Need-outdating-from-requires
-outdating-from-requires c κs = (c .before .before .before .before .before .before .before .before .before .before .pre .0, c .before .before .before .before .before .before .before .before .before .before .pre .1, c .before .before .before .write-place .ensures .2)
+outdating-from-requires c κs = (c .before .before .before .before .before .before .before .before .before .before .pre .0, c .before .before .before .before .before .before .before .before .before .before .pre .1, c .before .before .before .write-address .ensures .2)
 
 same-length : tie.Need-same-length
 same-length c = search needs
@@ -30,4 +30,4 @@ returns : tie.Need-returns
 returns c = search needs
 
 pub mark-outdating-spec : {M : Type 1} → statement M
-mark-outdating-spec = tie.close (tie.spec slice-aggregate-write-place write-place-requires array-share-prefix-key slice-aggregate-outdating-from outdating-from-requires same-length returns)
+mark-outdating-spec = tie.close (tie.spec slice-aggregate-write-address write-address-requires array-share-prefix-key slice-aggregate-outdating-from outdating-from-requires same-length returns)

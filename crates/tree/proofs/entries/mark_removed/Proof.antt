@@ -4,28 +4,28 @@ use mathlib.Core.Path.{refl, sym}
 use native.Mathlib.Omega.{arith}
 use lib.ListN.{length-replicate}
 use lib.Seq.{length-take-le}
-use Rattle.tree.proofs.PlaceLaws.{front-wrote}
+use Rattle.tree.proofs.AddressLaws.{front-wrote}
 use borrow.Author.Needs.{needs}
 use Rattle.tree.proofs.entries.mark_removed.Statement.{statement}
 use Rattle.tree.proofs.entries.mark_removed.Tie as tie
 
-slice-aggregate-write-place : tie.Need-slice-aggregate-write-place
-slice-aggregate-write-place c = search needs
+slice-aggregate-write-address : tie.Need-slice-aggregate-write-address
+slice-aggregate-write-address c = search needs
 
-write-place-requires : tie.Need-write-place-requires
-write-place-requires c κs = search needs
+write-address-requires : tie.Need-write-address-requires
+write-address-requires c κs = search needs
 
 sub-n : tie.Need-sub-n
-sub-n c = omega (arith, c .before .write-place .ensures .0)
+sub-n c = omega (arith, c .before .write-address .ensures .0)
 
 array-share-prefix-key : tie.Need-array-share-prefix-key
-array-share-prefix-key c = omega (arith, c .before .write-place .ensures .1)
+array-share-prefix-key c = omega (arith, c .before .write-address .ensures .1)
 
 slice-aggregate-removed-from : tie.Need-slice-aggregate-removed-from
-slice-aggregate-removed-from c = sym (length-take-le (c .before .before .write-place .result - 2) (c .before .before .write-place .last .1 .1 .0) (omega (arith, c .before .before .write-place .ensures .1, c .before .before .write-place .kept .1 .1 .0, length-replicate {A = ℕ} 298 0)))
+slice-aggregate-removed-from c = sym (length-take-le (c .before .before .write-address .result - 2) (c .before .before .write-address .last .1 .1 .0) (omega (arith, c .before .before .write-address .ensures .1, c .before .before .write-address .kept .1 .1 .0, length-replicate {A = ℕ} 298 0)))
 
 removed-from-requires : tie.Need-removed-from-requires
-removed-from-requires c κs = (c .before .before .before .before .before .before .before .before .before .before .pre .0, c .before .before .before .before .before .before .before .before .before .before .pre .1, front-wrote _ _ (c .before .before .before .write-place .last .1 .1 .0) (c .before .before .before .write-place .result) (c .before .before .before .write-place .result - 2) (c .before .before .before .write-place .ensures .2) (omega (arith, c .before .before .before .write-place .ensures .1, c .before .before .before .write-place .kept .1 .1 .0, length-replicate {A = ℕ} 298 0)) refl)
+removed-from-requires c κs = (c .before .before .before .before .before .before .before .before .before .before .pre .0, c .before .before .before .before .before .before .before .before .before .before .pre .1, front-wrote _ _ (c .before .before .before .write-address .last .1 .1 .0) (c .before .before .before .write-address .result) (c .before .before .before .write-address .result - 2) (c .before .before .before .write-address .ensures .2) (omega (arith, c .before .before .before .write-address .ensures .1, c .before .before .before .write-address .kept .1 .1 .0, length-replicate {A = ℕ} 298 0)) refl)
 
 same-length : tie.Need-same-length
 same-length c = search needs
@@ -34,4 +34,4 @@ returns : tie.Need-returns
 returns c = search needs
 
 pub mark-removed-spec : {M : Type 1} → statement M
-mark-removed-spec = tie.close (tie.spec slice-aggregate-write-place write-place-requires sub-n array-share-prefix-key slice-aggregate-removed-from removed-from-requires same-length returns)
+mark-removed-spec = tie.close (tie.spec slice-aggregate-write-address write-address-requires sub-n array-share-prefix-key slice-aggregate-removed-from removed-from-requires same-length returns)

@@ -2,7 +2,7 @@
 use Rattle.data_model.specs.Entry.{entryOf, rankOf}
 use Rattle.key_laws.specs.KeyOrder.{Sized}
 use Rattle.tree.specs.Stored.{tripleOf}
-use Rattle.tree.proofs.PlaceLaws.{outdates-not}
+use Rattle.tree.proofs.AddressLaws.{outdates-not}
 use Rattle.tree.proofs.CoverLaws.{outdates-rank}
 use borrow.Author.Needs.{needs}
 use Rattle.tree.proofs.entries.outdates_at.Statement.{statement}

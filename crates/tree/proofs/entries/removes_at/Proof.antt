@@ -2,7 +2,7 @@
 use Rattle.data_model.specs.Entry.{entryOf, rankOf}
 use Rattle.key_laws.specs.KeyOrder.{Sized}
 use Rattle.tree.specs.Stored.{tripleOf}
-use Rattle.tree.proofs.PlaceLaws.{removes-not}
+use Rattle.tree.proofs.AddressLaws.{removes-not}
 use Rattle.tree.proofs.CoverLaws.{removes-rank}
 use borrow.Author.Needs.{needs}
 use Rattle.tree.proofs.entries.removes_at.Statement.{statement}
@@ -12,15 +12,15 @@ sized : (c : tie.Start) → Sized (tripleOf (entryOf (c .args .e)))
 unfolding tripleOf entryOf rankOf
 sized c = record { high = search needs; low = search needs; time = search needs }
 
-place-at-requires : tie.Need-place-at-requires
-place-at-requires c κs = search needs
+address-at-requires : tie.Need-address-at-requires
+address-at-requires c κs = search needs
 
 begins-requires : tie.Need-begins-requires
 begins-requires c κs = search needs
 
 returns : tie.Need-returns
 unfolding entryOf
-returns c = let p = c .before .before .before .before .before .before in removes-not _ _ _ (entryOf (p .args .e)) _ _ (p .pre .1) (c .before .before .place-at .ensures) _ (c .before .begins .ensures) (c .if1 .taken)
+returns c = let p = c .before .before .before .before .before .before in removes-not _ _ _ (entryOf (p .args .e)) _ _ (p .pre .1) (c .before .before .address-at .ensures) _ (c .before .begins .ensures) (c .if1 .taken)
 
 compare-with-requires : tie.Need-compare-with-requires
 compare-with-requires c κs = search needs
@@ -32,7 +32,7 @@ returns-2 : tie.Need-returns-2
 unfolding entryOf
 returns-2 c =
     let p = c .before .before .before .before .before .before .before .before in
-    removes-rank (p .pre .0) (λ i. c .before .before .before .before .before .before .shared-slice-known2 .given i .fits) (p .args .e) (sized p) _ _ (c .before .compare-with .ensures) _ (c .is-greater .ensures) _ _ (p .pre .1) (c .before .before .before .before .place-at .ensures) (c .before .before .before .begins .ensures) (c .before .before .if1 .left)
+    removes-rank (p .pre .0) (λ i. c .before .before .before .before .before .before .shared-slice-known2 .given i .fits) (p .args .e) (sized p) _ _ (c .before .compare-with .ensures) _ (c .is-greater .ensures) _ _ (p .pre .1) (c .before .before .before .before .address-at .ensures) (c .before .before .before .begins .ensures) (c .before .before .if1 .left)
 
 pub removes-at-spec : {M : Type 1} → statement M
-removes-at-spec = tie.close (tie.spec place-at-requires begins-requires returns compare-with-requires is-greater-requires returns-2)
+removes-at-spec = tie.close (tie.spec address-at-requires begins-requires returns compare-with-requires is-greater-requires returns-2)

@@ -9,7 +9,7 @@ use Rattle.data_model.specs.Path.{field, Components}
 use Rattle.data_model.specs.declared.parameters.Subspace.{Subspace}
 use Rattle.tree.specs.Stored.{contents}
 use Rattle.tree.specs.Matching.{standsAt}
-use Rattle.tree.specs.Place.{placeKey}
+use Rattle.tree.specs.Address.{addressKey}
 use Rattle.tree.proofs.FormedLaws.{formed-readable}
 use Rattle.tree.proofs.MarkingLaws.{Marking, marking-start, mark-next, mark-end}
 use borrow.Author.Needs.{needs}
@@ -20,7 +20,7 @@ abbrev Inv-loop : tie.InvT-loop
 Inv-loop order count dir tree address marks₀ k₀ marks k =
     (k ≤ count)
     × (length marks ≡ length marks₀)
-    × ((namespace : List ℕ) (s : Subspace) (p : Components) → s .high < 2 ^ 64 → s .low < 2 ^ 64 → address ≡ placeKey s p
+    × ((namespace : List ℕ) (s : Subspace) (p : Components) → s .high < 2 ^ 64 → s .low < 2 ^ 64 → address ≡ addressKey s p
     → Marking (standsAt s p) (contents order field namespace (records count dir tree)) marks₀ marks k)
 
 abbrev μ-loop : tie.MeasureT-loop

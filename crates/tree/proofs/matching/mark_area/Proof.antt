@@ -9,7 +9,7 @@ use Rattle.layout.specs.Layout.{records}
 use Rattle.layout.specs.Marks.{marksOf}
 use Rattle.data_model.specs.Path.{field, components}
 use Rattle.tree.specs.Stored.{Stored, contents}
-use Rattle.tree.proofs.PlaceLaws.{front-path}
+use Rattle.tree.proofs.AddressLaws.{front-path}
 use Rattle.tree.proofs.SelectionLaws.{area-selected}
 use borrow.Author.Needs.{needs}
 use Rattle.tree.proofs.matching.mark_area.Statement.{statement}

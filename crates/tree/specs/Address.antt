@@ -1,4 +1,4 @@
--- A place: the bytes of a subspace and a path, as they stand in both keys; and the same without the path's end.
+-- An address: the bytes of a subspace and a path, as they stand in both keys; and the open address, without the path's end.
 use Prim.Native.Nat.{ℕ}
 use mathlib.Core.List.{List, [], _∷_, _++_}
 use Rattle.data_model.specs.Path.{field, Components}
@@ -9,8 +9,8 @@ use Rattle.tree.specs.Value.{readValue}
 use Rattle.tree.specs.Stored.{readIn, keyOf, valuePart, tripleRead}
 use Rattle.tree.specs.declared.stored.KeyOrder.{KeyOrder}
 
-unfoldable pub placeKey : Subspace → Components → List ℕ
-placeKey s p = subspaceKey s ++ pathKey p
+unfoldable pub addressKey : Subspace → Components → List ℕ
+addressKey s p = subspaceKey s ++ pathKey p
 
 unfoldable pub openPath : Components → List ℕ
 openPath [] = []
@@ -19,12 +19,12 @@ openPath (c ∷ cs) = componentKey c ++ openPath cs
 unfoldable pub openKey : Subspace → Components → List ℕ
 openKey s p = subspaceKey s ++ openPath p
 
--- What the key of a record says, its place, and that without its end.
+-- What the key of a record says, its address, and its open address.
 abbrev pub tripleAt : KeyOrder → List ℕ → Triple
 tripleAt o r = tripleRead (readIn o field (keyOf r))
 
-abbrev pub placeAt : KeyOrder → List ℕ → List ℕ
-placeAt o r = placeKey (tripleAt o r .subspace) (tripleAt o r .path)
+abbrev pub addressAt : KeyOrder → List ℕ → List ℕ
+addressAt o r = addressKey (tripleAt o r .subspace) (tripleAt o r .path)
 
 abbrev pub openAt : KeyOrder → List ℕ → List ℕ
 openAt o r = openKey (tripleAt o r .subspace) (tripleAt o r .path)

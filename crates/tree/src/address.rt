@@ -1,5 +1,5 @@
-// The place of a record: the bytes of its subspace and path, which stand in one piece in both keys. Without its end it begins the places
-// of all that the entry covers: most records are told apart by these bytes, and only the others are read.
+// The address of a record: the bytes of its subspace and path, which stand in one piece in both keys. Without its end it is open, and
+// begins the addresses of all that the entry covers.
 use crate::stored::KeyOrder;
 use crate::stored::encode_key;
 use crate::stored::key_at;
@@ -16,7 +16,7 @@ ghost use Rattle.layout.specs.Layout.{recordAt};
 ghost use Rattle.data_model.specs.Path.{field, legal, components};
 ghost use Rattle.keys.specs.Encode.{pathKey, keyMost};
 ghost use Rattle.tree.specs.Tree.{Readable};
-ghost use Rattle.tree.specs.Place.{placeKey, tripleAt, placeAt, openAt};
+ghost use Rattle.tree.specs.Address.{addressKey, tripleAt, addressAt, openAt};
 
 // The bytes of a subspace, of a path's end, and of a timestamp.
 pub const SUBSPACE: usize = 16;
@@ -25,9 +25,10 @@ pub const END: usize = 2;
 
 const TIME: usize = 8;
 
-pub fn place_at<'a>(order: KeyOrder, dir: &[u32], tree: &'a [u8], k: usize) -> &'a [u8]
+// The address of record k, as a part of the tree.
+pub fn address_at<'a>(order: KeyOrder, dir: &[u32], tree: &'a [u8], k: usize) -> &'a [u8]
     requires { ⌜ Readable order k (now dir) (now tree) ⌝ }
-    ensures { λ r. ⌜ now r ≡ placeAt order (recordAt k (now (dir .entry)) (now (tree .entry))) ⌝ }
+    ensures { λ r. ⌜ now r ≡ addressAt order (recordAt k (now (dir .entry)) (now (tree .entry))) ⌝ }
 {
     let key = key_at(tree, dir, k);
     let n = key.len();
@@ -37,35 +38,38 @@ pub fn place_at<'a>(order: KeyOrder, dir: &[u32], tree: &'a [u8], k: usize) -> &
     }
 }
 
+// The open address of record k: without the end of its path.
 pub fn open_at<'a>(order: KeyOrder, dir: &[u32], tree: &'a [u8], k: usize) -> &'a [u8]
     requires { ⌜ Readable order k (now dir) (now tree) ⌝ }
     ensures { λ r. ⌜ now r ≡ openAt order (recordAt k (now (dir .entry)) (now (tree .entry))) ⌝ }
 {
-    let place = place_at(order, dir, tree, k);
-    let n = place.len();
-    &place[..n - END]
+    let address = address_at(order, dir, tree, k);
+    let n = address.len();
+    &address[..n - END]
 }
 
-// The parts of a place: its subspace, and the bytes of its path.
+// The subspace of record k, read off its address.
 pub fn subspace_at(order: KeyOrder, dir: &[u32], tree: &[u8], k: usize) -> Subspace
     requires { ⌜ Readable order k (now dir) (now tree) ⌝ }
     ensures { λ r. ⌜ r ≡ tripleAt order (recordAt k (now (dir .entry)) (now (tree .entry))) .subspace ⌝ }
 {
-    let place = place_at(order, dir, tree, k);
+    let address = address_at(order, dir, tree, k);
     Subspace {
-        high: read_u64(place),
-        low: read_u64(&place[8..]),
+        high: read_u64(address),
+        low: read_u64(&address[8..]),
     }
 }
 
+// The bytes of record k's path, with their end.
 pub fn path_at<'a>(order: KeyOrder, dir: &[u32], tree: &'a [u8], k: usize) -> &'a [u8]
     requires { ⌜ Readable order k (now dir) (now tree) ⌝ }
     ensures { λ r. ⌜ now r ≡ pathKey (tripleAt order (recordAt k (now (dir .entry)) (now (tree .entry))) .path) ⌝ }
 {
-    let place = place_at(order, dir, tree, k);
-    &place[SUBSPACE..]
+    let address = address_at(order, dir, tree, k);
+    &address[SUBSPACE..]
 }
 
+// The timestamp of record k.
 pub fn time_at(order: KeyOrder, dir: &[u32], tree: &[u8], k: usize) -> u64
     requires { ⌜ Readable order k (now dir) (now tree) ⌝ }
     ensures { λ r. ⌜ r ≡ tripleAt order (recordAt k (now (dir .entry)) (now (tree .entry))) .timestamp ⌝ }
@@ -78,36 +82,36 @@ pub fn time_at(order: KeyOrder, dir: &[u32], tree: &[u8], k: usize) -> u64
     }
 }
 
-// Places differ mostly in the last byte of the last component, which stands before its end: a difference there tells at once.
-fn alike_near_end(place: &[u8], front: &[u8]) -> bool
-    requires { ⌜ length (now front) ≤ length (now place) ⌝ }
-    ensures { λ r. ⌜ (r ≡ false → prefixOf sameNumber (now (front .entry)) (now (place .entry)) ≡ false) ⌝ }
+// Addresses differ mostly in the last byte of the last component, which stands before its end: a difference there tells at once.
+fn alike_near_end(address: &[u8], front: &[u8]) -> bool
+    requires { ⌜ length (now front) ≤ length (now address) ⌝ }
+    ensures { λ r. ⌜ (r ≡ false → prefixOf sameNumber (now (front .entry)) (now (address .entry)) ≡ false) ⌝ }
 {
     let n = front.len();
     if n < 3 {
         return true;
     }
-    place[n - 3] == front[n - 3]
+    address[n - 3] == front[n - 3]
 }
 
-// Whether a place begins with these bytes.
-pub fn begins(place: &[u8], front: &[u8]) -> bool
-    ensures { λ r. ⌜ r ≡ prefixOf sameNumber (now (front .entry)) (now (place .entry)) ⌝ }
+// Whether an address begins with these bytes.
+pub fn begins(address: &[u8], front: &[u8]) -> bool
+    ensures { λ r. ⌜ r ≡ prefixOf sameNumber (now (front .entry)) (now (address .entry)) ⌝ }
 {
     let n = front.len();
-    if place.len() < n {
+    if address.len() < n {
         return false;
     }
-    if !alike_near_end(place, front) {
+    if !alike_near_end(address, front) {
         return false;
     }
-    same(front, &place[..n])
+    same(front, &address[..n])
 }
 
-// Writes a place at the front of the buffer, which has room for a key, and answers how many bytes.
-pub fn write_place(subspace: Subspace, path: Path, out: &mut [u8]) -> usize
+// Writes an address at the front of the buffer, which has room for a key, and answers how many bytes.
+pub fn write_address(subspace: Subspace, path: Path, out: &mut [u8]) -> usize
     requires { ⌜ (legal field path ≡ true) × (keyMost field ≤ length (now out)) ⌝ }
-    ensures { λ r. ⌜ (2 ≤ r) × (r ≤ keyMost field) × (take r (now (out .exit)) ≡ placeKey subspace (components path)) ⌝ }
+    ensures { λ r. ⌜ (2 ≤ r) × (r ≤ keyMost field) × (take r (now (out .exit)) ≡ addressKey subspace (components path)) ⌝ }
 {
     encode_key(KeyOrder::Spt, subspace, path, 0, out) - TIME
 }
@@ -118,5 +122,5 @@ pub fn write_path(path: Path, out: &mut [u8]) -> usize
     ensures { λ r. ⌜ (18 ≤ r) × (r ≤ keyMost field) × (take (r - 16) (drop 16 (now (out .exit))) ≡ pathKey (components path)) ⌝ }
 {
     let none = Subspace { high: 0, low: 0 };
-    write_place(none, path, out)
+    write_address(none, path, out)
 }

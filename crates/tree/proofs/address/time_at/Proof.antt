@@ -4,10 +4,10 @@ use mathlib.Core.Path.{refl}
 use native.Mathlib.Omega.{arith}
 use lib.ListN.{length, drop, length-drop}
 use lib.Seq.{length-take-le}
-use Rattle.tree.proofs.PlaceLaws.{key-long, time-spt, time-tsp}
+use Rattle.tree.proofs.AddressLaws.{key-long, time-spt, time-tsp}
 use borrow.Author.Needs.{needs}
-use Rattle.tree.proofs.place.time_at.Statement.{statement}
-use Rattle.tree.proofs.place.time_at.Tie as tie
+use Rattle.tree.proofs.address.time_at.Statement.{statement}
+use Rattle.tree.proofs.address.time_at.Tie as tie
 
 key-at-requires : tie.Need-key-at-requires
 key-at-requires c κs = c .before .before .pre .bounds

@@ -1,4 +1,4 @@
--- The place of a record in its key, and what places that do not begin alike say: the one entry does not cover the other.
+-- The address of a record in its key, and what addresses that do not begin alike say: the one entry does not cover the other.
 -- Assumes nothing.
 use Prim.Native.Nat.{ℕ, zero, suc, _+_, _-_, _≤_, _<_}
 use mathlib.Core.Path.{_≡_, refl, sym, ap, ap₂, _∙_}
@@ -33,7 +33,7 @@ use Rattle.tree.specs.Value.{valueLength, readValue, isValue}
 use Rattle.tree.specs.Stored.{keyIn, keyOf, valuePart, isKey, isRecord, storedFrom, stored}
 use Rattle.tree.specs.Tree.{Readable}
 use Rattle.tree.specs.Matching.{outdates, removes, standsAt}
-use Rattle.tree.specs.Place.{placeKey, openPath, openKey, tripleAt, placeAt, openAt}
+use Rattle.tree.specs.Address.{addressKey, openPath, openKey, tripleAt, addressAt, openAt}
 use Rattle.tree.specs.declared.stored.KeyOrder.{KeyOrder}
 use Rattle.tree.specs.declared.stored.KeyOrder.the-variants.{Spt, Tsp}
 use Rattle.tree.proofs.RecordLaws.{key-is-forth, key-least}
@@ -46,14 +46,14 @@ unfolding pathKey openPath
 path-open [] = refl
 path-open (c ∷ cs) = ap (componentKey c ++_) (path-open cs) ∙ sym (append-assoc (componentKey c) (openPath cs) pathEnd)
 
-pub place-open : (s : Subspace) (p : Components) → placeKey s p ≡ openKey s p ++ pathEnd
-unfolding placeKey openKey
-place-open s p = ap (subspaceKey s ++_) (path-open p) ∙ sym (append-assoc (subspaceKey s) (openPath p) pathEnd)
+pub address-open : (s : Subspace) (p : Components) → addressKey s p ≡ openKey s p ++ pathEnd
+unfolding addressKey openKey
+address-open s p = ap (subspaceKey s ++_) (path-open p) ∙ sym (append-assoc (subspaceKey s) (openPath p) pathEnd)
 
--- A place without its last two bytes.
-pub open-part : (s : Subspace) (p : Components) (n : ℕ) (l : List ℕ) → l ≡ placeKey s p → n ≡ length l - 2 → (2 ≤ length l) × (take n l ≡ openKey s p)
+-- An address without its last two bytes.
+pub open-part : (s : Subspace) (p : Components) (n : ℕ) (l : List ℕ) → l ≡ addressKey s p → n ≡ length l - 2 → (2 ≤ length l) × (take n l ≡ openKey s p)
 open-part s p n l e h =
-    let q : l ≡ openKey s p ++ pathEnd = e ∙ place-open s p in
+    let q : l ≡ openKey s p ++ pathEnd = e ∙ address-open s p in
     let m : length l ≡ length (openKey s p) + 2 = ap length q ∙ length-append (openKey s p) pathEnd in
     (omega arith, ap (take n) q ∙ take-at (openKey s p) pathEnd n (omega arith))
 
@@ -91,8 +91,8 @@ open-begins [] ds = refl
 open-begins (c ∷ cs) [] = component-end c (openPath cs)
 open-begins (c ∷ cs) (d ∷ ds) = component-begins c d (openPath cs) (pathKey ds) ∙ ap (sameComponent c d &&_) (open-begins cs ds)
 
-pub covers-begins : (a b : Entry) → covers a b ≡ true → prefixOf sameNumber (openKey (a .subspace) (a .path)) (placeKey (b .subspace) (b .path)) ≡ true
-unfolding placeKey openKey
+pub covers-begins : (a b : Entry) → covers a b ≡ true → prefixOf sameNumber (openKey (a .subspace) (a .path)) (addressKey (b .subspace) (b .path)) ≡ true
+unfolding addressKey openKey
 covers-begins a b e =
     let v = covers-view a b e in
     ap (λ (s : Subspace). prefixOf sameNumber (subspaceKey s ++ openPath (a .path)) (subspaceKey (b .subspace) ++ pathKey (b .path))) (v .subspace)
@@ -100,25 +100,25 @@ covers-begins a b e =
     ∙ open-begins (a .path) (b .path)
     ∙ v .path
 
-pub covers-not : (a b : Entry) (front place : List ℕ) → front ≡ openKey (a .subspace) (a .path) → place ≡ placeKey (b .subspace) (b .path)
-    → (t : Bool) → t ≡ prefixOf sameNumber front place → not t ≡ true → covers a b ≡ false
-covers-not a b front place eo ep t e h = refute (covers a b) λ c. clash (e ∙ ap₂ (prefixOf sameNumber) eo ep ∙ covers-begins a b c) (not-true t h)
+pub covers-not : (a b : Entry) (front address : List ℕ) → front ≡ openKey (a .subspace) (a .path) → address ≡ addressKey (b .subspace) (b .path)
+    → (t : Bool) → t ≡ prefixOf sameNumber front address → not t ≡ true → covers a b ≡ false
+covers-not a b front address eo ep t e h = refute (covers a b) λ c. clash (e ∙ ap₂ (prefixOf sameNumber) eo ep ∙ covers-begins a b c) (not-true t h)
 
 -- Two answers of a test for a beginning.
-module _ (front place : List ℕ) where
-  pub begins-short : length place < length front → false ≡ prefixOf sameNumber front place
-  begins-short h = sym (prefix-take sameNumber front place ∙ ap (λ (b : Bool). b && sameList sameNumber front (take (length front) place)) (lt-leb (length front) (length place) h))
+module _ (front address : List ℕ) where
+  pub begins-short : length address < length front → false ≡ prefixOf sameNumber front address
+  begins-short h = sym (prefix-take sameNumber front address ∙ ap (λ (b : Bool). b && sameList sameNumber front (take (length front) address)) (lt-leb (length front) (length address) h))
 
-  pub begins-long : length front ≤ length place → (t : Bool) → t ≡ sameList sameNumber front (take (length front) place) → t ≡ prefixOf sameNumber front place
-  begins-long h t e = e ∙ sym (prefix-take sameNumber front place ∙ ap (λ (b : Bool). b && sameList sameNumber front (take (length front) place)) (le-leb (length front) (length place) h))
+  pub begins-long : length front ≤ length address → (t : Bool) → t ≡ sameList sameNumber front (take (length front) address) → t ≡ prefixOf sameNumber front address
+  begins-long h t e = e ∙ sym (prefix-take sameNumber front address ∙ ap (λ (b : Bool). b && sameList sameNumber front (take (length front) address)) (le-leb (length front) (length address) h))
 
--- What differs at a place does not begin alike.
-pub begins-not : (front place : List ℕ) (i : ℕ) → i < length front → eqb (getD place i 0) (getD front i 0) ≡ false → prefixOf sameNumber front place ≡ false
-begins-not front place i h e = refute (prefixOf sameNumber front place) λ t.
-    let k = and-true (leb (length front) (length place)) (sameList sameNumber front (take (length front) place)) (sym (prefix-take sameNumber front place) ∙ t) in
-    let q : front ≡ take (length front) place = component-equality .equal front (take (length front) place) (k .1) in
-    let d : getD place i 0 ≡ getD front i 0 = sym (getD-take (length front) place i 0 h) ∙ ap (λ (l : List ℕ). getD l i 0) (sym q) in
-    clash (eq-eqb (getD place i 0) (getD front i 0) d) e
+-- What differs at an index does not begin alike.
+pub begins-not : (front address : List ℕ) (i : ℕ) → i < length front → eqb (getD address i 0) (getD front i 0) ≡ false → prefixOf sameNumber front address ≡ false
+begins-not front address i h e = refute (prefixOf sameNumber front address) λ t.
+    let k = and-true (leb (length front) (length address)) (sameList sameNumber front (take (length front) address)) (sym (prefix-take sameNumber front address) ∙ t) in
+    let q : front ≡ take (length front) address = component-equality .equal front (take (length front) address) (k .1) in
+    let d : getD address i 0 ≡ getD front i 0 = sym (getD-take (length front) address i 0 h) ∙ ap (λ (l : List ℕ). getD l i 0) (sym q) in
+    clash (eq-eqb (getD address i 0) (getD front i 0) d) e
 
 -- The key of a record that was tested is that of what it says.
 pub key-says : (o : KeyOrder) (r : List ℕ) → Bytes r → isRecord o field r ≡ true → (keyOf r ≡ keyIn o (tripleAt o r)) × Sized (tripleAt o r)
@@ -129,21 +129,21 @@ key-says o r b e =
     let f = key-is-forth o field (keyOf r) (bytes-take (length r - valueLength) r b) (m .0) in
     (sym (f .0), f .2)
 
--- The parts of a place.
-module _ (s : Subspace) (p : Components) (l : List ℕ) (e : l ≡ placeKey s p) where
-  pub place-long : 18 ≤ length l
-  unfolding placeKey
-  place-long =
+-- The parts of an address.
+module _ (s : Subspace) (p : Components) (l : List ℕ) (e : l ≡ addressKey s p) where
+  pub address-long : 18 ≤ length l
+  unfolding addressKey
+  address-long =
       omega (arith, ap length (e ∙ ap (subspaceKey s ++_) (path-open p)), length-append (subspaceKey s) (openPath p ++ pathEnd), length-append (openPath p) pathEnd, subspace-length s)
 
-  pub place-path : drop 16 l ≡ pathKey p
-  unfolding placeKey
-  place-path = ap (drop 16) e ∙ drop-at (subspaceKey s) (pathKey p) 16 (subspace-length s)
+  pub address-path : drop 16 l ≡ pathKey p
+  unfolding addressKey
+  address-path = ap (drop 16) e ∙ drop-at (subspaceKey s) (pathKey p) 16 (subspace-length s)
 
--- The subspace of record k, read off its place.
-pub subspace-read : {o : KeyOrder} {k : ℕ} {dir tree : List ℕ} → Readable o k dir tree → Bytes tree → (l : List ℕ) → l ≡ placeAt o (recordAt k dir tree)
+-- The subspace of record k, read off its address.
+pub subspace-read : {o : KeyOrder} {k : ℕ} {dir tree : List ℕ} → Readable o k dir tree → Bytes tree → (l : List ℕ) → l ≡ addressAt o (recordAt k dir tree)
     → (m n : ℕ) → m ≡ number l → n ≡ number (take (length l - 8) (drop 8 l)) → record { high = m; low = n } ≡ tripleAt o (recordAt k dir tree) .subspace
-unfolding placeKey subspaceAt
+unfolding addressKey subspaceAt
 subspace-read {o} {k} {dir} {tree} v b l e m n q r =
     let t = tripleAt o (recordAt k dir tree) in
     let z = key-says o (recordAt k dir tree) (at-bytes k dir tree b) (v .is) .1 in
@@ -151,7 +151,7 @@ subspace-read {o} {k} {dir} {tree} v b l e m n q r =
     let is : subspaceAt l ≡ t .subspace = ap subspaceAt e ∙ subspace-back (t .subspace) (pathKey (t .path)) (z .high) (z .low) in
     (λ i. record { high = q i; low = low i }) ∙ is
 
--- In the key of record k: its place, and its time.
+-- In the key of record k: its address, and its time.
 module _ {o : KeyOrder} {k : ℕ} {dir tree : List ℕ} (v : Readable o k dir tree) (b : Bytes tree) (key : List ℕ) (e : key ≡ keyOf (recordAt k dir tree)) where
   says : (keyOf (recordAt k dir tree) ≡ keyIn o (tripleAt o (recordAt k dir tree))) × Sized (tripleAt o (recordAt k dir tree))
   says = key-says o (recordAt k dir tree) (at-bytes k dir tree b) (v .is)
@@ -159,47 +159,47 @@ module _ {o : KeyOrder} {k : ℕ} {dir tree : List ℕ} (v : Readable o k dir tr
   pub key-long : 26 ≤ length key
   key-long = omega (arith, ap length (e ∙ says .0), key-least o (tripleAt o (recordAt k dir tree)))
 
-  spt-is : o ≡ Spt → key ≡ placeAt o (recordAt k dir tree) ++ be 8 (tripleAt o (recordAt k dir tree) .timestamp)
-  unfolding keyIn sptKey placeKey
+  spt-is : o ≡ Spt → key ≡ addressAt o (recordAt k dir tree) ++ be 8 (tripleAt o (recordAt k dir tree) .timestamp)
+  unfolding keyIn sptKey addressKey
   spt-is q =
       let t = tripleAt o (recordAt k dir tree) in
       e ∙ says .0 ∙ ap (λ (x : KeyOrder). keyIn x t) q ∙ sym (append-assoc (subspaceKey (t .subspace)) (pathKey (t .path)) (be 8 (t .timestamp)))
 
-  tsp-is : o ≡ Tsp → key ≡ be 8 (tripleAt o (recordAt k dir tree) .timestamp) ++ placeAt o (recordAt k dir tree)
-  unfolding keyIn tspKey placeKey
+  tsp-is : o ≡ Tsp → key ≡ be 8 (tripleAt o (recordAt k dir tree) .timestamp) ++ addressAt o (recordAt k dir tree)
+  unfolding keyIn tspKey addressKey
   tsp-is q = e ∙ says .0 ∙ ap (λ (x : KeyOrder). keyIn x (tripleAt o (recordAt k dir tree))) q
 
-  pub place-spt : o ≡ Spt → (n : ℕ) → n ≡ length key - 8 → take n key ≡ placeAt o (recordAt k dir tree)
-  place-spt q n m =
-      let p = placeAt o (recordAt k dir tree) in
+  pub address-spt : o ≡ Spt → (n : ℕ) → n ≡ length key - 8 → take n key ≡ addressAt o (recordAt k dir tree)
+  address-spt q n m =
+      let p = addressAt o (recordAt k dir tree) in
       let z = be 8 (tripleAt o (recordAt k dir tree) .timestamp) in
       ap (take n) (spt-is q) ∙ take-at p z n (omega (arith, ap length (spt-is q), length-append p z, be-length 8 (tripleAt o (recordAt k dir tree) .timestamp)))
 
-  pub place-tsp : o ≡ Tsp → take (length key - 8) (drop 8 key) ≡ placeAt o (recordAt k dir tree)
-  place-tsp q =
-      let p = placeAt o (recordAt k dir tree) in
+  pub address-tsp : o ≡ Tsp → take (length key - 8) (drop 8 key) ≡ addressAt o (recordAt k dir tree)
+  address-tsp q =
+      let p = addressAt o (recordAt k dir tree) in
       let z = be 8 (tripleAt o (recordAt k dir tree) .timestamp) in
       take-all (length key - 8) (drop 8 key) (omega (arith, length-drop 8 key))
       ∙ ap (drop 8) (tsp-is q) ∙ drop-at z p 8 (be-length 8 (tripleAt o (recordAt k dir tree) .timestamp))
 
   pub time-spt : o ≡ Spt → (n : ℕ) → n ≡ length key - 8 → (x : ℕ) → x ≡ number (take (length key - n) (drop n key)) → x ≡ tripleAt o (recordAt k dir tree) .timestamp
   time-spt q n m x f =
-      let p = placeAt o (recordAt k dir tree) in
+      let p = addressAt o (recordAt k dir tree) in
       let y = tripleAt o (recordAt k dir tree) .timestamp in
       f ∙ ap number (take-all (length key - n) (drop n key) (omega (arith, length-drop n key))
       ∙ ap (drop n) (spt-is q) ∙ drop-at p (be 8 y) n (omega (arith, ap length (spt-is q), length-append p (be 8 y), be-length 8 y)) ∙ sym (append-nil (be 8 y)))
       ∙ number-back y [] (says .1 .time)
 
   pub time-tsp : o ≡ Tsp → (x : ℕ) → x ≡ number key → x ≡ tripleAt o (recordAt k dir tree) .timestamp
-  time-tsp q x f = f ∙ ap number (tsp-is q) ∙ number-back (tripleAt o (recordAt k dir tree) .timestamp) (placeAt o (recordAt k dir tree)) (says .1 .time)
+  time-tsp q x f = f ∙ ap number (tsp-is q) ∙ number-back (tripleAt o (recordAt k dir tree) .timestamp) (addressAt o (recordAt k dir tree)) (says .1 .time)
 
 -- A key that was written, less its time.
-pub place-wrote : (s : Subspace) (p : Path) (old out : List ℕ) (n m : ℕ) → legal field p ≡ true → n ≡ length (keyIn Spt (triple s (components p) 0)) → out ≡ put (keyIn Spt (triple s (components p) 0)) old
-    → n ≡ m + 8 → (2 ≤ m) × (m ≤ keyMost field) × (take m out ≡ placeKey s (components p))
-unfolding keyIn sptKey placeKey put
-place-wrote s p old out n m l en eo h =
+pub address-wrote : (s : Subspace) (p : Path) (old out : List ℕ) (n m : ℕ) → legal field p ≡ true → n ≡ length (keyIn Spt (triple s (components p) 0)) → out ≡ put (keyIn Spt (triple s (components p) 0)) old
+    → n ≡ m + 8 → (2 ≤ m) × (m ≤ keyMost field) × (take m out ≡ addressKey s (components p))
+unfolding keyIn sptKey addressKey put
+address-wrote s p old out n m l en eo h =
     let k = keyIn Spt (triple s (components p) 0) in
-    let w = placeKey s (components p) in
+    let w = addressKey s (components p) in
     let q : k ≡ w ++ be 8 0 = sym (append-assoc (subspaceKey s) (pathKey (components p)) (be 8 0)) in
     let z : length k ≡ length w + 8 = ap length q ∙ length-append w (be 8 0) ∙ ap (length w +_) (be-length 8 0) in (
       omega (arith, key-least Spt (triple s (components p) 0)),
@@ -209,32 +209,24 @@ place-wrote s p old out n m l en eo h =
 
 -- What bytes alone tell of a record.
 module _ (o : KeyOrder) (ns r : List ℕ) where
-  pub removes-not : (e : Entry) (front place : List ℕ) → front ≡ openKey (e .subspace) (e .path) → place ≡ placeAt o r → (t : Bool) → t ≡ prefixOf sameNumber front place → not t ≡ true
+  pub removes-not : (e : Entry) (front address : List ℕ) → front ≡ openKey (e .subspace) (e .path) → address ≡ addressAt o r → (t : Bool) → t ≡ prefixOf sameNumber front address → not t ≡ true
       → false ≡ removes e (stored o field ns r)
   unfolding removes stored storedFrom
-  removes-not e front place eo ep t h n = rw (covers-not e (stored o field ns r .entry) front place eo ep t h n)
+  removes-not e front address eo ep t h n = rw (covers-not e (stored o field ns r .entry) front address eo ep t h n)
 
-  pub outdates-not : (e : Entry) (front place : List ℕ) → front ≡ openAt o r → place ≡ placeKey (e .subspace) (e .path) → (t : Bool) → t ≡ prefixOf sameNumber front place → not t ≡ true
+  pub outdates-not : (e : Entry) (front address : List ℕ) → front ≡ openAt o r → address ≡ addressKey (e .subspace) (e .path) → (t : Bool) → t ≡ prefixOf sameNumber front address → not t ≡ true
       → false ≡ outdates e (stored o field ns r)
   unfolding outdates prunes stored storedFrom
-  outdates-not e front place eo ep t h n = rw (covers-not (stored o field ns r .entry) e front place eo ep t h n)
+  outdates-not e front address eo ep t h n = rw (covers-not (stored o field ns r .entry) e front address eo ep t h n)
 
-  pub stands-not : (s : Subspace) (p : Components) (place mine : List ℕ) → place ≡ placeAt o r → mine ≡ placeKey s p → (t : Bool) → t ≡ sameList sameNumber place mine → not t ≡ true
-      → false ≡ standsAt s p (stored o field ns r)
-  unfolding standsAt stored storedFrom
-  stands-not s p place mine ep em t h n = sym (refute (standsAt s p (stored o field ns r)) λ c.
-      let k = and-true (sameSubspace (tripleAt o r .subspace) s) (samePath (tripleAt o r .path) p) c in
-      let q : place ≡ mine = ep ∙ ap₂ placeKey (subspace-equality .equal (tripleAt o r .subspace) s (k .0)) (path-equality .equal (tripleAt o r .path) p (k .1)) ∙ sym em in
-      clash (h ∙ ap (λ (x : List ℕ). sameList sameNumber x mine) q ∙ component-equality .self mine) (not-true t n))
-
--- The same without the end.
-pub front-wrote : (s : Subspace) (p : Components) (buf : List ℕ) (r n : ℕ) → take r buf ≡ placeKey s p → r ≤ length buf → n ≡ r - 2 → take n buf ≡ openKey s p
+-- An address that was written, without its end.
+pub front-wrote : (s : Subspace) (p : Components) (buf : List ℕ) (r n : ℕ) → take r buf ≡ addressKey s p → r ≤ length buf → n ≡ r - 2 → take n buf ≡ openKey s p
 front-wrote s p buf r n e h q =
     sym (take-take n r buf (omega arith)) ∙ open-part s p n (take r buf) e (q ∙ ap (_- 2) (sym (length-take-le r buf h))) .1
 
 -- The bytes of a path that was written behind its subspace, and these without their end.
-pub path-wrote : (s : Subspace) (p : Components) (buf : List ℕ) (r : ℕ) → take r buf ≡ placeKey s p → r ≤ length buf → (18 ≤ r) × (take (r - 16) (drop 16 buf) ≡ pathKey p)
-path-wrote s p buf r e h = (omega (arith, place-long s p (take r buf) e, length-take-le r buf h), sym (drop-cut 16 r buf) ∙ place-path s p (take r buf) e)
+pub path-wrote : (s : Subspace) (p : Components) (buf : List ℕ) (r : ℕ) → take r buf ≡ addressKey s p → r ≤ length buf → (18 ≤ r) × (take (r - 16) (drop 16 buf) ≡ pathKey p)
+path-wrote s p buf r e h = (omega (arith, address-long s p (take r buf) e, length-take-le r buf h), sym (drop-cut 16 r buf) ∙ address-path s p (take r buf) e)
 
 pub front-path : (p : Components) (buf : List ℕ) (r m : ℕ) → take (r - 16) (drop 16 buf) ≡ pathKey p → r ≤ length buf → 18 ≤ r → m ≡ r - 2 → take (m - 16) (drop 16 buf) ≡ openPath p
 front-path p buf r m e h w q =
