@@ -7,11 +7,13 @@ use mathlib.Core.Bool.{Bool, true, false, cond}
 use native.Mathlib.Omega.{arith}
 use lib.Dec.{eqb}
 use lib.ListN.{length, getD, replicate}
-use borrow.Author.Tests.{eq-eqb, ne-eqb, eqb-true}
+use borrow.Author.Tests.{eq-eqb, ne-eqb, eqb-true, eqb-false}
+use Rattle.laws.proofs.Truth.{split}
 use Rattle.laws.proofs.Lists.{put-zeros}
 use Rattle.data_model.specs.Path.{Figures, field, Component, Components, joined, endsFrom, valueOf, pathOf}
 use Rattle.keys.specs.Encode.{Triple}
-use Rattle.keys.specs.Decode.{Taken, refused, took, bind, tokenOf, endsPath, readComponent, readPath, partOf, Filled, nextSays, componentSays, nextComponent, componentRead, pathRead, numberFrom, number, whole, decoded}
+use Rattle.keys.specs.Decode.{Taken, refused, took, bind, tokenOf, endsPath, readComponent, readPath, partOf, Filled, nextSays, componentSays, nextComponent, componentRead, pathRead, numberFrom, number, whole, wasRead, decoded}
+use Rattle.keys.specs.Judge.{takes, fills}
 use Rattle.data_model.specs.declared.path.Path.{Path}
 use Rattle.data_model.specs.declared.parameters.Subspace.{Subspace}
 use Rattle.keys.specs.declared.decode.Part.the-variants as part
@@ -168,6 +170,26 @@ module _ (before after len : ℕ) (f : Components → ℕ → Triple) where
   unfolding whole bind
   whole-is refused v n e = absurd (let z : _≡_ {A = ℕ} 0 1 = cc in omega arith)
   whole-is (took cs u) v n e = whole-cond cs u v n (eqb (before + u + after) len) refl e
+
+-- A key is judged by the bytes of its path, and by those before and behind it.
+module _ (before behind len : ℕ) where
+  pub fills-whole : (f : Components → ℕ → Triple) (t : Taken Components) → fills before behind len t ≡ wasRead (whole before behind len f t)
+  unfolding fills wasRead whole bind
+  fills-whole f refused = refl
+  fills-whole f (took cs u) = split (eqb (before + u + behind) len) (λ e. rw e) (λ e. rw e)
+
+  pub fills-short : (t : Taken Components) → len < before + behind → false ≡ fills before behind len t
+  unfolding fills
+  fills-short refused h = refl
+  fills-short (took cs u) h = sym (ne-eqb (before + u + behind) len (λ e. omega arith))
+
+  pub fills-takes : (t : Taken Components) → before + behind ≤ len → takes (len - before - behind) t ≡ fills before behind len t
+  unfolding fills takes
+  fills-takes refused h = refl
+  fills-takes (took cs u) h =
+      split (eqb u (len - before - behind))
+      (λ e. let d = eqb-true u (len - before - behind) e in e ∙ sym (eq-eqb (before + u + behind) len (omega (arith, d))))
+      (λ e. let d = eqb-false u (len - before - behind) e in e ∙ sym (ne-eqb (before + u + behind) len (λ g. d (omega arith))))
 
 -- The answer for a triple.
 pub decoded-took : (t : Taken Triple) (v : Triple) (len : ℕ) (s : Subspace) (p : Path) (x : ℕ) → t ≡ took v len

@@ -2,5 +2,8 @@ pub mod Encoding
 pub mod Reading
 pub mod Walking
 pub mod Decoding
-pub mod Passing
+pub mod Counting
+pub mod Automaton
+pub mod Places
+pub mod Exact
 pub mod Stretches

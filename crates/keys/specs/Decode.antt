@@ -169,33 +169,3 @@ partOf (took c u) = part.Took (length c) u
 abbrev pub Filled : {A : Type 0} → (A → List ℕ) → Taken A → List ℕ → List ℕ → Type 0
 Filled f refused old new = Unit
 Filled f (took a u) old new = new ≡ put (f a) old
-
--- Of the w bytes from a place on: whether each 00 stands before a 01 or a 02, how many are not 00, and how many are a 00 before a 01.
-abbrev pub bit : Bool → ℕ
-bit b = cond b 1 0
-
-abbrev pub sound : (w at : ℕ) → List ℕ → Bool
-sound zero at k = true
-sound (suc w) at k = (not (eqb (getD k at 0) 0) || (eqb (getD k (at + 1) 0) 1 || eqb (getD k (at + 1) 0) 2)) && sound w (at + 1) k
-
-abbrev pub others : (w at : ℕ) → List ℕ → ℕ
-others zero at k = 0
-others (suc w) at k = bit (not (eqb (getD k at 0) 0)) + others w (at + 1) k
-
-abbrev pub ended : ℕ → List ℕ → Bool
-ended at k = eqb (getD k at 0) 0 && eqb (getD k (at + 1) 0) 1
-
-abbrev pub endings : (w at : ℕ) → List ℕ → ℕ
-endings zero at k = 0
-endings (suc w) at k = bit (ended at k) + endings w (at + 1) k
-
-abbrev pub kept : (len ends : ℕ) → ℕ
-kept len ends = cond (eqb ends 0) len 0
-
--- A component ends, and then the path.
-abbrev pub closed : ℕ → List ℕ → Bool
-closed at k = (ended at k && eqb (getD k (at + 2) 0) 0) && eqb (getD k (at + 3) 0) 0
-
--- Something was read, of so many bytes.
-abbrev pub Takes : {A : Type 0} → Taken A → ℕ → Type 0
-Takes {A} t u = (a : A) × (t ≡ took a u)

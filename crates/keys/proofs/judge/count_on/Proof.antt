@@ -1,5 +1,5 @@
 -- `count_on` meets its contract. Assumes nothing.
-use Rattle.keys.proofs.Stretches.{kept-all, kept-none}
+use Rattle.keys.proofs.Counting.{kept-all, kept-none}
 use Rattle.keys.proofs.judge.count_on.Statement.{statement}
 use Rattle.keys.proofs.judge.count_on.Tie as tie
 

@@ -1,10 +1,10 @@
--- `tally_of` meets its contract. Assumes nothing.
+-- `counts_of` meets its contract. Assumes nothing.
 use Prim.Native.Nat.{_-_}
 use native.Mathlib.Omega.{arith}
-use Rattle.keys.proofs.Stretches.{Counting, counting-start, counting-turn, counted}
+use Rattle.keys.proofs.Counting.{Counting, counting-start, counting-turn, counted}
 use borrow.Author.Needs.{needs}
-use Rattle.keys.proofs.judge.tally_of.Statement.{statement}
-use Rattle.keys.proofs.judge.tally_of.Tie as tie
+use Rattle.keys.proofs.judge.counts_of.Statement.{statement}
+use Rattle.keys.proofs.judge.counts_of.Tie as tie
 
 abbrev Inv-loop : tie.InvT-loop
 Inv-loop k at w j₀ ok₀ n₀ e₀ j ok n e = Counting w at k j ok n e
@@ -30,11 +30,23 @@ add-b-2 c = omega arith
 shared-slice-read-b : tie.Need-shared-slice-read-b Inv-loop μ-loop
 shared-slice-read-b c = omega arith
 
+array-read-ok : tie.Need-array-read-ok Inv-loop μ-loop
+array-read-ok c = omega arith
+
+array-read-ok-2 : tie.Need-array-read-ok-2 Inv-loop μ-loop
+array-read-ok-2 c = omega arith
+
 one-requires : tie.Need-one-requires Inv-loop μ-loop
 one-requires c κs = search needs
 
 add-n : tie.Need-add-n Inv-loop μ-loop
 add-n c = omega (arith, c .one .ensures .1, c .before .before .before .before .loop .inv .few-others)
+
+array-read-one : tie.Need-array-read-one Inv-loop μ-loop
+array-read-one c = omega arith
+
+array-read-one-2 : tie.Need-array-read-one-2 Inv-loop μ-loop
+array-read-one-2 c = omega arith
 
 one-requires-2 : tie.Need-one-requires-2 Inv-loop μ-loop
 one-requires-2 c κs = search needs
@@ -51,34 +63,14 @@ loop-less c = omega arith
 loop-again : tie.Need-loop-again Inv-loop μ-loop
 loop-again c = let l = c .before .before .before .before .before .loop in counting-turn _ _ _ (l .j) (l .ok) (l .n) (l .e) (l .inv) _ _ (omega arith) (c .before .one .ensures .0) (c .one2 .ensures .0)
 
-cast-t20 : tie.Need-cast-t20 Inv-loop μ-loop
-cast-t20 c = search needs
+cast-t34 : tie.Need-cast-t34 Inv-loop μ-loop
+cast-t34 c = search needs
 
-cast-t21 : tie.Need-cast-t21 Inv-loop μ-loop
-cast-t21 c = search needs
+cast-t35 : tie.Need-cast-t35 Inv-loop μ-loop
+cast-t35 c = search needs
 
 returns : tie.Need-returns Inv-loop μ-loop
 returns c = counted _ _ _ (c .before .loop .j) _ _ _ (c .before .loop .inv) (omega arith)
 
-pub tally-of-spec : {M : Type 1} → statement M
-tally-of-spec =
-    tie.close
-    (tie.spec
-    Inv-loop
-    μ-loop
-    loop-holds
-    add-a
-    shared-slice-read-a
-    add-b
-    add-b-2
-    shared-slice-read-b
-    one-requires
-    add-n
-    one-requires-2
-    add-e
-    add-j
-    loop-less
-    loop-again
-    cast-t20
-    cast-t21
-    returns)
+pub counts-of-spec : {M : Type 1} → statement M
+counts-of-spec = tie.close (tie.spec Inv-loop μ-loop loop-holds add-a shared-slice-read-a add-b add-b-2 shared-slice-read-b array-read-ok array-read-ok-2 one-requires add-n array-read-one array-read-one-2 one-requires-2 add-e add-j loop-less loop-again cast-t34 cast-t35 returns)
