@@ -1,2 +1,3 @@
 pub mod TakingPath
 pub mod Lending
+pub mod TakenApart
