@@ -1,4 +1,4 @@
--- `key_reader::decode_tsp_entry_key` meets its contract: the law of `TakenApart.antt`, at the callee `keys::decode::decode_tsp_entry_key_at`. All that the proof knows of the callee is that it meets its contract.
+-- `KeyReader::decode_tsp_entry_key` meets its contract: the law of `TakenApart.antt`, at the callee `keys::decode::decode_tsp_entry_key_at`. All that the proof knows of the callee is that it meets its contract.
 -- Assumes nothing.
 use mathlib.Core.Path.{_≡_}
 use lib.ListN.{drop}
@@ -12,9 +12,9 @@ use Rattle.keys.proofs.decode.Decoded.Laws as S′
 use Rattle.keys.proofs.decode.decode_tsp_entry_key_at.Symbol as callee
 use Rattle.keys.proofs.decode.decode_tsp_entry_key_at.Met as callee-thm
 use Rattle.key_reader.proofs.TakenApart.{taken-apart}
-use Rattle.key_reader.proofs.decode_tsp_entry_key.Key as own
-use Rattle.key_reader.proofs.decode_tsp_entry_key.Statement as stated
-use Rattle.key_reader.proofs.decode_tsp_entry_key.Code as code
+use Rattle.key_reader.proofs.KeyReader.decode_tsp_entry_key.Key as own
+use Rattle.key_reader.proofs.KeyReader.decode_tsp_entry_key.Statement as stated
+use Rattle.key_reader.proofs.KeyReader.decode_tsp_entry_key.Code as code
 
 pub decode-tsp-entry-key-spec : {M : Type 1} → stated.statement M
 unfolding code.routine

@@ -1,4 +1,4 @@
--- `key_reader::rest` meets its contract: the law of `TakenApart.antt`, at the callee `from_position`. All that the proof knows of the callee is that it meets its contract.
+-- `KeyReader::rest` meets its contract: the law of `TakenApart.antt`, at the callee `from_position`. All that the proof knows of the callee is that it meets its contract.
 -- Assumes nothing.
 use mathlib.Core.Path.{_≡_}
 use lib.ListN.{drop}
@@ -10,9 +10,9 @@ use denote.Slice.{ShrSlice, sliceTy, shr-slice-lawful}
 use Rattle.key_reader.proofs.from_position.Symbol as callee
 use Rattle.key_reader.proofs.from_position.Met as callee-thm
 use Rattle.key_reader.proofs.TakenApart.{taken-apart}
-use Rattle.key_reader.proofs.rest.Key as own
-use Rattle.key_reader.proofs.rest.Statement as stated
-use Rattle.key_reader.proofs.rest.Code as code
+use Rattle.key_reader.proofs.KeyReader.rest.Key as own
+use Rattle.key_reader.proofs.KeyReader.rest.Statement as stated
+use Rattle.key_reader.proofs.KeyReader.rest.Code as code
 
 pub rest-spec : {M : Type 1} → stated.statement M
 unfolding code.routine

@@ -1,4 +1,4 @@
--- `key_reader::decode_path` meets its contract: the law of `TakenApart.antt`, at the callee `keys::decode::decode_path`. All that the proof knows of the callee is that it meets its contract.
+-- `KeyReader::decode_path` meets its contract: the law of `TakenApart.antt`, at the callee `keys::decode::decode_path`. All that the proof knows of the callee is that it meets its contract.
 -- Assumes nothing.
 use mathlib.Core.Path.{_≡_}
 use lib.ListN.{drop}
@@ -12,9 +12,9 @@ use Rattle.keys.proofs.decode.PathRead.Laws as S′
 use Rattle.keys.proofs.decode.decode_path.Symbol as callee
 use Rattle.keys.proofs.decode.decode_path.Met as callee-thm
 use Rattle.key_reader.proofs.TakenApart.{taken-apart}
-use Rattle.key_reader.proofs.decode_path.Key as own
-use Rattle.key_reader.proofs.decode_path.Statement as stated
-use Rattle.key_reader.proofs.decode_path.Code as code
+use Rattle.key_reader.proofs.KeyReader.decode_path.Key as own
+use Rattle.key_reader.proofs.KeyReader.decode_path.Statement as stated
+use Rattle.key_reader.proofs.KeyReader.decode_path.Code as code
 
 pub decode-path-spec : {M : Type 1} → stated.statement M
 unfolding code.routine
