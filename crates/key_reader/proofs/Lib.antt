@@ -1,2 +1,4 @@
 pub mod TakingPath
 pub mod Lending
+pub mod TakenApart
+pub mod MadeNew

@@ -1,4 +1,4 @@
-// A reader that holds a key's bytes by reference, with its position. Its functions leave the work to the decoder on slice and number.
+// A reader that holds a key's bytes by reference, with its position. Its methods leave the work to the decoder on slice and number.
 // The borrow checker covers no function over such a struct: each is proved by a walk.
 use keys::decode::ComponentRead;
 use keys::decode::Decoded;
@@ -12,21 +12,10 @@ ghost use Rattle.data_model.specs.Path.{field};
 ghost use Rattle.keys.specs.Decode.{readPath, componentSays, componentRead, pathRead, readSpt, readTsp, decoded};
 ghost use Rattle.key_reader.specs.Reader.{behind, steppedSays, stepped};
 
+// A key's bytes, and the position of the next byte to read.
 pub struct KeyReader<'a> {
     pub bytes: &'a [u8],
     pub at: usize,
-}
-
-pub fn new<'a>(bytes: &'a [u8]) -> KeyReader<'a>
-    ensures { λ r. ⌜ (r .bytes ≡ bytes .entry) × (r .at ≡ 0) ⌝ }
-{
-    KeyReader { bytes, at: 0 }
-}
-
-pub fn position<'a>(r: KeyReader<'a>) -> usize
-    ensures { λ n. ⌜ n ≡ r .entry .at ⌝ }
-{
-    r.at
 }
 
 // A slice from a position on; past the end: nothing, at its end.
@@ -37,13 +26,6 @@ fn from_position(bytes: &[u8], at: usize) -> &[u8]
         return &bytes[bytes.len()..];
     }
     &bytes[at..]
-}
-
-// What is left to read, as a part of the key: its bytes, and where they lie.
-pub fn rest<'a>(r: KeyReader<'a>) -> &'a [u8]
-    ensures { λ s. ⌜ (now s ≡ drop (r .entry .at) (now (r .entry .bytes))) × partBegins (r .entry .bytes .ptr) (s .ptr) (min (r .entry .at) (length (now (r .entry .bytes)))) ⌝ }
-{
-    from_position(r.bytes, r.at)
 }
 
 // Where a reader stands that took a component or the path's end; a refusal leaves it.
@@ -58,52 +40,76 @@ fn position_behind(c: ComponentRead, at: usize) -> usize
     }
 }
 
-// Takes the next component, or the path's end.
-pub fn next_component<'s, 'a>(r: &'s mut KeyReader<'a>) -> ComponentRead
-    ensures { λ c. ⌜ (componentSays c ≡ componentRead field (now (r .entry) .at) (drop (now (r .entry) .at) (now (now (r .entry) .bytes)))) × (now (r .exit) .bytes ≡ now (r .entry) .bytes) × (now (r .exit) .at ≡ behind (componentSays c) (now (r .entry) .at)) ⌝ }
-{
-    let at = r.at;
-    let c = keys::decode::component_bytes(r.bytes, at);
-    let n = position_behind(c, at);
-    r.at = n;
-    c
+impl<'a> KeyReader<'a> {
+    // A reader at the beginning of a key.
+    pub fn new(bytes: &'a [u8]) -> KeyReader<'a>
+        ensures { λ r. ⌜ (r .bytes ≡ bytes .entry) × (r .at ≡ 0) ⌝ }
+    {
+        KeyReader { bytes, at: 0 }
+    }
+
+    // The position of the next byte to read.
+    pub fn position(self) -> usize
+        ensures { λ n. ⌜ n ≡ self .entry .at ⌝ }
+    {
+        self.at
+    }
+
+    // What is left to read, as a part of the key: its bytes, and where they lie. Past the end: nothing, at the key's end.
+    pub fn rest(self) -> &'a [u8]
+        ensures { λ s. ⌜ (now s ≡ drop (self .entry .at) (now (self .entry .bytes))) × partBegins (self .entry .bytes .ptr) (s .ptr) (min (self .entry .at) (length (now (self .entry .bytes)))) ⌝ }
+    {
+        from_position(self.bytes, self.at)
+    }
+
+    // Reads the component at the reader's position, or the path's end, and moves the reader behind it. A refusal leaves the reader where it was.
+    pub fn next_component<'s>(&'s mut self) -> ComponentRead
+        ensures { λ c. ⌜ (componentSays c ≡ componentRead field (now (self .entry) .at) (drop (now (self .entry) .at) (now (now (self .entry) .bytes)))) × (now (self .exit) .bytes ≡ now (self .entry) .bytes) × (now (self .exit) .at ≡ behind (componentSays c) (now (self .entry) .at)) ⌝ }
+    {
+        let at = self.at;
+        let c = keys::decode::component_bytes(self.bytes, at);
+        let n = position_behind(c, at);
+        self.at = n;
+        c
+    }
+
+    // Decodes the path that begins at the reader's position. The reader stays where it is.
+    pub fn decode_path(self) -> PathRead
+        ensures { λ p. ⌜ p ≡ pathRead (self .entry .at) (readPath field (drop (self .entry .at) (now (self .entry .bytes)))) ⌝ }
+    {
+        keys::decode::decode_path(self.bytes, self.at)
+    }
+
+    // Decodes the bytes from the reader's position to the key's end as a subspace-first key.
+    pub fn decode_spt_entry_key(self) -> Decoded
+        ensures { λ d. ⌜ d ≡ decoded (readSpt field (drop (self .entry .at) (now (self .entry .bytes)))) ⌝ }
+    {
+        keys::decode::decode_spt_entry_key_at(self.bytes, self.at)
+    }
+
+    // Decodes the bytes from the reader's position to the key's end as a time-first key.
+    pub fn decode_tsp_entry_key(self) -> Decoded
+        ensures { λ d. ⌜ d ≡ decoded (readTsp field (drop (self .entry .at) (now (self .entry .bytes)))) ⌝ }
+    {
+        keys::decode::decode_tsp_entry_key_at(self.bytes, self.at)
+    }
 }
 
-// The path from the position on.
-pub fn decode_path<'a>(r: KeyReader<'a>) -> PathRead
-    ensures { λ p. ⌜ p ≡ pathRead (r .entry .at) (readPath field (drop (r .entry .at) (now (r .entry .bytes)))) ⌝ }
-{
-    keys::decode::decode_path(r.bytes, r.at)
-}
-
-// The key that is left to read.
-pub fn decode_spt_entry_key<'a>(r: KeyReader<'a>) -> Decoded
-    ensures { λ d. ⌜ d ≡ decoded (readSpt field (drop (r .entry .at) (now (r .entry .bytes)))) ⌝ }
-{
-    keys::decode::decode_spt_entry_key_at(r.bytes, r.at)
-}
-
-pub fn decode_tsp_entry_key<'a>(r: KeyReader<'a>) -> Decoded
-    ensures { λ d. ⌜ d ≡ decoded (readTsp field (drop (r .entry .at) (now (r .entry .bytes)))) ⌝ }
-{
-    keys::decode::decode_tsp_entry_key_at(r.bytes, r.at)
-}
-
-// What a reader took at a position, where it then stands, and how many bytes are left to read.
+// What one step of a reader gives: the component or the path's end that it read, its position behind it, and how many bytes are left to read.
 pub struct Stepped {
     pub component: ComponentRead,
     pub position: usize,
     pub left: usize,
 }
 
-// One step of a reader at a position of a key: for whoever cannot hold a reader.
+// Reads one component, or the path's end, at a position of a key: one step of a reader, for callers that cannot hold a reader.
 pub fn component_at(bytes: &[u8], at: usize) -> Stepped
     ensures { λ s. ⌜ steppedSays s ≡ stepped at (now (bytes .entry)) ⌝ }
 {
     let mut r = KeyReader { bytes, at };
-    let component = next_component(&mut r);
-    let position = position(r);
-    let left = rest(r).len();
+    let component = r.next_component();
+    let position = r.position();
+    let left = r.rest().len();
     Stepped {
         component,
         position,
@@ -111,22 +117,23 @@ pub fn component_at(bytes: &[u8], at: usize) -> Stepped
     }
 }
 
-// The path at a position of a key, through a reader.
+// Decodes the path that begins at a position of a key, through a reader.
 pub fn path_at(bytes: &[u8], at: usize) -> PathRead
     ensures { λ p. ⌜ p ≡ pathRead at (readPath field (drop at (now (bytes .entry)))) ⌝ }
 {
-    decode_path(KeyReader { bytes, at })
+    KeyReader { bytes, at }.decode_path()
 }
 
-// A whole key through a reader: what the decoder says of it.
+// Decodes a whole subspace-first key through a reader.
 pub fn read_spt_entry_key(key: &[u8]) -> Decoded
     ensures { λ d. ⌜ d ≡ decoded (readSpt field (now (key .entry))) ⌝ }
 {
-    decode_spt_entry_key(new(key))
+    KeyReader::new(key).decode_spt_entry_key()
 }
 
+// Decodes a whole time-first key through a reader.
 pub fn read_tsp_entry_key(key: &[u8]) -> Decoded
     ensures { λ d. ⌜ d ≡ decoded (readTsp field (now (key .entry))) ⌝ }
 {
-    decode_tsp_entry_key(new(key))
+    KeyReader::new(key).decode_tsp_entry_key()
 }

@@ -57,18 +57,18 @@ use Rattle.key_reader.proofs.KeyReader as T
 use Rattle.key_reader.proofs.KeyReader.Laws as T′
 use Rattle.key_reader.proofs.Stepped as P
 use Rattle.key_reader.proofs.Stepped.Laws as P′
-use Rattle.key_reader.proofs.next_component as next
-use Rattle.key_reader.proofs.next_component.Symbol as next-def
-use Rattle.key_reader.proofs.next_component.Symbol.{name as #next}
-use Rattle.key_reader.proofs.next_component.Met as next-thm
-use Rattle.key_reader.proofs.position as position
-use Rattle.key_reader.proofs.position.Symbol as position-def
-use Rattle.key_reader.proofs.position.Symbol.{name as #position}
-use Rattle.key_reader.proofs.position.Met as position-thm
-use Rattle.key_reader.proofs.rest as rest
-use Rattle.key_reader.proofs.rest.Symbol as rest-def
-use Rattle.key_reader.proofs.rest.Symbol.{name as #rest}
-use Rattle.key_reader.proofs.rest.Met as rest-thm
+use Rattle.key_reader.proofs.KeyReader.next_component as next
+use Rattle.key_reader.proofs.KeyReader.next_component.Symbol as next-def
+use Rattle.key_reader.proofs.KeyReader.next_component.Symbol.{name as #next}
+use Rattle.key_reader.proofs.KeyReader.next_component.Met as next-thm
+use Rattle.key_reader.proofs.KeyReader.position as position
+use Rattle.key_reader.proofs.KeyReader.position.Symbol as position-def
+use Rattle.key_reader.proofs.KeyReader.position.Symbol.{name as #position}
+use Rattle.key_reader.proofs.KeyReader.position.Met as position-thm
+use Rattle.key_reader.proofs.KeyReader.rest as rest
+use Rattle.key_reader.proofs.KeyReader.rest.Symbol as rest-def
+use Rattle.key_reader.proofs.KeyReader.rest.Symbol.{name as #rest}
+use Rattle.key_reader.proofs.KeyReader.rest.Met as rest-thm
 use Rattle.key_reader.proofs.component_at.Key.{name as #own}
 use Rattle.key_reader.proofs.component_at as own
 use Rattle.key_reader.proofs.component_at.Statement as stated
@@ -291,6 +291,6 @@ component-at-spec 𝓤 H 𝓜 𝓖 𝓡 =
     entered 𝓤 H (tripleOf 𝓤 H (𝓖 .A) own.signature (own.spec 𝓤 H (𝓖 .A) (𝓜 .mem) (𝓡 .run)))
     (tables 𝓤 H 𝓜 𝓡 code.env .C) (tables 𝓤 H 𝓜 𝓡 code.env .Λ) #own code.function (code.unfolded 𝓤 H 𝓜 𝓡)
     (own-meets 𝓤 H (𝓖 .A) (givenOf 𝓤 H 𝓜 𝓖) (𝓜 .mem) (𝓡 .run) (tablesOf 𝓤 H 𝓜 (tables 𝓤 H 𝓜 𝓡 code.env))
-    (cited 𝓤 H (Next 𝓤 H (𝓖 .A) (𝓜 .mem) (𝓡 .run)) 𝓜 𝓡 code.env #next next-def.routine code.calls-key-reader·next-component (next-thm.met 𝓤 H 𝓜 𝓖 𝓡))
-    (cited 𝓤 H (Position 𝓤 H (𝓖 .A) (𝓜 .mem) (𝓡 .run)) 𝓜 𝓡 code.env #position position-def.routine code.calls-key-reader·position (position-thm.met 𝓤 H 𝓜 𝓖 𝓡))
-    (cited 𝓤 H (Rest 𝓤 H (𝓖 .A) (𝓜 .mem) (𝓡 .run)) 𝓜 𝓡 code.env #rest rest-def.routine code.calls-key-reader·rest (rest-thm.met 𝓤 H 𝓜 𝓖 𝓡)))
+    (cited 𝓤 H (Next 𝓤 H (𝓖 .A) (𝓜 .mem) (𝓡 .run)) 𝓜 𝓡 code.env #next next-def.routine code.calls-key-reader·KeyReader·next-component (next-thm.met 𝓤 H 𝓜 𝓖 𝓡))
+    (cited 𝓤 H (Position 𝓤 H (𝓖 .A) (𝓜 .mem) (𝓡 .run)) 𝓜 𝓡 code.env #position position-def.routine code.calls-key-reader·KeyReader·position (position-thm.met 𝓤 H 𝓜 𝓖 𝓡))
+    (cited 𝓤 H (Rest 𝓤 H (𝓖 .A) (𝓜 .mem) (𝓡 .run)) 𝓜 𝓡 code.env #rest rest-def.routine code.calls-key-reader·KeyReader·rest (rest-thm.met 𝓤 H 𝓜 𝓖 𝓡)))

@@ -47,10 +47,10 @@ use Rattle.key_reader.proofs.KeyReader as T
 use Rattle.key_reader.proofs.KeyReader.Laws as T′
 use Rattle.keys.proofs.decode.PathRead as S
 use Rattle.keys.proofs.decode.PathRead.Laws as S′
-use Rattle.key_reader.proofs.decode_path as next
-use Rattle.key_reader.proofs.decode_path.Symbol as next-def
-use Rattle.key_reader.proofs.decode_path.Symbol.{name as #next}
-use Rattle.key_reader.proofs.decode_path.Met as next-thm
+use Rattle.key_reader.proofs.KeyReader.decode_path as next
+use Rattle.key_reader.proofs.KeyReader.decode_path.Symbol as next-def
+use Rattle.key_reader.proofs.KeyReader.decode_path.Symbol.{name as #next}
+use Rattle.key_reader.proofs.KeyReader.decode_path.Met as next-thm
 use Rattle.key_reader.proofs.path_at.Key.{name as #own}
 use Rattle.key_reader.proofs.path_at as own
 use Rattle.key_reader.proofs.path_at.Statement as stated
@@ -152,4 +152,4 @@ path-at-spec 𝓤 H 𝓜 𝓖 𝓡 =
     entered 𝓤 H (tripleOf 𝓤 H (𝓖 .A) own.signature (own.spec 𝓤 H (𝓖 .A) (𝓜 .mem) (𝓡 .run)))
     (tables 𝓤 H 𝓜 𝓡 code.env .C) (tables 𝓤 H 𝓜 𝓡 code.env .Λ) #own code.function (code.unfolded 𝓤 H 𝓜 𝓡)
     (own-meets 𝓤 H (𝓖 .A) (givenOf 𝓤 H 𝓜 𝓖) (𝓜 .mem) (𝓡 .run) (tablesOf 𝓤 H 𝓜 (tables 𝓤 H 𝓜 𝓡 code.env))
-    (cited 𝓤 H (Next 𝓤 H (𝓖 .A) (𝓜 .mem) (𝓡 .run)) 𝓜 𝓡 code.env #next next-def.routine code.calls-key-reader·decode-path (next-thm.met 𝓤 H 𝓜 𝓖 𝓡)))
+    (cited 𝓤 H (Next 𝓤 H (𝓖 .A) (𝓜 .mem) (𝓡 .run)) 𝓜 𝓡 code.env #next next-def.routine code.calls-key-reader·KeyReader·decode-path (next-thm.met 𝓤 H 𝓜 𝓖 𝓡)))

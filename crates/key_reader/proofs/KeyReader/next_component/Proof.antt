@@ -1,4 +1,4 @@
--- `key_reader::next_component` meets its contract: a walk of its MIR, by hand. The borrow is opened, the decoder and `position_behind` are called, and the borrow is closed at the reader with the new position. All that the proof knows of the two is that each meets its contract.
+-- `KeyReader::next_component` meets its contract: a walk of its MIR, by hand. The borrow is opened, the decoder and `position_behind` are called, and the borrow is closed at the reader with the new position. All that the proof knows of the two is that each meets its contract.
 -- What bytes owns is had twice: one copy goes to the decoder, beside the token of 'a, which comes back; the other stays in the reader.
 -- Assumes nothing.
 use mathlib.Core.Path.{_≡_, refl, ap}
@@ -61,10 +61,10 @@ use Rattle.key_reader.proofs.position_behind as beh
 use Rattle.key_reader.proofs.position_behind.Symbol as beh-def
 use Rattle.key_reader.proofs.position_behind.Symbol.{name as #behind}
 use Rattle.key_reader.proofs.position_behind.Met as beh-thm
-use Rattle.key_reader.proofs.next_component.Key.{name as #own}
-use Rattle.key_reader.proofs.next_component as own
-use Rattle.key_reader.proofs.next_component.Statement as stated
-use Rattle.key_reader.proofs.next_component.Code as code
+use Rattle.key_reader.proofs.KeyReader.next_component.Key.{name as #own}
+use Rattle.key_reader.proofs.KeyReader.next_component as own
+use Rattle.key_reader.proofs.KeyReader.next_component.Statement as stated
+use Rattle.key_reader.proofs.KeyReader.next_component.Code as code
 
 -- 'a, and the struct's type at it
 abbrev α : Lft → NamedLft

@@ -1,4 +1,4 @@
--- `key_reader::new` meets its contract: a walk of its MIR, by hand. A `KeyReader` is made of the slice passed and 0, in the result's local.
+-- `KeyReader::new` meets its contract: a walk of its MIR, by hand. A `KeyReader` is made of the slice passed and 0, in the result's local.
 -- A `&[u8]` is Copy, so what it owns is had twice: once for bytes at exit, and once inside the result, beside the facts of at.
 -- Assumes nothing.
 use mathlib.Core.Path.{refl}
@@ -38,10 +38,10 @@ use denote.Exit.{yes}
 use Rattle.key_reader.specs.declared.KeyReader.{KeyReader}
 use Rattle.key_reader.proofs.KeyReader as T
 use Rattle.key_reader.proofs.KeyReader.Laws as T′
-use Rattle.key_reader.proofs.new.Key.{name as #key_reader·new}
-use Rattle.key_reader.proofs.new as new
-use Rattle.key_reader.proofs.new.Statement as stated
-use Rattle.key_reader.proofs.new.Code as code
+use Rattle.key_reader.proofs.KeyReader.new.Key.{name as #key_reader·new}
+use Rattle.key_reader.proofs.KeyReader.new as new
+use Rattle.key_reader.proofs.KeyReader.new.Statement as stated
+use Rattle.key_reader.proofs.KeyReader.new.Code as code
 
 abbrev stayed : Stays (new.ended .signature .params) (new.ended .kept)
 stayed = (stay-none-slice (0 ∷ []) tt (plain (λ _. u8)) yes, tt)

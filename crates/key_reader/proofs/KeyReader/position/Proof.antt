@@ -1,4 +1,4 @@
--- `key_reader::position` meets its contract: a walk of its MIR, by hand. A number is read from a field of the struct, and the struct is seen at exit as it was passed.
+-- `KeyReader::position` meets its contract: a walk of its MIR, by hand. A number is read from a field of the struct, and the struct is seen at exit as it was passed.
 -- That the number fits its type is in the struct's relation, at the field's place.
 -- Assumes nothing.
 use mathlib.Core.Path.{refl}
@@ -35,10 +35,10 @@ use denote.Exit.{yes}
 use Rattle.key_reader.specs.declared.KeyReader.{KeyReader}
 use Rattle.key_reader.proofs.KeyReader as T
 use Rattle.key_reader.proofs.KeyReader.Laws as T′
-use Rattle.key_reader.proofs.position.Key.{name as #key_reader·position}
-use Rattle.key_reader.proofs.position as position
-use Rattle.key_reader.proofs.position.Statement as stated
-use Rattle.key_reader.proofs.position.Code as code
+use Rattle.key_reader.proofs.KeyReader.position.Key.{name as #key_reader·position}
+use Rattle.key_reader.proofs.KeyReader.position as position
+use Rattle.key_reader.proofs.KeyReader.position.Statement as stated
+use Rattle.key_reader.proofs.KeyReader.position.Code as code
 
 -- the struct's type, over the signature's lifetimes
 abbrev B : Lfts 1 → RattleType
