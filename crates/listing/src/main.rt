@@ -10,7 +10,9 @@ use store::state::RECORD_MOST;
 use store::state::State;
 use text::entry_line::LINE_MOST;
 ghost use mathlib.Core.Path.{_≡_};
-ghost use Prim.Native.Nat.{_*_, _≤_, _<_};
+ghost use mathlib.Core.Bool.{cond};
+ghost use Prim.Native.Nat.{_*_, _-_, _≤_, _<_};
+ghost use lib.Dec.{ltb};
 ghost use lib.ListN.{length, take};
 ghost use Rattle.data_model.specs.Path.{field};
 ghost use Rattle.store.specs.Store.{treeRoom, dirRoom};
@@ -77,7 +79,7 @@ fn line_bytes() -> [u8; KEPT]
 // How many reads may still come. One that does not fill its buffer was the last: the input has ended, or could not be read.
 fn reads_left(turns: u64, got: usize) -> u64
     requires { ⌜ 0 < turns ⌝ }
-    ensures { λ r. ⌜ r < turns ⌝ }
+    ensures { λ r. ⌜ (r ≡ cond (ltb got readMost) 0 (turns - 1)) × (r < turns) ⌝ }
 {
     if got < READ {
         return 0;
