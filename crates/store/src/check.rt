@@ -11,8 +11,7 @@ use tree::stored::KeyOrder;
 use tree::within::within;
 ghost use mathlib.Core.Path.{_≡_};
 ghost use mathlib.Core.Bool.{true, _&&_};
-ghost use Prim.Native.Nat.{ℕ, _<_, _^_};
-ghost use mathlib.Core.List.{List};
+ghost use Prim.Native.Nat.{_<_, _^_};
 ghost use lib.ListN.{length};
 ghost use lib.Dec.{leb};
 ghost use Rattle.data_model.specs.Path.{field};
@@ -56,11 +55,17 @@ pub fn is_roomy(limit: usize, spt: &[u8], spt_dir: &[u32], tsp: &[u8], tsp_dir: 
     dir_fits(tsp_dir.len(), limit)
 }
 
-// Whether two trees are well-formed, hold the same, and no entry of theirs stands at another's address or prunes another; whatever the
-// namespace of both.
-fn well_formed_trees(count: usize, spt: &[u8], spt_dir: &[u32], tsp: &[u8], tsp_dir: &[u32]) -> bool
+// Whether two trees are well-formed, hold the same, and no entry of theirs stands at another's place or prunes another.
+fn well_formed_trees(
+    namespace: [u8; 16],
+    count: usize,
+    spt: &[u8],
+    spt_dir: &[u32],
+    tsp: &[u8],
+    tsp_dir: &[u32],
+) -> bool
     requires { ⌜ (length (now spt) < 2 ^ 32) × (length (now tsp) < 2 ^ 32) ⌝ }
-    ensures { λ r. ⌜ ((namespace : List ℕ) → r ≡ wellFormedTrees field namespace count (now (spt .entry)) (now («spt_dir» .entry)) (now (tsp .entry)) (now («tsp_dir» .entry))) ⌝ }
+    ensures { λ r. ⌜ r ≡ wellFormedTrees field namespace count (now (spt .entry)) (now («spt_dir» .entry)) (now (tsp .entry)) (now («tsp_dir» .entry)) ⌝ }
 {
     if !well_formed(KeyOrder::Spt, count, spt_dir, spt) {
         return false;
@@ -68,7 +73,7 @@ fn well_formed_trees(count: usize, spt: &[u8], spt_dir: &[u32], tsp: &[u8], tsp_
     if !well_formed(KeyOrder::Tsp, count, tsp_dir, tsp) {
         return false;
     }
-    if !within(count, spt_dir, spt, tsp_dir, tsp) {
+    if !within(namespace, count, spt_dir, spt, tsp_dir, tsp) {
         return false;
     }
     apart(count, spt_dir, spt)
@@ -83,9 +88,17 @@ fn is_well_formed(state: State, spt: &[u8], spt_dir: &[u32], tsp: &[u8], tsp_dir
     if limit < count {
         return false;
     }
+    let namespace = state.namespace_id;
     let n = RECORD_MOST * limit;
     let m = 2 * limit;
-    well_formed_trees(count, &spt[..n], &spt_dir[..m], &tsp[..n], &tsp_dir[..m])
+    well_formed_trees(
+        namespace,
+        count,
+        &spt[..n],
+        &spt_dir[..m],
+        &tsp[..n],
+        &tsp_dir[..m],
+    )
 }
 
 // 1, 2 or 3; else 0. `rooms`: the call's other buffers have room too.

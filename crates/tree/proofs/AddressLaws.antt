@@ -36,7 +36,7 @@ use Rattle.tree.specs.Matching.{outdates, removes, standsAt}
 use Rattle.tree.specs.Address.{addressKey, openPath, openKey, tripleAt, addressAt, openAt}
 use Rattle.tree.specs.declared.stored.KeyOrder.{KeyOrder}
 use Rattle.tree.specs.declared.stored.KeyOrder.the-variants.{Spt, Tsp}
-use Rattle.tree.proofs.RecordLaws.{key-is-forth, key-least, record-forth}
+use Rattle.tree.proofs.RecordLaws.{key-is-forth, key-least}
 use Rattle.tree.proofs.RecordParts.{drop-cut, key-fits}
 use Rattle.tree.proofs.WithinLaws.{at-bytes}
 
@@ -181,15 +181,6 @@ module _ {o : KeyOrder} {k : ℕ} {dir tree : List ℕ} (v : Readable o k dir tr
       let z = be 8 (tripleAt o (recordAt k dir tree) .timestamp) in
       take-all (length key - 8) (drop 8 key) (omega (arith, length-drop 8 key))
       ∙ ap (drop 8) (tsp-is q) ∙ drop-at z p 8 (be-length 8 (tripleAt o (recordAt k dir tree) .timestamp))
-
-  pub address-fits : o ≡ Spt → (a : List ℕ) → a ≡ addressAt o (recordAt k dir tree) → 8 + length a ≤ keyMost field
-  address-fits q a ea =
-      let r = recordAt k dir tree in
-      let p = addressAt o r in
-      let z = be 8 (tripleAt o r .timestamp) in
-      let f = record-forth o field [] r (at-bytes k dir tree b) (v .is) in
-      let n : length (keyOf r) ≡ length r - valueLength = length-take-le (length r - valueLength) r (omega arith) in
-      omega (arith, ap length (spt-is q), length-append p z, be-length 8 (tripleAt o r .timestamp), ap length e, n, f .most, ap length ea)
 
   pub time-spt : o ≡ Spt → (n : ℕ) → n ≡ length key - 8 → (x : ℕ) → x ≡ number (take (length key - n) (drop n key)) → x ≡ tripleAt o (recordAt k dir tree) .timestamp
   time-spt q n m x f =

@@ -13,7 +13,7 @@ pub mod AgreeLaws
 pub mod FormedContents
 pub mod MarkingLaws
 pub mod AddressLaws
-pub mod AgreeingRecords
+pub mod ClearLaws
 pub mod CoverLaws
 pub mod NearestLaws
 pub mod RankLaws

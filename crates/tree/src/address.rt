@@ -23,7 +23,7 @@ pub const SUBSPACE: usize = 16;
 
 pub const END: usize = 2;
 
-pub const TIME: usize = 8;
+const TIME: usize = 8;
 
 // The address of record k, as a part of the tree.
 pub fn address_at<'a>(order: KeyOrder, dir: &[u32], tree: &'a [u8], k: usize) -> &'a [u8]

@@ -1,41 +1,28 @@
 // Whether what one tree holds stands in the other, in its order.
-use crate::address::TIME;
 use crate::address::address_at;
 use crate::address::time_at;
 use crate::search::has_record;
 use crate::stored::KeyOrder;
+use crate::stored::encode_key;
+use crate::stored::stored_at;
 use crate::stored::value_at;
 use keys::encode::KEY_MOST;
-use keys::number::write_u64;
 use layout::bytes::same;
-use layout::bytes::write;
 ghost use mathlib.Core.Path.{_≡_};
 ghost use mathlib.Core.Bool.{true};
-ghost use Prim.Native.Nat.{ℕ, _≤_, _<_};
-ghost use mathlib.Core.List.{List};
-ghost use lib.ListN.{length, take};
+ghost use Prim.Native.Nat.{_≤_, _<_};
+ghost use lib.ListN.{length};
 ghost use Rattle.laws.specs.Sorted.{any};
 ghost use Rattle.layout.specs.Layout.{records, recordAt};
 ghost use Rattle.data_model.specs.Path.{field};
-ghost use Rattle.keys.specs.Encode.{keyMost};
-ghost use Rattle.tree.specs.Stored.{keyIn, contents, stored, sameStored};
-ghost use Rattle.tree.specs.Address.{tripleAt, slots};
-ghost use Rattle.tree.specs.Tree.{Formed, Ordered, Readable, within};
+ghost use Rattle.tree.specs.Stored.{contents, stored, sameStored};
+ghost use Rattle.tree.specs.Address.{slots};
+ghost use Rattle.tree.specs.Tree.{Formed, Ordered, within};
 ghost use Rattle.tree.specs.declared.stored.KeyOrder.the-variants.{Spt, Tsp};
-
-// Writes the time-first key of record k of a subspace-first tree at the front of the buffer, and answers how many bytes.
-fn write_other_key(dir: &[u32], tree: &[u8], k: usize, out: &mut [u8]) -> usize
-    requires { ⌜ (Readable Spt k (now dir) (now tree)) × (keyMost field ≤ length (now out)) ⌝ }
-    ensures { λ r. ⌜ (r ≤ keyMost field) × (take r (now (out .exit)) ≡ keyIn Tsp (tripleAt Spt (recordAt k (now (dir .entry)) (now (tree .entry))))) ⌝ }
-{
-    let address = address_at(KeyOrder::Spt, dir, tree, k);
-    write_u64(time_at(KeyOrder::Spt, dir, tree, k), out);
-    write(out, TIME, address);
-    TIME + address.len()
-}
 
 // Whether record k of the subspace-first tree stands in the time-first tree with the same value.
 fn stands_in(
+    namespace: [u8; 16],
     count: usize,
     spt_dir: &[u32],
     spt: &[u8],
@@ -44,10 +31,14 @@ fn stands_in(
     k: usize,
 ) -> bool
     requires { ⌜ (Formed Spt count (now «spt_dir») (now spt)) × (Ordered Tsp count (now «tsp_dir») (now tsp)) × (k < count) ⌝ }
-    ensures { λ r. ⌜ ((namespace : List ℕ) → r ≡ any (sameStored (stored Spt field namespace (recordAt k (now («spt_dir» .entry)) (now (spt .entry))))) (contents Tsp field namespace (records count (now («tsp_dir» .entry)) (now (tsp .entry))))) ⌝ }
+    ensures { λ r. ⌜ r ≡ any (sameStored (stored Spt field namespace (recordAt k (now («spt_dir» .entry)) (now (spt .entry))))) (contents Tsp field namespace (records count (now («tsp_dir» .entry)) (now (tsp .entry)))) ⌝ }
 {
+    let a = stored_at(KeyOrder::Spt, namespace, spt_dir, spt, k);
+    let e = a.entry;
+    let subspace = e.subspace_id;
+    let path = e.path;
     let mut key = [0u8; KEY_MOST];
-    let n = write_other_key(spt_dir, spt, k, &mut key);
+    let n = encode_key(KeyOrder::Tsp, subspace, path, e.timestamp, &mut key);
     has_record(
         KeyOrder::Tsp,
         count,
@@ -60,6 +51,7 @@ fn stands_in(
 
 // Whether record k of the subspace-first tree is record j of the time-first tree.
 fn is_at(
+    namespace: [u8; 16],
     count: usize,
     spt_dir: &[u32],
     spt: &[u8],
@@ -69,7 +61,7 @@ fn is_at(
     j: usize,
 ) -> bool
     requires { ⌜ (Formed Spt count (now «spt_dir») (now spt)) × (Formed Tsp count (now «tsp_dir») (now tsp)) × (k < count) ⌝ }
-    ensures { λ r. ⌜ ((namespace : List ℕ) → r ≡ true → any (sameStored (stored Spt field namespace (recordAt k (now («spt_dir» .entry)) (now (spt .entry))))) (contents Tsp field namespace (records count (now («tsp_dir» .entry)) (now (tsp .entry)))) ≡ true) ⌝ }
+    ensures { λ r. ⌜ (r ≡ true → any (sameStored (stored Spt field namespace (recordAt k (now («spt_dir» .entry)) (now (spt .entry))))) (contents Tsp field namespace (records count (now («tsp_dir» .entry)) (now (tsp .entry)))) ≡ true) ⌝ }
 {
     if count <= j {
         return false;
@@ -114,6 +106,7 @@ fn first_places(count: usize, tsp_dir: &[u32], tsp: &[u8], next: &mut [u16])
 
 // Whether record k stands there, looked for at a place first.
 fn stands_near(
+    namespace: [u8; 16],
     count: usize,
     spt_dir: &[u32],
     spt: &[u8],
@@ -123,16 +116,17 @@ fn stands_near(
     j: usize,
 ) -> bool
     requires { ⌜ (Formed Spt count (now «spt_dir») (now spt)) × (Ordered Tsp count (now «tsp_dir») (now tsp)) × (k < count) ⌝ }
-    ensures { λ r. ⌜ ((namespace : List ℕ) → r ≡ any (sameStored (stored Spt field namespace (recordAt k (now («spt_dir» .entry)) (now (spt .entry))))) (contents Tsp field namespace (records count (now («tsp_dir» .entry)) (now (tsp .entry))))) ⌝ }
+    ensures { λ r. ⌜ r ≡ any (sameStored (stored Spt field namespace (recordAt k (now («spt_dir» .entry)) (now (spt .entry))))) (contents Tsp field namespace (records count (now («tsp_dir» .entry)) (now (tsp .entry)))) ⌝ }
 {
-    if is_at(count, spt_dir, spt, tsp_dir, tsp, k, j) {
+    if is_at(namespace, count, spt_dir, spt, tsp_dir, tsp, k, j) {
         return true;
     }
-    stands_in(count, spt_dir, spt, tsp_dir, tsp, k)
+    stands_in(namespace, count, spt_dir, spt, tsp_dir, tsp, k)
 }
 
 // The same for all, by the table.
 fn within_by(
+    namespace: [u8; 16],
     count: usize,
     spt_dir: &[u32],
     spt: &[u8],
@@ -141,13 +135,13 @@ fn within_by(
     next: &mut [u16],
 ) -> bool
     requires { ⌜ (Formed Spt count (now «spt_dir») (now spt)) × (Ordered Tsp count (now «tsp_dir») (now tsp)) × (slots ≤ length (now next)) ⌝ }
-    ensures { λ r. ⌜ ((namespace : List ℕ) → r ≡ within (contents Spt field namespace (records count (now («spt_dir» .entry)) (now (spt .entry)))) (contents Tsp field namespace (records count (now («tsp_dir» .entry)) (now (tsp .entry))))) ⌝ }
+    ensures { λ r. ⌜ r ≡ within (contents Spt field namespace (records count (now («spt_dir» .entry)) (now (spt .entry)))) (contents Tsp field namespace (records count (now («tsp_dir» .entry)) (now (tsp .entry)))) ⌝ }
 {
     let mut k: usize = 0;
     while k < count {
         let at = slot(time_at(KeyOrder::Spt, spt_dir, spt, k));
         let j = next[at];
-        if !stands_near(count, spt_dir, spt, tsp_dir, tsp, k, wide(j)) {
+        if !stands_near(namespace, count, spt_dir, spt, tsp_dir, tsp, k, wide(j)) {
             return false;
         }
         next[at] = j % 0xffff + 1;
@@ -156,12 +150,18 @@ fn within_by(
     true
 }
 
-// Whether each entry of the subspace-first tree stands in the time-first tree with the same value, whatever the namespace of both.
-pub fn within(count: usize, spt_dir: &[u32], spt: &[u8], tsp_dir: &[u32], tsp: &[u8]) -> bool
+pub fn within(
+    namespace: [u8; 16],
+    count: usize,
+    spt_dir: &[u32],
+    spt: &[u8],
+    tsp_dir: &[u32],
+    tsp: &[u8],
+) -> bool
     requires { ⌜ (Formed Spt count (now «spt_dir») (now spt)) × (Ordered Tsp count (now «tsp_dir») (now tsp)) ⌝ }
-    ensures { λ r. ⌜ ((namespace : List ℕ) → r ≡ within (contents Spt field namespace (records count (now («spt_dir» .entry)) (now (spt .entry)))) (contents Tsp field namespace (records count (now («tsp_dir» .entry)) (now (tsp .entry))))) ⌝ }
+    ensures { λ r. ⌜ r ≡ within (contents Spt field namespace (records count (now («spt_dir» .entry)) (now (spt .entry)))) (contents Tsp field namespace (records count (now («tsp_dir» .entry)) (now (tsp .entry)))) ⌝ }
 {
     let mut next = [0u16; SLOTS];
     first_places(count, tsp_dir, tsp, &mut next);
-    within_by(count, spt_dir, spt, tsp_dir, tsp, &mut next)
+    within_by(namespace, count, spt_dir, spt, tsp_dir, tsp, &mut next)
 }

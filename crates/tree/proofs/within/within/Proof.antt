@@ -17,7 +17,7 @@ within-by-requires : tie.Need-within-by-requires
 within-by-requires c κs = search needs
 
 returns : tie.Need-returns
-returns c = c .before .within-by .ensures
+returns c = search needs
 
 pub within-spec : {M : Type 1} → statement M
 within-spec = tie.close (tie.spec slice-aggregate-first-places first-places-requires slice-aggregate-within-by within-by-requires returns)

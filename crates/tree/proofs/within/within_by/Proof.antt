@@ -1,7 +1,6 @@
 -- `within_by` meets its contract. The invariant: what is within is so exactly if what is left is. Assumes nothing.
-use Prim.Native.Nat.{ℕ, _-_, _≤_}
+use Prim.Native.Nat.{_-_, _≤_}
 use mathlib.Core.Path.{_≡_, refl}
-use mathlib.Core.List.{List}
 use native.Mathlib.Omega.{arith}
 use lib.ListN.{length, drop, length-set}
 use Rattle.laws.proofs.Truth.{not-true, not-false}
@@ -17,15 +16,13 @@ use Rattle.tree.proofs.within.within_by.Statement.{statement}
 use Rattle.tree.proofs.within.within_by.Tie as tie
 
 abbrev Inv-loop : tie.InvT-loop
-Inv-loop count spt-dir spt tsp-dir tsp next₀ k₀ next k =
-    (k ≤ count) × (length next ≡ length next₀)
-    × ((ns : List ℕ) → within (contents Spt field ns (records count spt-dir spt)) (contents Tsp field ns (records count tsp-dir tsp)) ≡ within (drop k (contents Spt field ns (records count spt-dir spt))) (contents Tsp field ns (records count tsp-dir tsp)))
+Inv-loop namespace count spt-dir spt tsp-dir tsp next₀ k₀ next k = let l = contents Spt field namespace (records count spt-dir spt) in let m = contents Tsp field namespace (records count tsp-dir tsp) in (k ≤ count) × (length next ≡ length next₀) × (within l m ≡ within (drop k l) m)
 
 abbrev μ-loop : tie.MeasureT-loop
-μ-loop count spt-dir spt tsp-dir tsp next₀ k₀ next k = count - k
+μ-loop namespace count spt-dir spt tsp-dir tsp next₀ k₀ next k = count - k
 
 loop-holds : tie.Need-loop-holds Inv-loop μ-loop
-loop-holds c = (omega arith, refl, λ ns. refl)
+loop-holds c = (omega arith, refl, refl)
 
 time-at-requires : tie.Need-time-at-requires Inv-loop μ-loop
 time-at-requires c κs = formed-readable (c .before .before .before .before .before .before .before .pre .0) _ (omega arith)
@@ -49,7 +46,7 @@ same-length : tie.Need-same-length Inv-loop μ-loop
 same-length c = omega (arith, c .before .before .before .before .before .before .before .loop .inv .1)
 
 returns : tie.Need-returns Inv-loop μ-loop
-returns c = λ ns. within-stop (c .before .before .before .before .before .before .before .before .before .before .before .before .before .pre .0) ns _ (c .before .before .before .before .before .before .before .loop .k) (c .before .before .before .before .before .before .before .loop .inv .2 ns) (omega arith) (c .before .stands-near .result) (c .before .stands-near .ensures ns) (not-true _ (c .if1 .taken))
+returns c = within-stop (c .before .before .before .before .before .before .before .before .before .before .before .before .before .pre .0) (c .before .before .before .before .before .before .before .before .before .before .before .before .before .args .namespace) _ (c .before .before .before .before .before .before .before .loop .k) (c .before .before .before .before .before .before .before .loop .inv .2) (omega arith) (c .before .stands-near .result) (c .before .stands-near .ensures) (not-true _ (c .if1 .taken))
 
 add-next : tie.Need-add-next Inv-loop μ-loop
 add-next c = search needs
@@ -67,13 +64,13 @@ loop-less : tie.Need-loop-less Inv-loop μ-loop
 loop-less c = omega arith
 
 loop-again : tie.Need-loop-again Inv-loop μ-loop
-loop-again c = (omega arith, simp length-set (omega (arith, c .before .before .before .before .before .before .before .loop .inv .1)), λ ns. within-turn (c .before .before .before .before .before .before .before .before .before .before .before .before .before .pre .0) ns _ (c .before .before .before .before .before .before .before .loop .k) (c .before .before .before .before .before .before .before .loop .inv .2 ns) (omega arith) (c .before .stands-near .result) (c .before .stands-near .ensures ns) (not-false _ (c .if1 .left)))
+loop-again c = (omega arith, simp length-set (omega (arith, c .before .before .before .before .before .before .before .loop .inv .1)), within-turn (c .before .before .before .before .before .before .before .before .before .before .before .before .before .pre .0) (c .before .before .before .before .before .before .before .before .before .before .before .before .before .args .namespace) _ (c .before .before .before .before .before .before .before .loop .k) (c .before .before .before .before .before .before .before .loop .inv .2) (omega arith) (c .before .stands-near .result) (c .before .stands-near .ensures) (not-false _ (c .if1 .left)))
 
 same-length-2 : tie.Need-same-length-2 Inv-loop μ-loop
 same-length-2 c = omega (arith, c .before .loop .inv .1)
 
 returns-2 : tie.Need-returns-2 Inv-loop μ-loop
-returns-2 c = λ ns. within-end (c .before .before .before .before .before .before .before .pre .0) ns _ (c .before .loop .k) (c .before .loop .inv .2 ns) (omega arith)
+returns-2 c = within-end (c .before .before .before .before .before .before .before .pre .0) (c .before .before .before .before .before .before .before .args .namespace) _ (c .before .loop .k) (c .before .loop .inv .2) (omega arith)
 
 pub within-by-spec : {M : Type 1} → statement M
 within-by-spec = tie.close (tie.spec Inv-loop μ-loop loop-holds time-at-requires slot-requires mul-j slice-read-j wide-requires stands-near-requires same-length returns add-next mul-next slice-write-next add-k loop-less loop-again same-length-2 returns-2)

@@ -1,22 +1,17 @@
--- A record of each tree: of one time, address and value they say the same; and the key in the one order, written from that in the other.
+-- Two records of one time, address and value, one in each tree, say the same.
 -- Assumes nothing.
 use Prim.Native.Nat.{ℕ, _+_, _<_}
 use mathlib.Core.Path.{_≡_, refl, sym, ap, ap₂, _∙_}
 use mathlib.Core.List.{List, [], _++_}
-use mathlib.Core.Bool.{Bool, true, _&&_}
-use lib.ListN.{length, take, drop, length-append}
-use lib.Seq.{take-at}
-use Rattle.laws.specs.Lists.{put}
+use mathlib.Core.Bool.{true, _&&_}
 use Rattle.laws.specs.Prefix.{sameNumber, sameList}
 use Rattle.laws.specs.Sorted.{any}
 use Rattle.laws.proofs.Sorted.{any-make}
-use Rattle.layout.specs.Buffers.{written}
 use Rattle.layout.specs.Layout.{records, recordAt}
 use Rattle.layout.proofs.LaidLaws.{record-in}
 use Rattle.data_model.specs.Path.{field}
 use Rattle.data_model.proofs.Orders.{component-equality}
 use Rattle.keys.specs.Encode.{be, tspKey}
-use Rattle.keys.proofs.Encoding.{be-length}
 use Rattle.key_laws.specs.Bytes.{Bytes}
 use Rattle.tree.specs.Value.{valueBytes}
 use Rattle.tree.specs.Stored.{keyIn, keyOf, valuePart, storedFrom, stored, contents, tripleOf, valueFor, sameStored}
@@ -29,7 +24,7 @@ use Rattle.tree.proofs.RecordLaws.{value-of-record, record-forth}
 use Rattle.tree.proofs.WithinLaws.{at-bytes, formed-recorded, has-stored}
 use Rattle.tree.proofs.AddressLaws.{key-says}
 
--- The time-first key is the time and the address.
+-- The time-first key is the time and the place.
 tsp-whole : (o : KeyOrder) (r : List ℕ) → keyIn Tsp (tripleAt o r) ≡ be 8 (tripleAt o r .timestamp) ++ addressAt o r
 unfolding keyIn tspKey addressKey
 tsp-whole o r = refl
@@ -38,31 +33,7 @@ triple-said : (o : KeyOrder) (ns r : List ℕ) → tripleOf (stored o field ns r
 unfolding tripleOf stored storedFrom
 triple-said o ns r = refl
 
--- A time with an address behind it, as it is written.
-pub key-wrote : (r : List ℕ) (t : ℕ) (a old mid out : List ℕ) → t ≡ tripleAt Spt r .timestamp → a ≡ addressAt Spt r → mid ≡ put (be 8 t) old → out ≡ written 8 a mid
-    → take (8 + length a) out ≡ keyIn Tsp (tripleAt Spt r)
-unfolding put written
-key-wrote r t a old mid out et ea em eo =
-    let rest = drop (8 + length a) mid in
-    let f : take 8 mid ≡ be 8 t = ap (take 8) em ∙ take-at (be 8 t) (drop (length (be 8 t)) old) 8 (be-length 8 t) in
-    ap (take (8 + length a)) (eo ∙ ap (λ (z : List ℕ). (z ++ a) ++ rest) f)
-    ∙ take-at (be 8 t ++ a) rest (8 + length a) (length-append (be 8 t) a ∙ ap (_+ length a) (be-length 8 t))
-    ∙ ap₂ (λ (n : ℕ) (l : List ℕ). be 8 n ++ l) et ea ∙ sym (tsp-whole Spt r)
-
--- Whether record k of the one tree stands in the other, asked by its key there and its value.
-pub stands : {count : ℕ} {dir tree dir2 tree2 : List ℕ} (v : Formed Spt count dir tree) (w : Formed Tsp count dir2 tree2) → Bytes tree → Bytes tree2 → (k : ℕ) → k < count
-    → (key value : List ℕ) → key ≡ keyIn Tsp (tripleAt Spt (recordAt k dir tree)) → value ≡ valuePart (recordAt k dir tree) → (b : Bool) → b ≡ hasRecord key value (records count dir2 tree2)
-    → (ns : List ℕ) → b ≡ any (sameStored (stored Spt field ns (recordAt k dir tree))) (contents Tsp field ns (records count dir2 tree2))
-stands {count} {dir} {tree} {dir2} {tree2} v w bytes bytes2 k h key value ek ev b e ns =
-    let r = recordAt k dir tree in
-    let a = stored Spt field ns r in
-    let f = record-forth Spt field ns r (at-bytes k dir tree bytes) (formed-record v k h) in
-    let recs = records count dir2 tree2 in
-    e
-    ∙ ap₂ (λ (x y : List ℕ). hasRecord x y recs) (ek ∙ ap (keyIn Tsp) (sym (triple-said Spt ns r))) (ev ∙ ap valuePart (sym (f .again)) ∙ value-of-record field a (f .lawful) Spt)
-    ∙ has-stored Tsp field ns a (f .lawful) (f .named) recs (formed-recorded w bytes2)
-
--- Record k of the one tree and record j of the other, of one time, address and value.
+-- Record k of the one tree and record j of the other, of one time, place and value.
 module _ {count : ℕ} {dir tree dir2 tree2 : List ℕ} (v : Formed Spt count dir tree) (w : Formed Tsp count dir2 tree2) (bytes : Bytes tree) (bytes2 : Bytes tree2)
     (ns : List ℕ) (k j : ℕ) (h : k < count) (g : j < count) where
   pub agree : (x y : ℕ) → x ≡ tripleAt Spt (recordAt k dir tree) .timestamp → y ≡ tripleAt Tsp (recordAt j dir2 tree2) .timestamp → x ≡ y
@@ -76,10 +47,10 @@ module _ {count : ℕ} {dir tree dir2 tree2 : List ℕ} (v : Formed Spt count di
       let a = stored Spt field ns rk in
       let f = record-forth Spt field ns rk (at-bytes k dir tree bytes) (formed-record v k h) in
       let time : tripleAt Tsp rj .timestamp ≡ tripleAt Spt rk .timestamp = sym ey ∙ sym et ∙ ex in
-      let address : addressAt Tsp rj ≡ addressAt Spt rk = sym eq ∙ sym (component-equality .equal p q s) ∙ ep in
+      let place : addressAt Tsp rj ≡ addressAt Spt rk = sym eq ∙ sym (component-equality .equal p q s) ∙ ep in
       let key : keyOf rj ≡ keyIn Tsp (tripleOf (a .entry))
       = key-says Tsp rj (at-bytes j dir2 tree2 bytes2) (formed-record w j g) .0
-      ∙ tsp-whole Tsp rj ∙ ap₂ (λ (n : ℕ) (l : List ℕ). be 8 n ++ l) time address ∙ sym (tsp-whole Spt rk)
+      ∙ tsp-whole Tsp rj ∙ ap₂ (λ (n : ℕ) (l : List ℕ). be 8 n ++ l) time place ∙ sym (tsp-whole Spt rk)
       ∙ ap (keyIn Tsp) (sym (triple-said Spt ns rk)) in
       let value : valuePart rj ≡ valueBytes (valueFor a)
       = sym eu ∙ component-equality .equal u z t ∙ ez ∙ ap valuePart (sym (f .again)) ∙ value-of-record field a (f .lawful) Spt in
