@@ -1,6 +1,6 @@
--- Turns of the loops that move, clear, write, test and compare runs of a buffer, over plain lists. Assumes nothing.
+-- Turns of the loops that move, clear, write and test runs of a buffer, over plain lists. Assumes nothing.
 use mathlib.Core.Path.{_≡_, refl, sym, ap, _∙_}
-use mathlib.Core.List.{List, [], _∷_, _++_, append-assoc}
+use mathlib.Core.List.{List, _∷_, _++_, append-assoc}
 use mathlib.Core.Bool.{Bool, true, false, _&&_}
 use Prim.Native.Nat.{ℕ, zero, suc, _+_, _-_, _≤_, _<_}
 use native.Mathlib.Nat.{add-suc, add-zero, sub-zero, not-suc-le-zero}
@@ -8,11 +8,7 @@ use native.Mathlib.Numerals.{add-one}
 use native.Mathlib.Omega.{arith}
 use lib.Dec.{eqb}
 use lib.ListN.{length, take, drop, getD, set, replicate, length-append, length-drop, drop-of-length-le, take-append-drop, List·getD-append, getD-replicate, length-replicate}
-use lib.Seq.{paste, take-length, paste-zero, paste-suc, length-paste-head, getD-append-add, getD-drop, getD-take, length-take-le, set-append-left, take-set-lt, take-suc-set, append-snoc, drop-cons, drop-drop, take-all, take-suc}
-use borrow.Author.Tests.{eqb-true}
-use Rattle.laws.specs.Order.{Order, byNumber, byElements}
-use Rattle.laws.proofs.Order.{then-same, number-same}
-use Rattle.laws.proofs.Truth.{and-true}
+use lib.Seq.{paste, take-length, paste-zero, paste-suc, length-paste-head, getD-append-add, getD-drop, getD-take, length-take-le, set-append-left, take-set-lt, take-suc-set, append-snoc, drop-cons, drop-drop, take-all}
 use Rattle.layout.specs.Buffers.{moved, cleared, written, allZero}
 
 -- A load past a seam, and one before it.
@@ -190,46 +186,6 @@ zero-end l i whole ok h inv = sym (inv ∙ rw (drop-of-length-le l h) (and-end o
     and-end : (a : Bool) → (a && true) ≡ a
     and-end true = refl
     and-end false = refl
-
--- One more is the same in both, if ok.
-pub alike-turn : (a b : List ℕ) (i j : ℕ) (ok : Bool) → i + j < length a → i + j < length b → (ok ≡ true → take j (drop i a) ≡ take j (drop i b))
-    → (ok && eqb (getD a (i + j) 0) (getD b (i + j) 0)) ≡ true → take (j + 1) (drop i a) ≡ take (j + 1) (drop i b)
-alike-turn a b i j ok h k v t =
-    let p = and-true ok (eqb (getD a (i + j) 0) (getD b (i + j) 0)) t in
-    let e : getD a (i + j) 0 ≡ getD b (i + j) 0 = eqb-true _ _ (p .1) in
-    let la : j < length (drop i a) = omega (arith, length-drop i a) in
-    let lb : j < length (drop i b) = omega (arith, length-drop i b) in
-    ap (λ (n : ℕ). take n (drop i a)) (add-one j)
-    ∙ take-suc (drop i a) j 0 la
-    ∙ ap (λ (l : List ℕ). l ++ (getD (drop i a) j 0 ∷ [])) (v (p .0))
-    ∙ ap (λ (x : ℕ). take j (drop i b) ++ (x ∷ [])) (getD-drop i a j 0 ∙ e ∙ sym (getD-drop i b j 0))
-    ∙ sym (take-suc (drop i b) j 0 lb)
-    ∙ ap (λ (n : ℕ). take n (drop i b)) (sym (add-one j))
-
--- What begins both does not decide.
-pub front-decides-not : (p x y : List ℕ) → byElements byNumber (p ++ x) (p ++ y) ≡ byElements byNumber x y
-unfolding byElements
-front-decides-not [] x y = refl
-front-decides-not (c ∷ p) x y = then-same (byNumber c c) (byElements byNumber (p ++ x) (p ++ y)) (number-same c c refl) ∙ front-decides-not p x y
-
-pub skip-turn : (a b : List ℕ) (i n : ℕ) (w : Order) → take n (drop i a) ≡ take n (drop i b) → w ≡ byElements byNumber (drop i a) (drop i b)
-    → w ≡ byElements byNumber (drop (i + n) a) (drop (i + n) b)
-skip-turn a b i n w e inv =
-    inv
-    ∙ ap (λ (l : List ℕ). byElements byNumber l (drop i b)) (sym (take-append-drop n (drop i a)))
-    ∙ ap (λ (l : List ℕ). byElements byNumber (take n (drop i a) ++ drop n (drop i a)) l) (sym (take-append-drop n (drop i b)))
-    ∙ ap (λ (l : List ℕ). byElements byNumber (l ++ drop n (drop i a)) (take n (drop i b) ++ drop n (drop i b))) e
-    ∙ front-decides-not (take n (drop i b)) (drop n (drop i a)) (drop n (drop i b))
-    ∙ ap (λ (l : List ℕ). byElements byNumber l (drop n (drop i b))) (drop-drop n i a)
-    ∙ ap (λ (l : List ℕ). byElements byNumber (drop (i + n) a) l) (drop-drop n i b)
-
--- The parts from i on compare as the wholes, if what stands before does not decide.
-pub rest-compares : (a b : List ℕ) (i : ℕ) → byElements byNumber a b ≡ byElements byNumber (drop i a) (drop i b)
-    → byElements byNumber (take (length a - i) (drop i a)) (take (length b - i) (drop i b)) ≡ byElements byNumber a b
-rest-compares a b i e =
-    ap (λ (l : List ℕ). byElements byNumber l (take (length b - i) (drop i b))) (take-all (length a - i) (drop i a) (omega (arith, length-drop i a)))
-    ∙ ap (byElements byNumber (drop i a)) (take-all (length b - i) (drop i b) (omega (arith, length-drop i b)))
-    ∙ sym e
 
 -- What is moved to where it stands.
 pub moved-there : (from to n : ℕ) (l : List ℕ) → from ≡ to → l ≡ moved from to n l

@@ -1,4 +1,5 @@
 pub mod BufferLaws
+pub mod CompareLaws
 pub mod LaidLaws
 pub mod RetainLaws
 pub mod InsertLaws

@@ -1,7 +1,8 @@
 -- Records in two buffers: the bytes of one after the other and zeros behind, a pair of offset and length for each and zeros behind.
+use mathlib.Core.Path.{_≡_}
 use mathlib.Core.List.{List, [], _∷_, _++_}
 use mathlib.Core.Bool.{Bool, true, false, _&&_}
-use Prim.Native.Nat.{ℕ, zero, suc, _+_, _-_, _*_}
+use Prim.Native.Nat.{ℕ, zero, suc, _+_, _-_, _*_, _^_, _≤_, _<_}
 use lib.ListN.{length, take, drop, getD}
 use lib.Dec.{leb, eqb}
 use Rattle.layout.specs.Buffers.{filled, allZero}
@@ -19,6 +20,11 @@ recordAt k dir tree = take (getD dir (2 * k + 1) 0) (drop (getD dir (2 * k) 0) t
 
 abbrev pub offsetAt : ℕ → List ℕ → ℕ
 offsetAt k dir = getD dir (2 * k) 0
+
+-- Pair k is there, and what it cuts out lies within the bytes.
+pub record CutsOut (k : ℕ) (dir tree : List ℕ) : Type 0 where
+  pub pair : 2 * k + 1 < length dir
+  pub inside : getD dir (2 * k) 0 + getD dir (2 * k + 1) 0 ≤ length tree
 
 -- The records one after the other, and a pair for each: the first at offset `at`, each other where the one before ends.
 abbrev pub joined : List (List ℕ) → List ℕ
@@ -52,6 +58,11 @@ ending (suc n) at (o ∷ l ∷ dir) = ending n (at + l) dir
 -- A chain of n pairs from 0 on that ends within the bytes, and zeros behind the last record and behind the last pair.
 unfoldable pub laidOut : ℕ → List ℕ → List ℕ → Bool
 laidOut n dir tree = chained n 0 dir && (leb (ending n 0 dir) (length tree) && (allZero (drop (ending n 0 dir) tree) && allZero (drop (2 * n) dir)))
+
+-- What an edit of the records asks: they are laid out so, and 32 bits count the bytes.
+pub record Editable (n : ℕ) (dir tree : List ℕ) : Type 0 where
+  pub laid : laidOut n dir tree ≡ true
+  pub small : length tree < 2 ^ 32
 
 -- With one more record at place `at`.
 abbrev pub inserted : ℕ → List ℕ → List (List ℕ) → List (List ℕ)

@@ -1,16 +1,13 @@
 // Moves, clearings and comparisons of runs of bytes. Loops that test have no early way out, so that they are compiled to wide compares.
-use data_model::answer::is_equal;
-use data_model::answer::is_less;
-use data_model::checked::compare_bytes;
 ghost use mathlib.Core.Path.{_≡_};
 ghost use mathlib.Core.Bool.{true};
 ghost use Prim.Native.Nat.{_+_, _≤_};
 ghost use lib.ListN.{length, take, drop};
-ghost use Rattle.laws.specs.Order.{isLess};
+ghost use Rattle.laws.specs.Order.{isLess, byNumber, byElements};
 ghost use Rattle.laws.specs.Prefix.{sameNumber, sameList};
-ghost use Rattle.layout.specs.Buffers.{moved, cleared, written, allZero};
-ghost use Rattle.data_model.specs.Path.{byBytes};
+ghost use Rattle.layout.specs.Buffers.{moved, cleared, written, allZero, byFirst};
 
+// Moves n bytes from `from` down to `to`, the first byte first.
 fn move_down(buf: &mut [u8], from: usize, to: usize, n: usize)
     requires { ⌜ (to ≤ from) × (from + n ≤ length (now buf)) ⌝ }
     ensures { λ _. ⌜ now (buf .exit) ≡ moved from to n (now (buf .entry)) ⌝ }
@@ -44,6 +41,7 @@ pub fn shift_up(buf: &mut [u8], from: usize, to: usize, n: usize)
     }
 }
 
+// Zeroes the bytes from `from` up to `to`.
 pub fn clear(buf: &mut [u8], from: usize, to: usize)
     requires { ⌜ (from ≤ to) × (to ≤ length (now buf)) ⌝ }
     ensures { λ _. ⌜ now (buf .exit) ≡ cleared from to (now (buf .entry)) ⌝ }
@@ -95,7 +93,7 @@ fn alike(a: &[u8], b: &[u8], i: usize) -> bool
     ok
 }
 
-// The same of 8 bytes.
+// Whether the 8 bytes from i on are the same in a and in b.
 fn alike_8(a: &[u8], b: &[u8], i: usize) -> bool
     requires { ⌜ (i + 8 ≤ length (now a)) × (i + 8 ≤ length (now b)) ⌝ }
     ensures { λ r. ⌜ (r ≡ true → take 8 (drop i (now (a .entry))) ≡ take 8 (drop i (now (b .entry)))) ⌝ }
@@ -111,7 +109,7 @@ fn alike_8(a: &[u8], b: &[u8], i: usize) -> bool
 
 // How many bytes at the front, in steps of 32, do not decide.
 fn skip_32(a: &[u8], b: &[u8]) -> usize
-    ensures { λ r. ⌜ (r ≤ length (now (a .entry))) × (r ≤ length (now (b .entry))) × (byBytes (now (a .entry)) (now (b .entry)) ≡ byBytes (drop r (now (a .entry))) (drop r (now (b .entry)))) ⌝ }
+    ensures { λ r. ⌜ (r ≤ length (now (a .entry))) × (r ≤ length (now (b .entry))) × (byElements byNumber (now (a .entry)) (now (b .entry)) ≡ byElements byNumber (drop r (now (a .entry))) (drop r (now (b .entry)))) ⌝ }
 {
     let mut i = 0;
     while i + 32 <= a.len() {
@@ -126,10 +124,10 @@ fn skip_32(a: &[u8], b: &[u8]) -> usize
     i
 }
 
-// The same in steps of 8, from where nothing before decides.
+// How many bytes at the front, in steps of 8, do not decide, from where nothing before decides.
 fn skip_8(a: &[u8], b: &[u8], from: usize) -> usize
-    requires { ⌜ (from ≤ length (now a)) × (from ≤ length (now b)) × (byBytes (now a) (now b) ≡ byBytes (drop from (now a)) (drop from (now b))) ⌝ }
-    ensures { λ r. ⌜ (r ≤ length (now (a .entry))) × (r ≤ length (now (b .entry))) × (byBytes (now (a .entry)) (now (b .entry)) ≡ byBytes (drop r (now (a .entry))) (drop r (now (b .entry)))) ⌝ }
+    requires { ⌜ (from ≤ length (now a)) × (from ≤ length (now b)) × (byElements byNumber (now a) (now b) ≡ byElements byNumber (drop from (now a)) (drop from (now b))) ⌝ }
+    ensures { λ r. ⌜ (r ≤ length (now (a .entry))) × (r ≤ length (now (b .entry))) × (byElements byNumber (now (a .entry)) (now (b .entry)) ≡ byElements byNumber (drop r (now (a .entry))) (drop r (now (b .entry)))) ⌝ }
 {
     let mut i = from;
     while i + 8 <= a.len() {
@@ -144,24 +142,52 @@ fn skip_8(a: &[u8], b: &[u8], from: usize) -> usize
     i
 }
 
-// How many bytes at the front do not decide, but for the last few.
-fn skip(a: &[u8], b: &[u8]) -> usize
-    ensures { λ r. ⌜ (r ≤ length (now (a .entry))) × (r ≤ length (now (b .entry))) × (byBytes (now (a .entry)) (now (b .entry)) ≡ byBytes (drop r (now (a .entry))) (drop r (now (b .entry)))) ⌝ }
+// How many bytes at the front do not decide, from where nothing before decides: there the two differ, or one of them ends.
+fn skip_1(a: &[u8], b: &[u8], from: usize) -> usize
+    requires { ⌜ (from ≤ length (now a)) × (from ≤ length (now b)) × (byElements byNumber (now a) (now b) ≡ byElements byNumber (drop from (now a)) (drop from (now b))) ⌝ }
+    ensures { λ r. ⌜ (r ≤ length (now (a .entry))) × (r ≤ length (now (b .entry))) × (byElements byNumber (now (a .entry)) (now (b .entry)) ≡ byFirst (drop r (now (a .entry))) (drop r (now (b .entry)))) ⌝ }
 {
-    skip_8(a, b, skip_32(a, b))
+    let mut i = from;
+    while i < a.len() {
+        if b.len() <= i {
+            return i;
+        }
+        if a[i] != b[i] {
+            return i;
+        }
+        i += 1;
+    }
+    i
+}
+
+// Where two runs of bytes first differ, or where the shorter one ends.
+fn skip(a: &[u8], b: &[u8]) -> usize
+    ensures { λ r. ⌜ (r ≤ length (now (a .entry))) × (r ≤ length (now (b .entry))) × (byElements byNumber (now (a .entry)) (now (b .entry)) ≡ byFirst (drop r (now (a .entry))) (drop r (now (b .entry)))) ⌝ }
+{
+    skip_1(a, b, skip_8(a, b, skip_32(a, b)))
 }
 
 // Whether a stands before b: the first difference decides, and a beginning stands before the whole.
 pub fn less(a: &[u8], b: &[u8]) -> bool
-    ensures { λ r. ⌜ r ≡ isLess (byBytes (now (a .entry)) (now (b .entry))) ⌝ }
+    ensures { λ r. ⌜ r ≡ isLess (byElements byNumber (now (a .entry)) (now (b .entry))) ⌝ }
 {
     let i = skip(a, b);
-    is_less(compare_bytes(&a[i..], &b[i..]))
+    if b.len() <= i {
+        return false;
+    }
+    if a.len() <= i {
+        return true;
+    }
+    a[i] < b[i]
 }
 
+// Whether a and b are the same bytes.
 pub fn same(a: &[u8], b: &[u8]) -> bool
     ensures { λ r. ⌜ r ≡ sameList sameNumber (now (a .entry)) (now (b .entry)) ⌝ }
 {
     let i = skip(a, b);
-    is_equal(compare_bytes(&a[i..], &b[i..]))
+    if i < a.len() {
+        return false;
+    }
+    b.len() <= i
 }

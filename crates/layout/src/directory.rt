@@ -1,8 +1,10 @@
-// The directory: a pair of 32-bit numbers, offset and length, for each record.
+// The directory: a pair of 32-bit numbers, offset and length, for each record; and the record that a pair cuts out of the bytes.
 ghost use mathlib.Core.Path.{_≡_};
 ghost use Prim.Native.Nat.{_+_, _*_, _≤_, _<_, _^_};
 ghost use lib.ListN.{length, set, getD, drop};
+ghost use Rattle.laws.specs.Parts.{partBegins};
 ghost use Rattle.layout.specs.Buffers.{cleared, allZero};
+ghost use Rattle.layout.specs.Layout.{CutsOut, recordAt, offsetAt};
 
 // The offset in pair k.
 pub fn offset(dir: &[u32], k: usize) -> usize
@@ -20,6 +22,18 @@ pub fn size(dir: &[u32], k: usize) -> usize
     dir[2 * k + 1] as usize
 }
 
+// Record k as a part of the bytes: what it is, and where it begins.
+pub fn record_at<'a>(tree: &'a [u8], dir: &[u32], k: usize) -> &'a [u8]
+    requires { ⌜ CutsOut k (now dir) (now tree) ⌝ }
+    ensures { λ r. ⌜ now r ≡ recordAt k (now (dir .entry)) (now (tree .entry)) ⌝ }
+    ensures { λ r. ⌜ partBegins (tree .entry .ptr) (r .ptr) (offsetAt k (now (dir .entry))) ⌝ }
+{
+    let o = offset(dir, k);
+    let e = o + size(dir, k);
+    &tree[o..e]
+}
+
+// Writes offset o and length l as pair k.
 pub fn put_pair(dir: &mut [u32], k: usize, o: usize, l: usize)
     requires { ⌜ (2 * k + 1 < length (now dir)) × (o < 2 ^ 32) × (l < 2 ^ 32) ⌝ }
     ensures { λ _. ⌜ now (dir .exit) ≡ set (set (now (dir .entry)) (2 * k) o) (2 * k + 1) l ⌝ }

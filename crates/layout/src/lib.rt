@@ -1,4 +1,7 @@
-// Two buffers, of bytes and of pairs of offset and length: moves, clearings and comparisons in them. How the records of a tree lie in them
-// is said in specs/, and its laws stand in proofs/.
+// Records in two lent buffers, one of bytes and one of pairs of offset and length: moves, clearings and comparisons of bytes, records taken
+// out and put in, and marks on them. What a record holds is not known here. How records lie in the buffers is said in specs/, and its laws
+// stand in proofs/.
 pub mod bytes;
 pub mod directory;
+pub mod edit;
+pub mod marks;

@@ -13,7 +13,7 @@ use Rattle.laws.specs.Sorted.{_∈_, any, keep, insert}
 use Rattle.laws.proofs.Truth.{split, refute, not-true}
 use Rattle.laws.proofs.Order.{is-same}
 use Rattle.laws.proofs.Sorted.{any-view, any-none, keep-view, keep-length}
-use Rattle.layout.specs.Layout.{records, joined, treeBytes, dirNumbers, inserted}
+use Rattle.layout.specs.Layout.{Editable, records, joined, treeBytes, dirNumbers, inserted}
 use Rattle.layout.specs.Marks.{marksOf, kept, unmarked}
 use Rattle.layout.proofs.MarkLaws.{kept-in, kept-ascends}
 use Rattle.layout.proofs.UnmarkLaws.{marks-unmarked}
@@ -25,7 +25,7 @@ use Rattle.key_laws.specs.Bytes.{Bytes}
 use Rattle.key_laws.specs.KeyOrder.{Sized}
 use Rattle.tree.specs.Value.{valueLength, valueBytes}
 use Rattle.tree.specs.Stored.{keyIn, orderIn, keyOf, keyBelow, Stored, stored, contents, tripleOf, valueFor, recordOf, Lawful, storedOf}
-use Rattle.tree.specs.Tree.{Ordered, Whole, keysBelow, hasKey}
+use Rattle.tree.specs.Tree.{Searchable, Whole, keysBelow, hasKey}
 use Rattle.data_model.specs.Ignore.{noFlags}
 use Rattle.data_model.specs.declared.area.Area.{Area}
 use Rattle.tree.specs.Matching.{outdates, removes, inArea, isForgotten, listedInArea}
@@ -38,7 +38,7 @@ use Rattle.tree.proofs.RecordLaws.{value-length, key-ordered, key-apart, key-fi
 use Rattle.tree.proofs.RecordParts.{key-fits}
 use Rattle.tree.proofs.WithinLaws.{Recorded, formed-recorded}
 use Rattle.tree.proofs.ContentLaws.{left-contents}
-use Rattle.tree.proofs.WellFormedLaws.{retain-whole, retain-ordered, retain-records, retain-dir, retain-tree, insert-place}
+use Rattle.tree.proofs.WellFormedLaws.{retain-editable, retain-searchable, retain-records, retain-dir, retain-tree, insert-place}
 use Rattle.store.specs.Store.{recordMost}
 use Rattle.store.specs.Ingest.{lessIn, stays, filedIn}
 use Rattle.store.specs.Change.{inTree, Changed, FilesIn}
@@ -214,11 +214,11 @@ module _ {o : KeyOrder} {ns : List ℕ} {count : ℕ} {dir tree : List ℕ} {a :
   others-records : records left dir′ tree′ ≡ kept marks (records count dir tree)
   others-records = ap (λ (n : ℕ). records n dir′ tree′) el ∙ retain-records (v .whole) marks dir′ tree′ ed et
 
-  pub filing-whole : Whole o left dir′ tree′
-  filing-whole = subst (λ (n : ℕ). Whole o n dir′ tree′) (sym el) (retain-whole (v .whole) marks dir′ tree′ ed et)
+  pub filing-editable : Editable left dir′ tree′
+  filing-editable = subst (λ (n : ℕ). Editable n dir′ tree′) (sym el) (retain-editable (v .whole) marks dir′ tree′ ed et)
 
-  pub filing-ordered : Ordered o left dir′ tree′
-  filing-ordered = subst (λ (n : ℕ). Ordered o n dir′ tree′) (sym el) (retain-ordered (v .whole) marks dir′ tree′ ed et (v .ordered .ascends))
+  pub filing-searchable : Searchable left dir′ tree′
+  filing-searchable = subst (λ (n : ℕ). Searchable n dir′ tree′) (sym el) (retain-searchable (v .whole) marks dir′ tree′ ed et (v .ordered .ascends))
 
   pub filing-numbers : 2 * (left + 1) ≤ length dir′
   filing-numbers = let r = v .numbers in omega (arith, others-length, retain-dir (v .whole) marks dir′ tree′ ed et)

@@ -46,11 +46,11 @@ pub fn file_in(
     let e = a.entry;
     let mut marks = [0u8; LIMIT_MOST];
     mark_removed(order, count, dir, tree, e, &mut marks);
-    let left = retain(order, count, dir, tree, &marks);
+    let left = retain(count, dir, tree, &marks);
     let mut rec = [0u8; RECORD_MOST];
     let n = encode_record(order, a, &mut rec);
-    let p = find(order, left, dir, tree, &rec[..n - VALUE]);
-    insert_at(order, left, dir, tree, p.at, &rec[..n]);
+    let p = find(left, dir, tree, &rec[..n - VALUE]);
+    insert_at(left, dir, tree, p.at, &rec[..n]);
     left + 1
 }
 
@@ -68,7 +68,7 @@ pub fn drop_at(
 {
     let mut marks = [0u8; LIMIT_MOST];
     mark_at(order, count, dir, tree, subspace, path, &mut marks);
-    retain(order, count, dir, tree, &marks)
+    retain(count, dir, tree, &marks)
 }
 
 // Marks what an area includes and the protected area, if any, does not.
@@ -118,5 +118,5 @@ pub fn drop_area(
         protected,
         &mut marks,
     );
-    retain(order, count, dir, tree, &marks)
+    retain(count, dir, tree, &marks)
 }

@@ -9,18 +9,18 @@ use lib.Seq.{length-take-le}
 use lib.Dec.{leb}
 use borrow.Author.Tests.{leb-true}
 use Rattle.laws.specs.Order.{isLess, below}
-use Rattle.laws.specs.Sorted.{all, ascending, Ascends}
+use Rattle.laws.specs.Sorted.{all, ascending}
 use Rattle.laws.proofs.Truth.{and-true}
 use Rattle.laws.proofs.Order.{is-less}
 use Rattle.laws.proofs.Sorted.{all-view}
-use Rattle.layout.specs.Layout.{records, recordAt, laidOut}
+use Rattle.layout.specs.Layout.{records, recordAt, laidOut, CutsOut, Editable}
 use Rattle.layout.proofs.LaidLaws.{laid, laid-pair, record-in, records-many}
 use Rattle.laws.proofs.Sorted.{ascending-ascends}
 use Rattle.data_model.specs.Path.{Figures, field}
 use Rattle.data_model.proofs.Orders.{bytes-linear}
 use Rattle.tree.specs.Value.{valueLength, readValue, isValue}
 use Rattle.tree.specs.Stored.{keyOf, valuePart, keyBelow, isKey, isRecord}
-use Rattle.tree.specs.Tree.{wellFormed, Formed, Ordered, Whole, InBounds, Readable}
+use Rattle.tree.specs.Tree.{wellFormed, InBounds, Readable, Formed, Searchable, Ordered, Whole}
 use Rattle.tree.specs.declared.stored.KeyOrder.{KeyOrder}
 
 -- Keys are ordered as bytes are.
@@ -76,6 +76,16 @@ module _ {o : KeyOrder} {count : ℕ} {dir tree : List ℕ} (v : Formed o count 
 
     pub formed-readable : Readable o k dir tree
     formed-readable = record { bounds = formed-bounds; is = formed-record }
+
+-- What the layer below and the search ask.
+pub bounds-cut : {k : ℕ} {dir tree : List ℕ} → InBounds k dir tree → CutsOut k dir tree
+bounds-cut b = record { pair = b .pair; inside = b .inside }
+
+pub whole-editable : {o : KeyOrder} {count : ℕ} {dir tree : List ℕ} → Whole o count dir tree → Editable count dir tree
+whole-editable v = record { laid = v .laid; small = v .formed .small }
+
+pub ordered-searchable : {o : KeyOrder} {count : ℕ} {dir tree : List ℕ} → Ordered o count dir tree → Searchable count dir tree
+ordered-searchable v = record { few = v .formed .few; bounds = formed-bounds (v .formed); ascends = v .ascends }
 
 -- What a tree that was tested whole gives.
 module _ {o : KeyOrder} {count : ℕ} {dir tree : List ℕ} (small : length tree < 2 ^ 32) (w : wellFormed o field count dir tree ≡ true) where

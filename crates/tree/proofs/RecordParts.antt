@@ -81,13 +81,8 @@ module _ (o : KeyOrder) (f : Figures) (r : List ℕ) where
     unfolding isRecord
     record-keyed e = rw (le-leb valueLength (length r) h, e)
 
--- What pair k cuts out, its key and its value.
+-- The key and the value of what pair k cuts out.
 module _ (o l e k : ℕ) (dir tree : List ℕ) (eo : o ≡ getD dir (2 * k) 0) (el : l ≡ getD dir (2 * k + 1) 0) where
-  pub record-part : e ≡ o + l → take (e - o) (drop o tree) ≡ recordAt k dir tree
-  record-part ee =
-      let q : e - o ≡ l = omega arith in
-      rw (q, eo, el)
-
   module _ (b : InBounds k dir tree) where
     cut-length : length (take l (drop o tree)) ≡ l
     cut-length = length-take-le l (drop o tree) (omega (arith, length-drop o tree, b .inside))

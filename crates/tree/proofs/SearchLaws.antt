@@ -15,13 +15,11 @@ use Rattle.laws.proofs.Order.{Tri, under, equal, over, tri, is-less, is-same}
 use Rattle.laws.proofs.Prefix.{list-equality, number-equality}
 use Rattle.laws.proofs.Sorted.{any-view, any-make}
 use Rattle.layout.specs.Layout.{records, recordAt}
-use Rattle.layout.proofs.LaidLaws.{records-get}
+use Rattle.layout.proofs.LaidLaws.{records-get, records-many}
 use Rattle.data_model.specs.Path.{byBytes}
 use Rattle.data_model.proofs.Orders.{bytes-linear}
 use Rattle.tree.specs.Stored.{keyOf, valuePart, keyBelow}
-use Rattle.tree.specs.Tree.{Ordered, keysBelow, hasKey, hasRecord}
-use Rattle.tree.specs.declared.stored.KeyOrder.{KeyOrder}
-use Rattle.tree.proofs.FormedLaws.{formed-count}
+use Rattle.tree.specs.Tree.{Searchable, keysBelow, hasKey, hasRecord}
 
 -- The key of a record is below a key.
 abbrev pub lessThan : List ℕ → List ℕ → Bool
@@ -224,10 +222,10 @@ module _ (key : List ℕ) where
                 ap (λ (r : List ℕ). sameList sameNumber (valuePart r) value) (key-place (w .1) (equal-lists _ _ (b .0)) .1) ∙ b .1),
           )
 
--- Over a tree that was tested, each step with what the calls answered.
-module _ {o : KeyOrder} {count : ℕ} {dir tree : List ℕ} (v : Ordered o count dir tree) (key : List ℕ) where
+-- Over a tree that can be searched, each step with what the calls answered.
+module _ {count : ℕ} {dir tree : List ℕ} (v : Searchable count dir tree) (key : List ℕ) where
   many : length (records count dir tree) ≡ count
-  many = formed-count (v .formed)
+  many = records-many count dir tree (v .few)
 
   pub search-start : Bracket key (records count dir tree) 0 count
   search-start = bracket-start key (records count dir tree) count many
@@ -239,7 +237,7 @@ module _ {o : KeyOrder} {count : ℕ} {dir tree : List ℕ} (v : Ordered o count
     compared =
         let w = b .within in
         let m = many in
-        rw (f, e, records-get count mid dir tree (v .formed .few) (omega arith))
+        rw (f, e, records-get count mid dir tree (v .few) (omega arith))
 
     pub search-up : t ≡ true → Bracket key (records count dir tree) (mid + 1) hi
     search-up y = bracket-up key (records count dir tree) (v .ascends) lo hi mid b h k (compared ∙ y)
@@ -255,7 +253,7 @@ module _ {o : KeyOrder} {count : ℕ} {dir tree : List ℕ} (v : Ordered o count
     pub find-is : n < count → (a : List ℕ) (t : Bool) → a ≡ keyOf (recordAt n dir tree) → t ≡ sameList sameNumber a key → t ≡ hasKey key (records count dir tree)
     find-is h a t f g =
         let m = many in
-        rw (g, f, ← records-get count n dir tree (v .formed .few) h) (found-is key (records count dir tree) (v .ascends) n e (omega arith))
+        rw (g, f, ← records-get count n dir tree (v .few) h) (found-is key (records count dir tree) (v .ascends) n e (omega arith))
 
     module _ (t : Bool) (q : t ≡ hasKey key (records count dir tree)) where
       pub has-place : t ≡ true → n < count
@@ -263,7 +261,7 @@ module _ {o : KeyOrder} {count : ℕ} {dir tree : List ℕ} (v : Ordered o count
 
       pub has-is : (value a : List ℕ) (r : Bool) → t ≡ true → a ≡ valuePart (recordAt n dir tree) → r ≡ sameList sameNumber a value → r ≡ hasRecord key value (records count dir tree)
       has-is value a r y f g =
-          rw (g, f, ← records-get count n dir tree (v .formed .few) (has-place y)) (record-is key (records count dir tree) (v .ascends) n e value (sym q ∙ y) .1)
+          rw (g, f, ← records-get count n dir tree (v .few) (has-place y)) (record-is key (records count dir tree) (v .ascends) n e value (sym q ∙ y) .1)
 
       pub has-none : (value : List ℕ) → t ≡ false → false ≡ hasRecord key value (records count dir tree)
       has-none value f = record-none key (records count dir tree) (v .ascends) n e value (sym q ∙ f)

@@ -13,7 +13,7 @@ use Rattle.laws.proofs.Truth.{clash}
 use Rattle.laws.proofs.Order.{three, greater-less}
 use Rattle.laws.proofs.Sorted.{all-view, any-none}
 use Rattle.layout.specs.Buffers.{filled}
-use Rattle.layout.specs.Layout.{records, joined, laidOut, treeBytes, dirNumbers, inserted}
+use Rattle.layout.specs.Layout.{records, joined, laidOut, Editable, treeBytes, dirNumbers, inserted}
 use Rattle.layout.specs.Marks.{kept}
 use Rattle.layout.proofs.LaidLaws.{Laid, laid, laid-pair, laid-out, after-dir, after-tree, after-records, after-test}
 use Rattle.laws.proofs.Sorted.{ascending-ascends, ascends-ascending, all-make}
@@ -22,9 +22,9 @@ use Rattle.layout.proofs.PlaceLaws.{inserted-insert}
 use Rattle.data_model.specs.Path.{Figures, field, byBytes}
 use Rattle.data_model.proofs.Orders.{bytes-linear}
 use Rattle.tree.specs.Stored.{keyOf, keyBelow, isRecord}
-use Rattle.tree.specs.Tree.{wellFormed, WellFormed, Formed, Ordered, Whole, keysBelow, hasKey}
+use Rattle.tree.specs.Tree.{wellFormed, WellFormed, Formed, Searchable, Whole, keysBelow, hasKey}
 use Rattle.tree.specs.declared.stored.KeyOrder.{KeyOrder}
-use Rattle.tree.proofs.FormedLaws.{key-trans, well-laid, well-all, well-ascending, formed-count, formed-all}
+use Rattle.tree.proofs.FormedLaws.{key-trans, well-laid, well-all, well-ascending, formed-count, formed-all, ordered-searchable}
 
 -- The test from its three parts.
 well-make : (o : KeyOrder) (f : Figures) (count : ℕ) (dir tree : List ℕ) → laidOut count dir tree ≡ true → ((r : List ℕ) → r ∈ records count dir tree → isRecord o f r ≡ true)
@@ -79,11 +79,11 @@ module _ {o : KeyOrder} {count : ℕ} {dir tree : List ℕ} (v : Formed o count 
         each = all-make (isRecord o field) (records (length recs) dir′ tree′) (λ r m. each r (rw again-records at m));
       }
 
-  pub whole-again : Whole o (length recs) dir′ tree′
-  whole-again = record { formed = formed-again; laid = after-test recs dir tree few room dir′ tree′ ed et }
+  pub editable-again : Editable (length recs) dir′ tree′
+  editable-again = record { laid = after-test recs dir tree few room dir′ tree′ ed et; small = formed-again .small }
 
-  pub ordered-again : Ascends keyBelow recs → Ordered o (length recs) dir′ tree′
-  ordered-again a = record { formed = formed-again; ascends = rw again-records a }
+  pub searchable-again : Ascends keyBelow recs → Searchable (length recs) dir′ tree′
+  searchable-again a = ordered-searchable (record { formed = formed-again; ascends = rw again-records a })
 
 module _ {o : KeyOrder} {count : ℕ} {dir tree : List ℕ} (v : Whole o count dir tree) (marks : List ℕ) where
   -- Records taken out.
@@ -97,14 +97,14 @@ module _ {o : KeyOrder} {count : ℕ} {dir tree : List ℕ} (v : Whole o count d
   kept-room = let a = laid count dir tree (v .laid) .room in omega (arith, joined-kept marks (records count dir tree))
 
   module _ (dir′ tree′ : List ℕ) (ed : dir′ ≡ dirNumbers (length dir) (kept marks (records count dir tree))) (et : tree′ ≡ treeBytes (length tree) (kept marks (records count dir tree))) where
-    pub retain-whole : Whole o (length (kept marks (records count dir tree))) dir′ tree′
-    retain-whole = whole-again (v .formed) (kept marks (records count dir tree)) kept-few kept-room
-        (λ r m. all-view (isRecord o field) (records count dir tree) (formed-all (v .formed)) (kept-in marks (records count dir tree) m)) dir′ tree′ ed et
+    kept-each : (r : List ℕ) → r ∈ kept marks (records count dir tree) → isRecord o field r ≡ true
+    kept-each r m = all-view (isRecord o field) (records count dir tree) (formed-all (v .formed)) (kept-in marks (records count dir tree) m)
 
-    pub retain-ordered : Ascends keyBelow (records count dir tree) → Ordered o (length (kept marks (records count dir tree))) dir′ tree′
-    retain-ordered a = ordered-again (v .formed) (kept marks (records count dir tree)) kept-few kept-room
-        (λ r m. all-view (isRecord o field) (records count dir tree) (formed-all (v .formed)) (kept-in marks (records count dir tree) m)) dir′ tree′ ed et
-        (kept-ascends keyBelow marks (records count dir tree) a)
+    pub retain-editable : Editable (length (kept marks (records count dir tree))) dir′ tree′
+    retain-editable = editable-again (v .formed) (kept marks (records count dir tree)) kept-few kept-room kept-each dir′ tree′ ed et
+
+    pub retain-searchable : Ascends keyBelow (records count dir tree) → Searchable (length (kept marks (records count dir tree))) dir′ tree′
+    retain-searchable a = searchable-again (v .formed) (kept marks (records count dir tree)) kept-few kept-room kept-each dir′ tree′ ed et (kept-ascends keyBelow marks (records count dir tree) a)
 
     pub retain-records : records (length (kept marks (records count dir tree))) dir′ tree′ ≡ kept marks (records count dir tree)
     retain-records = after-records (kept marks (records count dir tree)) dir tree kept-few kept-room dir′ tree′ ed et

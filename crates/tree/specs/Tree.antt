@@ -27,23 +27,6 @@ pub record WellFormed (o : KeyOrder) (f : Figures) (count : ℕ) (dir tree : Lis
   pub each : (r : List ℕ) → r ∈ records count dir tree → isRecord o f r ≡ true
   pub ascends : Ascends keyBelow (records count dir tree)
 
--- What the functions ask of a tree that was tested.
-pub record Formed (o : KeyOrder) (count : ℕ) (dir tree : List ℕ) : Type 0 where
-  pub few : 2 * count ≤ length dir
-  pub small : length tree < 2 ^ 32
-  pub inside : (k : ℕ) → k < count → getD dir (2 * k) 0 + getD dir (2 * k + 1) 0 ≤ length tree
-  pub each : all (isRecord o field) (records count dir tree) ≡ true
-
--- The same, and keys that ascend.
-pub record Ordered (o : KeyOrder) (count : ℕ) (dir tree : List ℕ) : Type 0 where
-  pub formed : Formed o count dir tree
-  pub ascends : Ascends keyBelow (records count dir tree)
-
--- The same, and a chain of pairs with zeros behind.
-pub record Whole (o : KeyOrder) (count : ℕ) (dir tree : List ℕ) : Type 0 where
-  pub formed : Formed o count dir tree
-  pub laid : laidOut count dir tree ≡ true
-
 -- Pair k is there, its record within the bytes and at least as long as a value.
 pub record InBounds (k : ℕ) (dir tree : List ℕ) : Type 0 where
   pub pair : 2 * k + 1 < length dir
@@ -54,6 +37,29 @@ pub record InBounds (k : ℕ) (dir tree : List ℕ) : Type 0 where
 pub record Readable (o : KeyOrder) (k : ℕ) (dir tree : List ℕ) : Type 0 where
   pub bounds : InBounds k dir tree
   pub is : isRecord o field (recordAt k dir tree) ≡ true
+
+-- What the functions ask of a tree that was tested.
+pub record Formed (o : KeyOrder) (count : ℕ) (dir tree : List ℕ) : Type 0 where
+  pub few : 2 * count ≤ length dir
+  pub small : length tree < 2 ^ 32
+  pub inside : (k : ℕ) → k < count → getD dir (2 * k) 0 + getD dir (2 * k + 1) 0 ≤ length tree
+  pub each : all (isRecord o field) (records count dir tree) ≡ true
+
+-- What a search by keys asks, whatever the order that the keys are of: each pair cuts a record with a value out of the bytes, and the keys ascend.
+pub record Searchable (count : ℕ) (dir tree : List ℕ) : Type 0 where
+  pub few : 2 * count ≤ length dir
+  pub bounds : (k : ℕ) → k < count → InBounds k dir tree
+  pub ascends : Ascends keyBelow (records count dir tree)
+
+-- A tree that was tested, and keys that ascend.
+pub record Ordered (o : KeyOrder) (count : ℕ) (dir tree : List ℕ) : Type 0 where
+  pub formed : Formed o count dir tree
+  pub ascends : Ascends keyBelow (records count dir tree)
+
+-- A tree that was tested, and a chain of pairs with zeros behind.
+pub record Whole (o : KeyOrder) (count : ℕ) (dir tree : List ℕ) : Type 0 where
+  pub formed : Formed o count dir tree
+  pub laid : laidOut count dir tree ≡ true
 
 -- How many keys are below a key, and whether it is there.
 unfoldable pub keysBelow : List ℕ → List (List ℕ) → ℕ

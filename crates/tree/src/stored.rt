@@ -23,7 +23,7 @@ ghost use Prim.Native.Nat.{_+_, _≤_};
 ghost use lib.ListN.{length};
 ghost use Rattle.laws.specs.Lists.{put};
 ghost use Rattle.laws.specs.Parts.{partBegins};
-ghost use Rattle.layout.specs.Layout.{recordAt, offsetAt};
+ghost use Rattle.layout.specs.Layout.{CutsOut, recordAt, offsetAt};
 ghost use Rattle.data_model.specs.Path.{field, legal, components};
 ghost use Rattle.keys.specs.Encode.{triple, keyMost, encodedSays};
 ghost use Rattle.keys.specs.Decode.{decoded};
@@ -99,13 +99,11 @@ pub fn is_record(order: KeyOrder, rec: &[u8]) -> bool
 
 // Record k as a part of the tree: its bytes, and where they lie.
 pub fn record_at<'a>(tree: &'a [u8], dir: &[u32], k: usize) -> &'a [u8]
-    requires { ⌜ InBounds k (now dir) (now tree) ⌝ }
+    requires { ⌜ CutsOut k (now dir) (now tree) ⌝ }
     ensures { λ r. ⌜ now r ≡ recordAt k (now (dir .entry)) (now (tree .entry)) ⌝ }
     ensures { λ r. ⌜ partBegins (tree .entry .ptr) (r .ptr) (offsetAt k (now (dir .entry))) ⌝ }
 {
-    let o = offset(dir, k);
-    let e = o + size(dir, k);
-    &tree[o..e]
+    layout::directory::record_at(tree, dir, k)
 }
 
 pub fn key_at<'a>(tree: &'a [u8], dir: &[u32], k: usize) -> &'a [u8]

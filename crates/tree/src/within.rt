@@ -39,14 +39,7 @@ fn stands_in(
     let path = e.path;
     let mut key = [0u8; KEY_MOST];
     let n = encode_key(KeyOrder::Tsp, subspace, path, e.timestamp, &mut key);
-    has_record(
-        KeyOrder::Tsp,
-        count,
-        tsp_dir,
-        tsp,
-        &key[..n],
-        value_at(spt, spt_dir, k),
-    )
+    has_record(count, tsp_dir, tsp, &key[..n], value_at(spt, spt_dir, k))
 }
 
 // Whether record k of the subspace-first tree is record j of the time-first tree.

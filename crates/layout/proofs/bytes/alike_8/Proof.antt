@@ -1,5 +1,5 @@
 -- `alike_8` meets its contract. Assumes nothing.
-use Rattle.layout.proofs.BufferLaws.{alike-turn}
+use Rattle.layout.proofs.CompareLaws.{alike-turn}
 use lib.ListN.{take, drop}
 use native.Mathlib.Omega.{arith}
 use Prim.Native.Nat.{_≤_, _-_}

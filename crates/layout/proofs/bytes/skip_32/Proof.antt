@@ -4,13 +4,13 @@ use mathlib.Core.Path.{_≡_, refl}
 use native.Mathlib.Omega.{arith}
 use lib.ListN.{length, drop}
 use Rattle.laws.proofs.Truth.{not-false}
-use Rattle.data_model.specs.Path.{byBytes}
-use Rattle.layout.proofs.BufferLaws.{skip-turn}
+use Rattle.laws.specs.Order.{byNumber, byElements}
+use Rattle.layout.proofs.CompareLaws.{skip-turn}
 use Rattle.layout.proofs.bytes.skip_32.Statement.{statement}
 use Rattle.layout.proofs.bytes.skip_32.Tie as tie
 
 abbrev Inv-loop : tie.InvT-loop
-Inv-loop a b i₀ i = (i ≤ length a) × (i ≤ length b) × (byBytes a b ≡ byBytes (drop i a) (drop i b))
+Inv-loop a b i₀ i = (i ≤ length a) × (i ≤ length b) × (byElements byNumber a b ≡ byElements byNumber (drop i a) (drop i b))
 
 abbrev μ-loop : tie.MeasureT-loop
 μ-loop a b i₀ i = length a - i

@@ -2,6 +2,7 @@
 use mathlib.Core.Path.{refl, sym, ap}
 use native.Mathlib.Omega.{arith}
 use lib.Seq.{length-take-le}
+use Rattle.tree.proofs.FormedLaws.{bounds-cut}
 use Rattle.query.specs.Listing.{listedSays}
 use Rattle.query.proofs.FoundLaws.{record-there, part-match, part-finished, part-refused, begins-match, begins-finished, begins-refused}
 use borrow.Author.Needs.{needs}
@@ -29,7 +30,7 @@ slice-aggregate-record-at-2 c = let p = (c .before .before .before .before .befo
 
 record-at-requires : tie.Need-record-at-requires
 unfolding listedSays
-record-at-requires c κs = let p = (c .before .before .before .before .before .before .before) in record-there (p .args .limit) (p .args .«spt-dir» .now) (p .args .spt .now) (listedSays (p .args .listed)) _ (ap listedSays (c .before .before .before .listed .given .1)) (p .pre) .bounds
+record-at-requires c κs = let p = (c .before .before .before .before .before .before .before) in bounds-cut (record-there (p .args .limit) (p .args .«spt-dir» .now) (p .args .spt .now) (listedSays (p .args .listed)) _ (ap listedSays (c .before .before .before .listed .given .1)) (p .pre) .bounds)
 
 enum-told : tie.Need-enum-told
 enum-told c = search needs

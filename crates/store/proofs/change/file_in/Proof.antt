@@ -10,7 +10,8 @@ use lib.Seq.{length-take-le}
 use Rattle.data_model.specs.Entry.{entryOf, rankOf}
 use Rattle.key_laws.specs.Bytes.{Bytes}
 use Rattle.tree.specs.Stored.{storedOf, tripleOf}
-use Rattle.store.proofs.ChangeLaws.{Handed, written-least, written-most, front-written, front-key, filing-whole, filing-ordered, filing-numbers, filing-many, filing-bytes, filing-place, filing-done}
+use Rattle.tree.proofs.FormedLaws.{whole-editable}
+use Rattle.store.proofs.ChangeLaws.{Handed, written-least, written-most, front-written, front-key, filing-editable, filing-searchable, filing-numbers, filing-many, filing-bytes, filing-place, filing-done}
 use Rattle.tree.specs.Value.{valueLength}
 use Rattle.store.specs.Store.{recordMost}
 use Rattle.data_model.specs.Path.{field}
@@ -41,7 +42,7 @@ slice-aggregate-retain : tie.Need-slice-aggregate-retain
 slice-aggregate-retain c = search needs
 
 retain-requires : tie.Need-retain-requires
-retain-requires c κs = search needs
+retain-requires c κs = (whole-editable (c .before .before .before .before .before .before .before .before .before .before .before .pre .whole), (search needs))
 
 slice-aggregate-encode-record : tie.Need-slice-aggregate-encode-record
 slice-aggregate-encode-record c = search needs
@@ -59,7 +60,7 @@ slice-aggregate-find : tie.Need-slice-aggregate-find
 slice-aggregate-find c = let e = c .before .before .before .before .encode-record in sym (length-take-le _ (e .last .1 .1 .0) (omega (arith, most ((c .before .before .before .before)))))
 
 find-requires : tie.Need-find-requires
-find-requires c κs = let p = (c .before .before .before .before .before .before .before .before .before .before .before .before .before .before .before .before .before .before .before .before .before .before) in let m = c .before .before .before .before .before .before .before .before .before .before .before .before .before .before .before .mark-removed in let r = c .before .before .before .before .before .before .before .before .before .before .retain in filing-ordered (p .pre) (handed p) (known ((c .before .before .before .before .before .before .before .before .before .before .before .before .before .before .before .before .before .before .before .before .before))) _ _ (m .ensures) (r .result) (r .last .1 .1 .0) (r .last .1 .1 .1 .0) (r .ensures .0) (r .ensures .1 .0) (r .ensures .1 .1)
+find-requires c κs = let p = (c .before .before .before .before .before .before .before .before .before .before .before .before .before .before .before .before .before .before .before .before .before .before) in let m = c .before .before .before .before .before .before .before .before .before .before .before .before .before .before .before .mark-removed in let r = c .before .before .before .before .before .before .before .before .before .before .retain in filing-searchable (p .pre) (handed p) (known ((c .before .before .before .before .before .before .before .before .before .before .before .before .before .before .before .before .before .before .before .before .before))) _ _ (m .ensures) (r .result) (r .last .1 .0) (r .last .1 .1 .0) (r .ensures .0) (r .ensures .1 .0) (r .ensures .1 .1)
 
 array-share-prefix-rec-2 : tie.Need-array-share-prefix-rec-2
 array-share-prefix-rec-2 c = most ((c .before .before .before .before .before .before .before))
@@ -68,10 +69,10 @@ slice-aggregate-insert-at : tie.Need-slice-aggregate-insert-at
 slice-aggregate-insert-at c = let e = c .before .before .before .before .before .before .before .before .encode-record in sym (length-take-le _ (e .last .1 .1 .0) (most ((c .before .before .before .before .before .before .before .before))))
 
 insert-at-requires : tie.Need-insert-at-requires
-insert-at-requires c κs = let p = (c .before .before .before .before .before .before .before .before .before .before .before .before .before .before .before .before .before .before .before .before .before .before .before .before .before .before) in let m = c .before .before .before .before .before .before .before .before .before .before .before .before .before .before .before .before .before .before .before .mark-removed in let r = c .before .before .before .before .before .before .before .before .before .before .before .before .before .before .retain in let e = c .before .before .before .before .before .before .before .before .encode-record in (filing-whole (p .pre) (handed p) (known ((c .before .before .before .before .before .before .before .before .before .before .before .before .before .before .before .before .before .before .before .before .before .before .before .before .before))) _ _ (m .ensures) (r .result) (r .last .1 .1 .0) (r .last .1 .1 .1 .0) (r .ensures .0) (r .ensures .1 .0) (r .ensures .1 .1), filing-place (p .pre) (handed p) (known ((c .before .before .before .before .before .before .before .before .before .before .before .before .before .before .before .before .before .before .before .before .before .before .before .before .before))) _ _ (m .ensures) (r .result) (r .last .1 .1 .0) (r .last .1 .1 .1 .0) (r .ensures .0) (r .ensures .1 .0) (r .ensures .1 .1) _ (front-written _ _ (e .last .1 .1 .0) (e .result) (e .ensures .0) (e .ensures .1)) _ (front-key _ _ (e .last .1 .1 .0) (e .result) (e .ensures .0) (e .ensures .1)) _ (c .before .before .before .find .ensures .0), filing-numbers (p .pre) (handed p) (known ((c .before .before .before .before .before .before .before .before .before .before .before .before .before .before .before .before .before .before .before .before .before .before .before .before .before))) _ _ (m .ensures) (r .result) (r .last .1 .1 .0) (r .last .1 .1 .1 .0) (r .ensures .0) (r .ensures .1 .0) (r .ensures .1 .1), filing-bytes (p .pre) (handed p) (known ((c .before .before .before .before .before .before .before .before .before .before .before .before .before .before .before .before .before .before .before .before .before .before .before .before .before))) _ _ (m .ensures) (r .result) (r .last .1 .1 .0) (r .last .1 .1 .1 .0) (r .ensures .0) (r .ensures .1 .0) (r .ensures .1 .1) _ (front-written _ _ (e .last .1 .1 .0) (e .result) (e .ensures .0) (e .ensures .1)))
+insert-at-requires c κs = let p = (c .before .before .before .before .before .before .before .before .before .before .before .before .before .before .before .before .before .before .before .before .before .before .before .before .before .before) in let m = c .before .before .before .before .before .before .before .before .before .before .before .before .before .before .before .before .before .before .before .mark-removed in let r = c .before .before .before .before .before .before .before .before .before .before .before .before .before .before .retain in let e = c .before .before .before .before .before .before .before .before .encode-record in (filing-editable (p .pre) (handed p) (known ((c .before .before .before .before .before .before .before .before .before .before .before .before .before .before .before .before .before .before .before .before .before .before .before .before .before))) _ _ (m .ensures) (r .result) (r .last .1 .0) (r .last .1 .1 .0) (r .ensures .0) (r .ensures .1 .0) (r .ensures .1 .1), filing-place (p .pre) (handed p) (known ((c .before .before .before .before .before .before .before .before .before .before .before .before .before .before .before .before .before .before .before .before .before .before .before .before .before))) _ _ (m .ensures) (r .result) (r .last .1 .0) (r .last .1 .1 .0) (r .ensures .0) (r .ensures .1 .0) (r .ensures .1 .1) _ (front-written _ _ (e .last .1 .1 .0) (e .result) (e .ensures .0) (e .ensures .1)) _ (front-key _ _ (e .last .1 .1 .0) (e .result) (e .ensures .0) (e .ensures .1)) _ (c .before .before .before .find .ensures .0), filing-numbers (p .pre) (handed p) (known ((c .before .before .before .before .before .before .before .before .before .before .before .before .before .before .before .before .before .before .before .before .before .before .before .before .before))) _ _ (m .ensures) (r .result) (r .last .1 .0) (r .last .1 .1 .0) (r .ensures .0) (r .ensures .1 .0) (r .ensures .1 .1), filing-bytes (p .pre) (handed p) (known ((c .before .before .before .before .before .before .before .before .before .before .before .before .before .before .before .before .before .before .before .before .before .before .before .before .before))) _ _ (m .ensures) (r .result) (r .last .1 .0) (r .last .1 .1 .0) (r .ensures .0) (r .ensures .1 .0) (r .ensures .1 .1) _ (front-written _ _ (e .last .1 .1 .0) (e .result) (e .ensures .0) (e .ensures .1)))
 
 add-result : tie.Need-add-result
-add-result c = let p = (c .before .before .before .before .before .before .before .before .before .before .before .before .before .before .before .before .before .before .before .before .before .before .before .before .before .before .before .before .before .before .before) in let m = c .before .before .before .before .before .before .before .before .before .before .before .before .before .before .before .before .before .before .before .before .before .before .before .before .mark-removed in let r = c .before .before .before .before .before .before .before .before .before .before .before .before .before .before .before .before .before .before .before .retain in omega (arith, p .pre .few, filing-many (p .pre) (handed p) (known ((c .before .before .before .before .before .before .before .before .before .before .before .before .before .before .before .before .before .before .before .before .before .before .before .before .before .before .before .before .before .before))) _ _ (m .ensures) (r .result) (r .last .1 .1 .0) (r .last .1 .1 .1 .0) (r .ensures .0) (r .ensures .1 .0) (r .ensures .1 .1))
+add-result c = let p = (c .before .before .before .before .before .before .before .before .before .before .before .before .before .before .before .before .before .before .before .before .before .before .before .before .before .before .before .before .before .before .before) in let m = c .before .before .before .before .before .before .before .before .before .before .before .before .before .before .before .before .before .before .before .before .before .before .before .before .mark-removed in let r = c .before .before .before .before .before .before .before .before .before .before .before .before .before .before .before .before .before .before .before .retain in omega (arith, p .pre .few, filing-many (p .pre) (handed p) (known ((c .before .before .before .before .before .before .before .before .before .before .before .before .before .before .before .before .before .before .before .before .before .before .before .before .before .before .before .before .before .before))) _ _ (m .ensures) (r .result) (r .last .1 .0) (r .last .1 .1 .0) (r .ensures .0) (r .ensures .1 .0) (r .ensures .1 .1))
 
 same-length : tie.Need-same-length
 same-length c = search needs
@@ -80,7 +81,7 @@ same-length-2 : tie.Need-same-length-2
 same-length-2 c = search needs
 
 returns : tie.Need-returns
-returns c = let p = (c .before .before .before .before .before .before .before .before .before .before .before .before .before .before .before .before .before .before .before .before .before .before .before .before .before .before .before .before .before .before .before) in let m = c .before .before .before .before .before .before .before .before .before .before .before .before .before .before .before .before .before .before .before .before .before .before .before .before .mark-removed in let r = c .before .before .before .before .before .before .before .before .before .before .before .before .before .before .before .before .before .before .before .retain in let e = c .before .before .before .before .before .before .before .before .before .before .before .before .before .encode-record in let i = c .before .before .before .before .insert-at in filing-done (p .pre) (handed p) (known ((c .before .before .before .before .before .before .before .before .before .before .before .before .before .before .before .before .before .before .before .before .before .before .before .before .before .before .before .before .before .before))) _ _ (m .ensures) (r .result) (r .last .1 .1 .0) (r .last .1 .1 .1 .0) (r .ensures .0) (r .ensures .1 .0) (r .ensures .1 .1) _ (front-written _ _ (e .last .1 .1 .0) (e .result) (e .ensures .0) (e .ensures .1)) _ (front-key _ _ (e .last .1 .1 .0) (e .result) (e .ensures .0) (e .ensures .1)) _ (c .before .before .before .before .before .before .before .before .find .ensures .0) _ _ (i .ensures .0) (i .ensures .1)
+returns c = let p = (c .before .before .before .before .before .before .before .before .before .before .before .before .before .before .before .before .before .before .before .before .before .before .before .before .before .before .before .before .before .before .before) in let m = c .before .before .before .before .before .before .before .before .before .before .before .before .before .before .before .before .before .before .before .before .before .before .before .before .mark-removed in let r = c .before .before .before .before .before .before .before .before .before .before .before .before .before .before .before .before .before .before .before .retain in let e = c .before .before .before .before .before .before .before .before .before .before .before .before .before .encode-record in let i = c .before .before .before .before .insert-at in filing-done (p .pre) (handed p) (known ((c .before .before .before .before .before .before .before .before .before .before .before .before .before .before .before .before .before .before .before .before .before .before .before .before .before .before .before .before .before .before))) _ _ (m .ensures) (r .result) (r .last .1 .0) (r .last .1 .1 .0) (r .ensures .0) (r .ensures .1 .0) (r .ensures .1 .1) _ (front-written _ _ (e .last .1 .1 .0) (e .result) (e .ensures .0) (e .ensures .1)) _ (front-key _ _ (e .last .1 .1 .0) (e .result) (e .ensures .0) (e .ensures .1)) _ (c .before .before .before .before .before .before .before .before .find .ensures .0) _ _ (i .ensures .0) (i .ensures .1)
 
 pub file-in-spec : {M : Type 1} → statement M
 file-in-spec =

@@ -1,6 +1,5 @@
 -- `find` meets its contract. Assumes nothing.
 use native.Mathlib.Omega.{arith}
-use Rattle.tree.proofs.FormedLaws.{formed-bounds}
 use Rattle.tree.proofs.SearchLaws.{find-is, find-none}
 use borrow.Author.Needs.{needs}
 use Rattle.tree.proofs.search.find.Statement.{statement}
@@ -10,7 +9,7 @@ lower-requires : tie.Need-lower-requires
 lower-requires c κs = search needs
 
 key-at-requires : tie.Need-key-at-requires
-key-at-requires c κs = formed-bounds (c .before .before .before .before .before .pre .formed) (c .before .lower .result) (omega arith)
+key-at-requires c κs = c .before .before .before .before .before .pre .bounds (c .before .lower .result) (omega arith)
 
 same-requires : tie.Need-same-requires
 same-requires c κs = search needs

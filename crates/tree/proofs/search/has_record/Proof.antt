@@ -1,5 +1,4 @@
 -- `has_record` meets its contract. Assumes nothing.
-use Rattle.tree.proofs.FormedLaws.{formed-bounds}
 use Rattle.tree.proofs.SearchLaws.{has-place, has-is, has-none}
 use borrow.Author.Needs.{needs}
 use Rattle.tree.proofs.search.has_record.Statement.{statement}
@@ -12,7 +11,7 @@ value-at-requires : tie.Need-value-at-requires
 value-at-requires c κs =
     let q = c .before in
     let p = q .before .before .before .before .before in
-    formed-bounds (p .pre .formed) (q .find .result .at) (has-place (p .pre) (p .args .key .now) (q .find .result .at) (q .find .ensures .0) (q .find .result .found) (q .find .ensures .1) (c .if1 .taken))
+    p .pre .bounds (q .find .result .at) (has-place (p .pre) (p .args .key .now) (q .find .result .at) (q .find .ensures .0) (q .find .result .found) (q .find .ensures .1) (c .if1 .taken))
 
 same-requires : tie.Need-same-requires
 same-requires c κs = search needs

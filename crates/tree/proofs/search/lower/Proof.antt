@@ -3,7 +3,6 @@ use Prim.Native.Nat.{_+_, _-_, _≤_, _/_}
 use borrow.Author.Needs.{needs}
 use native.Mathlib.Omega.{arith}
 use Rattle.layout.specs.Layout.{records}
-use Rattle.tree.proofs.FormedLaws.{formed-bounds}
 use Rattle.tree.proofs.SearchLaws.{Bracket, bracket-end, search-start, search-up, search-down}
 use Rattle.tree.proofs.search.lower.Statement.{statement}
 use Rattle.tree.proofs.search.lower.Tie as tie
@@ -24,7 +23,7 @@ add-mid : tie.Need-add-mid Inv-loop μ-loop
 add-mid c = omega arith
 
 key-at-requires : tie.Need-key-at-requires Inv-loop μ-loop
-key-at-requires c κs = let l = c .before in formed-bounds (l .before .before .before .before .pre .formed) (l .loop .lo + (l .loop .hi - l .loop .lo) / 2) (omega arith)
+key-at-requires c κs = let l = c .before in l .before .before .before .before .pre .bounds (l .loop .lo + (l .loop .hi - l .loop .lo) / 2) (omega arith)
 
 less-requires : tie.Need-less-requires Inv-loop μ-loop
 less-requires c κs = search needs

@@ -6,7 +6,7 @@ use lib.ListN.{length-replicate}
 use lib.Seq.{length-take-le}
 use Rattle.data_model.specs.Path.{field}
 use Rattle.tree.specs.declared.stored.KeyOrder.the-variants.{Spt, Tsp}
-use Rattle.tree.proofs.FormedLaws.{formed-record, formed-bounds}
+use Rattle.tree.proofs.FormedLaws.{formed-record, formed-bounds, ordered-searchable}
 use Rattle.tree.proofs.RecordParts.{key-fits}
 use Rattle.tree.proofs.WithinLaws.{at-bytes, formed-recorded, stands}
 use borrow.Author.Needs.{needs}
@@ -41,7 +41,7 @@ value-at-requires : tie.Need-value-at-requires
 value-at-requires c κs = formed-bounds (c .before .before .before .before .before .before .before .before .before .before .before .before .pre .0) (c .before .before .before .before .before .before .before .before .before .before .before .before .args .k) (c .before .before .before .before .before .before .before .before .before .before .before .before .pre .2)
 
 has-record-requires : tie.Need-has-record-requires
-has-record-requires c κs = search needs
+has-record-requires c κs = ordered-searchable (c .before .before .before .before .before .before .before .before .before .before .before .before .before .pre .1)
 
 returns : tie.Need-returns
 returns c =

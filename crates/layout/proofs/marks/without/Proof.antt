@@ -1,7 +1,7 @@
 -- `without` meets its contract. Assumes nothing.
 use borrow.Author.Tests.{eq-eqb, ne-eqb}
-use Rattle.tree.proofs.marks.without.Statement.{statement}
-use Rattle.tree.proofs.marks.without.Tie as tie
+use Rattle.layout.proofs.marks.without.Statement.{statement}
+use Rattle.layout.proofs.marks.without.Tie as tie
 
 returns : tie.Need-returns
 returns c = rw (eq-eqb _ _ (c .if1 .taken))

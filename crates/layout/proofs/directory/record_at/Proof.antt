@@ -1,10 +1,19 @@
 -- `record_at` meets its contract. Assumes nothing.
-use mathlib.Core.Path.{refl}
+use mathlib.Core.Path.{_≡_, refl}
+use mathlib.Core.List.{List}
+use Prim.Native.Nat.{ℕ, _+_, _-_, _*_}
 use native.Mathlib.Omega.{arith}
-use Rattle.tree.proofs.RecordParts.{record-part}
+use lib.ListN.{take, drop, getD}
 use borrow.Author.Needs.{needs}
-use Rattle.tree.proofs.stored.record_at.Statement.{statement}
-use Rattle.tree.proofs.stored.record_at.Tie as tie
+use Rattle.layout.specs.Layout.{recordAt}
+use Rattle.layout.proofs.directory.record_at.Statement.{statement}
+use Rattle.layout.proofs.directory.record_at.Tie as tie
+
+-- What pair k cuts out.
+record-part : (o l e k : ℕ) (dir tree : List ℕ) → o ≡ getD dir (2 * k) 0 → l ≡ getD dir (2 * k + 1) 0 → e ≡ o + l → take (e - o) (drop o tree) ≡ recordAt k dir tree
+record-part o l e k dir tree eo el ee =
+    let q : e - o ≡ l = omega arith in
+    rw (q, eo, el)
 
 offset-requires : tie.Need-offset-requires
 offset-requires c κs = search needs

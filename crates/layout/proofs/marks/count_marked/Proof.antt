@@ -4,10 +4,10 @@ use Prim.Native.Nat.{_≤_, _-_, _+_}
 use native.Mathlib.Omega.{arith}
 use native.Mathlib.Nat.{zero-add}
 use lib.ListN.{length, drop}
 use Rattle.layout.specs.Marks.{countMarks}
 use Rattle.layout.proofs.MarkLaws.{count-one, count-none, count-end}
-use Rattle.tree.proofs.marks.count_marked.Statement.{statement}
-use Rattle.tree.proofs.marks.count_marked.Tie as tie
+use Rattle.layout.proofs.marks.count_marked.Statement.{statement}
+use Rattle.layout.proofs.marks.count_marked.Tie as tie
 
 abbrev Inv-loop : tie.InvT-loop
 Inv-loop marks k₀ n₀ k n = (k ≤ length marks) × (n ≤ k) × (n + countMarks (drop k marks) ≡ countMarks marks)

@@ -3,9 +3,9 @@ use Prim.Native.Nat.{_≤_, _-_}
 use native.Mathlib.Omega.{arith}
 use lib.ListN.{length}
 use borrow.Author.Needs.{needs}
 use Rattle.layout.proofs.UnmarkLaws.{Unmarking, unmarking-start, unmarking-next, unmarking-end}
-use Rattle.tree.proofs.marks.unmark.Statement.{statement}
-use Rattle.tree.proofs.marks.unmark.Tie as tie
+use Rattle.layout.proofs.marks.unmark.Statement.{statement}
+use Rattle.layout.proofs.marks.unmark.Tie as tie
 
 abbrev Inv-loop : tie.InvT-loop
 Inv-loop marks₀ other k₀ marks k = (k ≤ length other) × Unmarking marks₀ other marks k

@@ -3,9 +3,9 @@ use mathlib.Core.Path.{_≡_, sym, ap, _∙_}
 use Prim.Native.Nat.{ℕ, _-_, _*_, _+_}
 use native.Mathlib.Omega.{arith}
 use lib.ListN.{set}
 use Rattle.layout.proofs.InsertLaws.{Opening, opening-start, opening-turn, opening-end}
-use Rattle.tree.proofs.edit.open_pairs.Statement.{statement}
-use Rattle.tree.proofs.edit.open_pairs.Tie as tie
+use Rattle.layout.proofs.edit.open_pairs.Statement.{statement}
+use Rattle.layout.proofs.edit.open_pairs.Tie as tie
 
 abbrev Inv-loop : tie.InvT-loop
 Inv-loop dir₀ count at o l k₀ pos₀ len₀ dir k pos len = Opening count at o l dir₀ dir k pos len

@@ -1,9 +1,9 @@
 -- `end_of` meets its contract. Assumes nothing.
 use native.Mathlib.Omega.{arith}
 use borrow.Author.Needs.{needs}
 use Rattle.layout.proofs.InsertLaws.{end-sum}
-use Rattle.tree.proofs.edit.end_of.Statement.{statement}
-use Rattle.tree.proofs.edit.end_of.Tie as tie
+use Rattle.layout.proofs.edit.end_of.Statement.{statement}
+use Rattle.layout.proofs.edit.end_of.Tie as tie
 
 returns : tie.Need-returns
 returns c = search needs

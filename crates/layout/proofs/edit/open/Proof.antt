@@ -1,9 +1,9 @@
 -- `open` meets its contract. Assumes nothing.
 use mathlib.Core.Path.{refl, _∙_}
 use borrow.Author.Needs.{needs}
 use Rattle.layout.proofs.RetainLaws.{open-tree, open-dir}
-use Rattle.tree.proofs.edit.open.Statement.{statement}
-use Rattle.tree.proofs.edit.open.Tie as tie
+use Rattle.layout.proofs.edit.open.Statement.{statement}
+use Rattle.layout.proofs.edit.open.Tie as tie
 
 clear-requires : tie.Need-clear-requires
 clear-requires c κs = search needs

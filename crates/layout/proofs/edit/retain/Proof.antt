@@ -2,10 +2,10 @@
 use mathlib.Core.Path.{_≡_, _∙_}
 use Prim.Native.Nat.{_-_}
 use native.Mathlib.Omega.{arith}
 use Rattle.layout.proofs.RetainLaws.{Pass, pass-start, pass-next, pass-room, pass-out, pass-in, pass-count, pass-tree, pass-dir}
 use Rattle.layout.proofs.LaidLaws.{laid}
-use Rattle.tree.proofs.edit.retain.Statement.{statement}
-use Rattle.tree.proofs.edit.retain.Tie as tie
+use Rattle.layout.proofs.edit.retain.Statement.{statement}
+use Rattle.layout.proofs.edit.retain.Tie as tie
 
 abbrev Inv-loop : tie.InvT-loop
 Inv-loop count dir₀ tree₀ marks i₀ n₀ from₀ to₀ dir tree i n from to = Pass count marks dir₀ tree₀ dir tree i n from to

@@ -1,10 +1,10 @@
 -- `insert_at` meets its contract. Assumes nothing.
 use native.Mathlib.Omega.{arith}
 use borrow.Author.Needs.{needs}
 use Rattle.layout.proofs.InsertLaws.{Spans, spans, insert-tree, insert-end, insert-dir}
 use Rattle.layout.proofs.LaidLaws.{laid}
-use Rattle.tree.proofs.edit.insert_at.Statement.{statement}
-use Rattle.tree.proofs.edit.insert_at.Tie as tie
+use Rattle.layout.proofs.edit.insert_at.Statement.{statement}
+use Rattle.layout.proofs.edit.insert_at.Tie as tie
 
 -- The numbers that the code computes with.
 numbers : (c : tie.After-end-of2)

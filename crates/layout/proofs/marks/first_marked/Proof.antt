@@ -3,10 +3,10 @@ use mathlib.Core.Path.{_≡_, refl}
 use Prim.Native.Nat.{_≤_, _-_, _+_}
 use native.Mathlib.Omega.{arith}
 use lib.ListN.{length, drop}
 use Rattle.layout.specs.Marks.{firstMark}
 use Rattle.layout.proofs.MarkLaws.{first-stop, first-on, first-end}
-use Rattle.tree.proofs.marks.first_marked.Statement.{statement}
-use Rattle.tree.proofs.marks.first_marked.Tie as tie
+use Rattle.layout.proofs.marks.first_marked.Statement.{statement}
+use Rattle.layout.proofs.marks.first_marked.Tie as tie
 
 abbrev Inv-loop : tie.InvT-loop
 Inv-loop marks from k₀ k = (k ≤ length marks) × (from + firstMark (drop from marks) ≡ k + firstMark (drop k marks))

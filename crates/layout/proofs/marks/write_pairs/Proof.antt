@@ -2,9 +2,9 @@
 use Prim.Native.Nat.{_≤_, _-_}
 use native.Mathlib.Omega.{arith}
 use lib.ListN.{length}
 use Rattle.layout.proofs.PairLaws.{Marking, marking-start, marking-fits, marking-one, marking-none, marking-count, marking-all}
-use Rattle.tree.proofs.marks.write_pairs.Statement.{statement}
-use Rattle.tree.proofs.marks.write_pairs.Tie as tie
+use Rattle.layout.proofs.marks.write_pairs.Statement.{statement}
+use Rattle.layout.proofs.marks.write_pairs.Tie as tie
 
 abbrev Inv-loop : tie.InvT-loop
 Inv-loop dir marks out₀ k₀ n₀ out k n = (n ≤ k) × Marking marks dir out₀ out k n
