@@ -14,19 +14,20 @@ use Rattle.laws.specs.Sorted.{all}
 use Rattle.laws.proofs.Truth.{clash, and-true}
 use Rattle.data_model.specs.Path.{Figures, Component, Components, isPath}
 use Rattle.keys.specs.Encode.{escaped, componentKey, pathKey, pathEnd, be, subspaceKey, Triple, sptKey, tspKey}
-use Rattle.keys.specs.Decode.{Taken, refused, took, more, bind, tokenOf, mark, endsPath, readComponent, readComponents, readPath, number, subspaceAt, readSpt, readTsp}
+use Rattle.keys.specs.Decode.{Taken, refused, took, more, bind, tokenOf, mark, endsPath, byToken, readComponent, readComponents, readPath, number, subspaceAt, readSpt, readTsp}
 use Rattle.key_laws.specs.KeyOrder.{Sized}
 use Rattle.keys.proofs.Encoding.{be-length, subspace-length}
 use Rattle.key_laws.specs.Bytes.{Bytes}
 use Rattle.key_laws.proofs.Fits.{isByte, bytes-all, bytes-take, bytes-drop, fitting, path-fits, fits-path}
 use Rattle.key_laws.proofs.BigEndian.{number-back, subspace-back, number-forth, number-sized, subspace-forth}
+use Rattle.keys.proofs.Reading.{stepComponent, component-step}
 use Rattle.keys.proofs.Walking.{path-ends, path-goes}
 use Rattle.keys.proofs.Decoding.{whole-took, whole-is}
 
 -- A component and a path that are written are read back.
 component-back : (lim : ℕ) (c r : List ℕ) → length c ≤ lim → readComponent lim (componentKey c ++ r) ≡ took c (length (componentKey c))
-unfolding readComponent componentKey escaped more
-component-back lim [] r h = refl
+unfolding byToken readComponent tokenOf mark componentKey escaped more
+component-back lim [] r h = component-step lim (0 ∷ 1 ∷ r)
 component-back zero (b ∷ c) r h = absurd (omega arith)
 component-back (suc lim) (zero ∷ c) r h =
     ap (more (0 ∷_) 2) (component-back lim c r (omega arith)) ∙ ap (took (0 ∷ c)) (omega arith)
@@ -114,17 +115,20 @@ component-zero lim k (took c u) h =
     let e : 2 + u ≡ suc (suc u) = omega arith in
     (rw e (ap (λ (x : List ℕ). 0 ∷ 2 ∷ x) (h .0)), omega arith, omega arith)
 
+step-is : (lim : ℕ) (k : List ℕ) → ComponentIs lim k (stepComponent lim k (tokenOf k))
+unfolding tokenOf mark escaped componentKey
+step-is lim [] = tt
+step-is zero (suc b ∷ k) = tt
+step-is (suc lim) (suc b ∷ k) = component-byte lim b k (readComponent lim k) (subst (ComponentIs lim k) (sym (component-step lim k)) (step-is lim k))
+step-is lim (zero ∷ []) = tt
+step-is lim (zero ∷ zero ∷ k) = tt
+step-is lim (zero ∷ suc zero ∷ k) = (refl, omega arith, omega arith)
+step-is zero (zero ∷ suc (suc zero) ∷ k) = tt
+step-is (suc lim) (zero ∷ suc (suc zero) ∷ k) = component-zero lim k (readComponent lim k) (subst (ComponentIs lim k) (sym (component-step lim k)) (step-is lim k))
+step-is lim (zero ∷ suc (suc (suc m)) ∷ k) = tt
+
 component-is : (lim : ℕ) (k : List ℕ) → ComponentIs lim k (readComponent lim k)
-unfolding readComponent componentKey
-component-is lim [] = tt
-component-is zero (suc b ∷ k) = tt
-component-is (suc lim) (suc b ∷ k) = component-byte lim b k (readComponent lim k) (component-is lim k)
-component-is lim (zero ∷ []) = tt
-component-is lim (zero ∷ zero ∷ k) = tt
-component-is lim (zero ∷ suc zero ∷ k) = (refl, omega arith, omega arith)
-component-is zero (zero ∷ suc (suc zero) ∷ k) = tt
-component-is (suc lim) (zero ∷ suc (suc zero) ∷ k) = component-zero lim k (readComponent lim k) (component-is lim k)
-component-is lim (zero ∷ suc (suc (suc m)) ∷ k) = tt
+component-is lim k = subst (ComponentIs lim k) (sym (component-step lim k)) (step-is lim k)
 
 -- And so a path.
 abbrev PathIs : ℕ → ℕ → ℕ → List ℕ → Taken Components → Type 0

@@ -1,7 +1,7 @@
 -- A path taken component by component is the path that the decoder reads: `taken-path`.
 -- Assumes nothing.
 use Prim.Native.Nat.{ℕ, zero, suc, _+_, _-_, min}
-use mathlib.Core.Path.{_≡_, refl, sym, ap, _∙_}
+use mathlib.Core.Path.{_≡_, refl, sym, ap, subst, _∙_}
 use mathlib.Core.Bool.{Bool, true, false, cond}
 use mathlib.Core.List.{List, [], _∷_}
 use native.Mathlib.Omega.{arith}
@@ -11,7 +11,10 @@ use lib.ListN.{length, drop, replicate}
 use lib.Seq.{drop-drop, take-append-seam}
 use Rattle.laws.proofs.Truth.{split}
 use Rattle.data_model.specs.Path.{field, Component, Components}
-use Rattle.keys.specs.Decode.{Taken, refused, took, more, tokenOf, endsPath, readComponent, readComponents, readPath, nextComponent, componentRead}
+use Rattle.data_model.specs.Said.{Said, refuses, says}
+use Rattle.keys.specs.Encode.{escaped}
+use Rattle.keys.specs.Decode.{Symbol, byte, component-mark, path-mark, Taken, refused, took, more, tokenOf, endsPath, readComponent, readComponents, readPath, nextComponent, componentRead}
+use Rattle.keys.proofs.Reading.{stepComponent, component-step}
 use Rattle.keys.proofs.Walking.{path-ends, path-stops, path-goes, path-fails}
 use Rattle.key_reader.specs.Reader.{behind, stepped, takeOn, takePath}
 
@@ -34,19 +37,23 @@ within-empty : (room : ℕ) → within room (took [] 2) ≡ took [] 2
 within-empty room = rw (leb·zero room)
 
 -- A component's length and the room that is left are judged one after the other, or both at once.
+limited-step : (mcl room : ℕ) (k : List ℕ) (t : Said Symbol) → ((room : ℕ) (n : ℕ) → suc n ≡ mcl → (k : List ℕ) → within room (readComponent n k) ≡ readComponent (min n room) k)
+    → within room (stepComponent mcl k t) ≡ stepComponent (min mcl room) k t
+limited-step mcl room k (says component-mark) ih = within-empty room
+limited-step mcl room k (says path-mark) ih = refl
+limited-step mcl room k (refuses n) ih = refl
+limited-step zero room k (says (byte b)) ih = rw (zero-min room)
+limited-step (suc mcl) zero k (says (byte b)) ih = rw (min-zero (suc mcl)) (within-none b (length (escaped b)) (readComponent mcl (drop (length (escaped b)) k)))
+limited-step (suc mcl) (suc room) k (says (byte b)) ih =
+    let x = drop (length (escaped b)) k in
+    rw (suc-min-suc mcl room) (within-more b (length (escaped b)) room (readComponent mcl x) ∙ ap (more (b ∷_) (length (escaped b))) (ih room mcl refl x))
+
 limited : (mcl room : ℕ) (k : List ℕ) → within room (readComponent mcl k) ≡ readComponent (min mcl room) k
-unfolding readComponent
-limited mcl room [] = refl
-limited zero room (suc b ∷ k) = rw (zero-min room)
-limited (suc mcl) zero (suc b ∷ k) = rw (min-zero (suc mcl)) (within-none (suc b) 1 (readComponent mcl k))
-limited (suc mcl) (suc room) (suc b ∷ k) = rw (suc-min-suc mcl room) (within-more (suc b) 1 room (readComponent mcl k) ∙ ap (more (suc b ∷_) 1) (limited mcl room k))
-limited mcl room (zero ∷ []) = refl
-limited mcl room (zero ∷ zero ∷ k) = refl
-limited mcl room (zero ∷ suc zero ∷ k) = within-empty room
-limited zero room (zero ∷ suc (suc zero) ∷ k) = rw (zero-min room)
-limited (suc mcl) zero (zero ∷ suc (suc zero) ∷ k) = rw (min-zero (suc mcl)) (within-none 0 2 (readComponent mcl k))
-limited (suc mcl) (suc room) (zero ∷ suc (suc zero) ∷ k) = rw (suc-min-suc mcl room) (within-more 0 2 room (readComponent mcl k) ∙ ap (more (0 ∷_) 2) (limited mcl room k))
-limited mcl room (zero ∷ suc (suc (suc m)) ∷ k) = refl
+limited zero room k = ap (within room) (component-step zero k) ∙ limited-step zero room k (tokenOf k) (λ r n e l. absurd (omega arith)) ∙ sym (component-step (min zero room) k)
+limited (suc mcl) room k =
+    ap (within room) (component-step (suc mcl) k)
+    ∙ limited-step (suc mcl) room k (tokenOf k) (λ r n e l. let d : mcl ≡ n = omega arith in subst (λ (n : ℕ). within r (readComponent n l) ≡ readComponent (min n r) l) d (limited mcl r l))
+    ∙ sym (component-step (min (suc mcl) room) k)
 
 module _ (room at : ℕ) (k : List ℕ) (on : ℕ → ℕ → Taken Components) where
   -- What a step gives, by what stands there.

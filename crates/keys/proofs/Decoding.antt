@@ -12,7 +12,8 @@ use Rattle.laws.proofs.Truth.{split}
 use Rattle.laws.proofs.Lists.{put-zeros}
 use Rattle.data_model.specs.Path.{Figures, field, Component, Components, joined, endsFrom, valueOf, pathOf}
 use Rattle.keys.specs.Encode.{Triple}
-use Rattle.keys.specs.Decode.{Taken, refused, took, bind, tokenOf, endsPath, readComponent, readPath, partOf, Filled, nextSays, componentSays, nextComponent, componentRead, pathRead, numberFrom, number, whole, wasRead, decoded}
+use Rattle.keys.specs.Decode.{Taken, refused, took, bind, tokenOf, endsPath, readComponent, readPath, nextSays, componentSays, nextComponent, componentRead, pathRead, numberFrom, number, whole, wasRead, decoded}
+use Rattle.keys.specs.Inner.{partOf, Filled}
 use Rattle.keys.specs.Judge.{takes, fills}
 use Rattle.data_model.specs.declared.path.Path.{Path}
 use Rattle.data_model.specs.declared.parameters.Subspace.{Subspace}
@@ -152,6 +153,13 @@ module _ (before after len : ℕ) (f : Components → ℕ → Triple) where
   unfolding whole bind
   whole-short refused h = refl
   whole-short (took cs u) h = rw (ne-eqb (before + u + after) len (λ e. omega arith))
+
+  -- Only of a key that is taken whole does it matter what is made of it.
+  pub whole-same : (g : Components → ℕ → Triple) → ((cs : Components) (u : ℕ) → before + u + after ≡ len → f cs u ≡ g cs u)
+      → (t : Taken Components) → whole before after len f t ≡ whole before after len g t
+  unfolding whole bind
+  whole-same g h refused = refl
+  whole-same g h (took cs u) = split (eqb (before + u + after) len) (λ e. rw e (ap (λ (v : Triple). took v len) (h cs u (eqb-true (before + u + after) len e)))) (λ e. rw e)
 
   -- What a key that was taken is made of.
   pub record WholeIs (t : Taken Components) (v : Triple) : Type 0 where

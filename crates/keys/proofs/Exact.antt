@@ -3,13 +3,13 @@
 use Prim.Native.Nat.{ℕ, zero, suc, _+_, _-_, _≤_, _<_}
 use mathlib.Core.Path.{_≡_, refl, sym, ap, subst, _∙_}
 use mathlib.Core.List.{List}
-use mathlib.Core.Bool.{Bool, true, false, not, cond, _&&_, _||_}
+use mathlib.Core.Bool.{Bool, true, false, not, _&&_, _||_}
 use native.Mathlib.Omega.{arith}
 use lib.Dec.{eqb, leb}
 use borrow.Author.Tests.{eq-eqb, eqb-true, eqb-false, le-leb, lt-leb, leb-true, leb-false}
 use lib.ListN.{length, getD, drop}
 use Rattle.laws.proofs.Truth.{split, clash, and-true}
-use Rattle.keys.specs.Encode.{componentEnd, pathEnd}
+use Rattle.keys.specs.Encode.{pathEnd}
 use Rattle.keys.specs.Decode.{readComponents}
 use Rattle.keys.specs.Judge.{takes, bit, marked, ended, paired, sound, others, endings}
 use Rattle.keys.specs.declared.judge.Counts.{Counts}
@@ -27,15 +27,15 @@ module _ (mcl room most stop : ℕ) (k : List ℕ) (T : Bool) where
   moved at m t e i x y p q r w = subst (λ (y : ℕ). Exact i x y e) r (subst (λ (x : ℕ). Exact i x t e) q (subst (λ (i : ℕ). Exact i m t e) p w))
 
   -- Behind bytes that pass a test or not: if not, there is no path.
-  pub data Ran (good : Bool) (at m t e : ℕ) : Type 0 where
+  data Ran (good : Bool) (at m t e : ℕ) : Type 0 where
     on : good ≡ true → Exact at m t e → Ran good at m t e
     off : good ≡ false → T ≡ false → Ran good at m t e
 
-  pub ran-on : (good : Bool) (at m t e : ℕ) → Ran good at m t e → good ≡ true → Exact at m t e
+  ran-on : (good : Bool) (at m t e : ℕ) → Ran good at m t e → good ≡ true → Exact at m t e
   ran-on good at m t e (on p x) g = x
   ran-on good at m t e (off p x) g = clash g p
 
-  pub ran-off : (good : Bool) (at m t e : ℕ) → Ran good at m t e → good ≡ false → T ≡ false
+  ran-off : (good : Bool) (at m t e : ℕ) → Ran good at m t e → good ≡ false → T ≡ false
   ran-off good at m t e (on p x) g = clash p g
   ran-off good at m t e (off p x) g = x
 
@@ -115,7 +115,7 @@ module _ (mcl room most stop : ℕ) (k : List ℕ) (T : Bool) where
   run-on w at m t e n o p s (off g y) r = off (bad m n o p s g) y
 
   -- A stretch in which no component ends.
-  pub run : (w at m t e : ℕ) → stop + 2 ≤ length k → at + w ≤ stop → m ≤ mcl → endings w at k ≡ 0 → Exact at m t e
+  run : (w at m t e : ℕ) → stop + 2 ≤ length k → at + w ≤ stop → m ≤ mcl → endings w at k ≡ 0 → Exact at m t e
       → Ran (sound w at k && leb (m + others w at k) mcl) (at + w) (m + others w at k) (t + others w at k) e
   run zero at m t e d l f x h = on (le-leb (m + 0) mcl (omega arith)) (moved at m t e _ _ _ (omega arith) (omega arith) (omega arith) h)
   run (suc w) at m t e d l f x h =
@@ -124,7 +124,7 @@ module _ (mcl room most stop : ℕ) (k : List ℕ) (T : Bool) where
       (λ g y. run w (at + 1) (m + bit (not (eqb (getD k at 0) 0))) (t + bit (not (eqb (getD k at 0) 0))) e d (omega arith) g (omega (arith, x)) y)
 
   -- A component that ends at any byte ends between two tokens.
-  pub behind-end : (at m t e : ℕ) → at + 2 ≤ length k → ended at k ≡ true → Exact at m t e → Exact (at + 2) 0 t (e + 1)
+  behind-end : (at m t e : ℕ) → at + 2 ≤ length k → ended at k ≡ true → Exact at m t e → Exact (at + 2) 0 t (e + 1)
   behind-end at m t e l x h =
       let y = and-true (eqb (getD k at 0) 0) (eqb (getD k (at + 1) 0) 1) x in
       ends h (eqb-true (getD k at 0) 0 (y .0)) (eqb-true (getD k (at + 1) 0) 1 (y .1))
@@ -175,12 +175,17 @@ module _ (mcl room most stop : ℕ) (k : List ℕ) (T : Bool) where
     pub exact : Exact at len total ends
     pub past : stop < at → getD k stop 0 ≡ 1
 
-  pub judged-stretch : (at len total ends w : ℕ) (c : Counts) → Judged at len total ends → Counted w at k c → c .ends ≡ 0 → at + w ≤ stop
+  judged-stretch : (at len total ends w : ℕ) (c : Counts) → Judged at len total ends → Counted w at k c → c .ends ≡ 0 → at + w ≤ stop
       → Ran (c .sound && leb (len + c .others) mcl) (at + w) (len + c .others) (total + c .others) ends
   judged-stretch at len total ends w c h q z l =
       let a = ap (λ (c : Counts). c .sound) q in
       let b = ap (λ (c : Counts). c .others) q in
       rw (a, b) (run w at len total ends (h .fits) l (h .low) (sym (ap (λ (c : Counts). c .ends) q) ∙ z) (h .exact))
+
+  pub judged-off : (at len total ends w : ℕ) (c : Counts) → Judged at len total ends → Counted w at k c → c .ends ≡ 0 → at + w ≤ stop
+      → (c .sound && leb (len + c .others) mcl) ≡ false → false ≡ T
+  judged-off at len total ends w c h q z l g =
+      sym (ran-off (c .sound && leb (len + c .others) mcl) (at + w) (len + c .others) (total + c .others) ends (judged-stretch at len total ends w c h q z l) g)
 
   pub judged-turn : (at len total ends w : ℕ) (c : Counts) → Judged at len total ends → Counted w at k c → c .ends ≡ 0 → at + w ≤ stop
       → (c .sound && leb (len + c .others) mcl) ≡ true → Judged (at + w) (len + c .others) (total + c .others) ends

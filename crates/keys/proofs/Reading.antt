@@ -18,7 +18,8 @@ use Rattle.laws.proofs.Prefix.{number-equality, list-equality}
 use Rattle.data_model.specs.Path.{sameComponent}
 use Rattle.keys.specs.Encode.{escaped}
 use Rattle.data_model.specs.Said.{Said, refuses, says}
-use Rattle.keys.specs.Decode.{Symbol, byte, component-mark, path-mark, Taken, refused, took, more, mark, tokenOf, readComponent, partOf, Filled}
+use Rattle.keys.specs.Decode.{Symbol, byte, component-mark, path-mark, Taken, refused, took, more, mark, tokenOf, byToken, readComponent}
+use Rattle.keys.specs.Inner.{partOf, Filled}
 use Rattle.data_model.specs.Refusal.{noKey}
 use Rattle.keys.specs.declared.decode.Part.the-variants as part
 use Rattle.keys.proofs.Encoding.{pair-is}
@@ -84,17 +85,25 @@ stepComponent lim k (refuses n) = refused
 stepComponent zero k (says (byte b)) = refused
 stepComponent (suc lim) k (says (byte b)) = more (b ∷_) (length (escaped b)) (readComponent lim (drop (length (escaped b)) k))
 
+step-none : (k : List ℕ) (t : Said Symbol) → byToken t (λ b. refused) ≡ stepComponent zero k t
+unfolding byToken
+step-none k (says (byte b)) = refl
+step-none k (says component-mark) = refl
+step-none k (says path-mark) = refl
+step-none k (refuses n) = refl
+
+step-some : (lim : ℕ) (k : List ℕ) (t : Said Symbol)
+    → byToken t (λ b. more (b ∷_) (length (escaped b)) (readComponent lim (drop (length (escaped b)) k))) ≡ stepComponent (suc lim) k t
+unfolding byToken
+step-some lim k (says (byte b)) = refl
+step-some lim k (says component-mark) = refl
+step-some lim k (says path-mark) = refl
+step-some lim k (refuses n) = refl
+
 pub component-step : (lim : ℕ) (k : List ℕ) → readComponent lim k ≡ stepComponent lim k (tokenOf k)
-unfolding tokenOf mark readComponent escaped
-component-step lim [] = refl
-component-step zero (suc b ∷ k) = refl
-component-step (suc lim) (suc b ∷ k) = refl
-component-step lim (zero ∷ []) = refl
-component-step lim (zero ∷ zero ∷ k) = refl
-component-step lim (zero ∷ suc zero ∷ k) = refl
-component-step zero (zero ∷ suc (suc zero) ∷ k) = refl
-component-step (suc lim) (zero ∷ suc (suc zero) ∷ k) = refl
-component-step lim (zero ∷ suc (suc (suc m)) ∷ k) = refl
+unfolding readComponent
+component-step zero k = step-none k (tokenOf k)
+component-step (suc lim) k = step-some lim k (tokenOf k)
 
 -- How many bytes a token takes.
 abbrev pub tokenSize : Said Symbol → ℕ
@@ -155,8 +164,8 @@ reading-none lim k old = record {
 
 module _ (lim : ℕ) (k old bytes : List ℕ) (at n : ℕ) (h : Reading lim k old bytes at n) where
   pub reading-none-left : length k ≤ at → readComponent lim k ≡ refused
-  unfolding readComponent more
-  reading-none-left g = h .so-far ∙ ap (λ (x : List ℕ). more (take n bytes ++_) at (readComponent (lim - n) x)) (drop-of-length-le k g)
+  unfolding more tokenOf
+  reading-none-left g = h .so-far ∙ ap (λ (x : List ℕ). more (take n bytes ++_) at (readComponent (lim - n) x)) (drop-of-length-le k g) ∙ ap (more (take n bytes ++_) at) (component-step (lim - n) [])
 
   -- The token at the place settles how reading goes on.
   pub reading-token : (t : Said Symbol) → tokenOf (drop at k) ≡ t → readComponent lim k ≡ more (take n bytes ++_) at (stepComponent (lim - n) (drop at k) t)
@@ -218,22 +227,28 @@ abbrev pub Fit : ℕ → ℕ → Taken (List ℕ) → Type 0
 Fit lim len refused = Unit
 Fit lim len (took c u) = (u ≤ len) × (length c ≤ lim)
 
-fit-more : (lim len n b : ℕ) (t : Taken (List ℕ)) → Fit lim len t → Fit (suc lim) (n + len) (more (b ∷_) n t)
+fit-more : (lim len n b : ℕ) (t : Taken (List ℕ)) → n ≤ len → Fit lim (len - n) t → Fit (suc lim) len (more (b ∷_) n t)
 unfolding more
-fit-more lim len n b refused h = tt
-fit-more lim len n b (took c u) h = (omega arith, omega arith)
+fit-more lim len n b refused g h = tt
+fit-more lim len n b (took c u) g h = (omega arith, omega arith)
+
+fit-none : (k : List ℕ) (t : Said Symbol) → tokenSize t ≤ length k → Fit zero (length k) (stepComponent zero k t)
+fit-none k (says (byte b)) g = tt
+fit-none k (says component-mark) g = (g, omega arith)
+fit-none k (says path-mark) g = tt
+fit-none k (refuses n) g = tt
+
+fit-some : (lim : ℕ) (k : List ℕ) (t : Said Symbol) → tokenSize t ≤ length k → ((k : List ℕ) → Fit lim (length k) (readComponent lim k)) → Fit (suc lim) (length k) (stepComponent (suc lim) k t)
+fit-some lim k (says (byte b)) g ih =
+    let n = length (escaped b) in
+    fit-more lim (length k) n b (readComponent lim (drop n k)) g (subst (λ (m : ℕ). Fit lim m (readComponent lim (drop n k))) (length-drop n k) (ih (drop n k)))
+fit-some lim k (says component-mark) g ih = (g, omega arith)
+fit-some lim k (says path-mark) g ih = tt
+fit-some lim k (refuses n) g ih = tt
 
 pub component-fit : (lim : ℕ) (k : List ℕ) → Fit lim (length k) (readComponent lim k)
-unfolding readComponent
-component-fit lim [] = tt
-component-fit zero (suc b ∷ k) = tt
-component-fit (suc lim) (suc b ∷ k) = subst (λ (n : ℕ). Fit (suc lim) n (more (suc b ∷_) 1 (readComponent lim k))) (omega arith) (fit-more lim (length k) 1 (suc b) (readComponent lim k) (component-fit lim k))
-component-fit lim (zero ∷ []) = tt
-component-fit lim (zero ∷ zero ∷ k) = tt
-component-fit lim (zero ∷ suc zero ∷ k) = (omega arith, omega arith)
-component-fit zero (zero ∷ suc (suc zero) ∷ k) = tt
-component-fit (suc lim) (zero ∷ suc (suc zero) ∷ k) = subst (λ (n : ℕ). Fit (suc lim) n (more (0 ∷_) 2 (readComponent lim k))) (omega arith) (fit-more lim (length k) 2 0 (readComponent lim k) (component-fit lim k))
-component-fit lim (zero ∷ suc (suc (suc m)) ∷ k) = tt
+component-fit zero k = subst (Fit zero (length k)) (sym (component-step zero k)) (fit-none k (tokenOf k) (token-fits k))
+component-fit (suc lim) k = subst (Fit (suc lim) (length k)) (sym (component-step (suc lim) k)) (fit-some lim k (tokenOf k) (token-fits k) (λ l. component-fit lim l))
 
 pub component-fits : (lim : ℕ) (k c : List ℕ) (u : ℕ) → readComponent lim k ≡ took c u → (u ≤ length k) × (length c ≤ lim)
 component-fits lim k c u e = subst (Fit lim (length k)) e (component-fit lim k)

@@ -13,10 +13,11 @@ use Rattle.laws.specs.Lists.{put}
 use Rattle.laws.proofs.Lists.{put-snoc, length-put, wrote-first, wrote-last}
 use Rattle.data_model.specs.Path.{joined, endsFrom}
 use Rattle.data_model.specs.Said.{Said, refuses, says}
-use Rattle.keys.specs.Decode.{Symbol, byte, component-mark, path-mark, Taken, refused, took, more, bind, tokenOf, endsPath, readComponent, readComponents, partOf, Filled}
+use Rattle.keys.specs.Decode.{Symbol, byte, component-mark, path-mark, Taken, refused, took, more, bind, tokenOf, endsPath, readComponent, readComponents}
+use Rattle.keys.specs.Inner.{partOf, Filled}
 use Rattle.keys.specs.declared.decode.Part.the-variants as part
 use Rattle.data_model.proofs.Values.{joined-more, ends-more, ends-length}
-use Rattle.keys.proofs.Reading.{Fit, component-fit, component-fits, TookIt, tokenSize, token-within, more-id, more-more, more-same}
+use Rattle.keys.proofs.Reading.{component-step, Fit, component-fit, component-fits, TookIt, tokenSize, token-within, more-id, more-more, more-same}
 
 -- A loop that reads components: those read so far, in front of what reading on from `at` gives.
 pub record Walking (mcl : ℕ) (k old-bytes old-ends bytes ends : List ℕ) (at total n : ℕ) : Type 0 where
@@ -68,9 +69,9 @@ unfolding readComponents bind
 path-fails mcl room n k e d = rw (e, d)
 
 pub path-empty : (mcl room n : ℕ) → readComponents mcl room n [] ≡ refused
-unfolding readComponents readComponent bind tokenOf endsPath
-path-empty mcl room zero = refl
-path-empty mcl room (suc n) = refl
+unfolding tokenOf endsPath
+path-empty mcl room zero = path-stops mcl room [] refl
+path-empty mcl room (suc n) = path-fails mcl room n [] refl (component-step (min mcl room) [])
 
 ends-path-size : (t : Said Symbol) → endsPath t ≡ true → 2 ≤ tokenSize t
 unfolding endsPath

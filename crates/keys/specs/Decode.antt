@@ -1,21 +1,17 @@
 -- Reading a path's bytes, and a key's, back: what an encoder writes is taken, all else is refused with 5.
 use Prim.Native.Nat.{ℕ, zero, suc, _+_, _-_, _*_, min}
-use mathlib.Core.Path.{_≡_}
 use mathlib.Core.List.{List, [], _∷_, _++_}
-use mathlib.Core.Bool.{Bool, true, false, not, cond, _&&_, _||_}
-use lib.ListN.{length, take, drop, replicate, getD}
+use mathlib.Core.Bool.{Bool, true, false, cond}
+use lib.ListN.{length, take, drop, replicate}
 use lib.Dec.{eqb}
-use Rattle.laws.specs.Lists.{put}
 use Rattle.data_model.specs.Path.{Figures, field, Component, Components, pathOf}
 use Rattle.data_model.specs.Subspace.{firstSubspace}
-use Rattle.keys.specs.Encode.{Triple}
+use Rattle.keys.specs.Encode.{escaped, Triple}
 use Rattle.data_model.specs.Said.{Said, refuses, says}
 use Rattle.data_model.specs.Refusal.{noKey}
 use Rattle.data_model.specs.declared.parameters.Subspace.{Subspace}
-use Rattle.keys.specs.declared.decode.Token.{Token}
-use Rattle.keys.specs.declared.decode.Token.the-variants as token
-use Rattle.keys.specs.declared.decode.Part.{Part}
-use Rattle.keys.specs.declared.decode.Part.the-variants as part
+use Rattle.keys.specs.declared.token.Token.{Token}
+use Rattle.keys.specs.declared.token.Token.the-variants as token
 use Rattle.keys.specs.declared.decode.Next.{Next}
 use Rattle.keys.specs.declared.decode.Next.the-variants as next
 use Rattle.keys.specs.declared.decode.ComponentRead.{ComponentRead}
@@ -35,19 +31,21 @@ tokenSays token.ComponentEnd = says component-mark
 tokenSays token.PathEnd = says path-mark
 tokenSays (token.Refused n) = refuses n
 
--- What stands at the front: 00 00 ends a path, 00 01 a component, 00 02 is the byte 00, any other byte is itself. Else 5.
+-- The table of the escape, by the byte behind a 00: 00 00 ends a path, 00 01 a component, 00 02 is the byte 00. Else 5.
 unfoldable pub mark : ℕ → Said Symbol
 mark zero = says path-mark
 mark (suc zero) = says component-mark
 mark (suc (suc zero)) = says (byte 0)
 mark (suc (suc (suc m))) = refuses noKey
 
+-- What stands at the front: a byte that is not 00 is itself, a 00 goes by the byte behind it. At the end stands nothing: 5.
 unfoldable pub tokenOf : List ℕ → Said Symbol
 tokenOf [] = refuses noKey
 tokenOf (suc b ∷ k) = says (byte (suc b))
 tokenOf (zero ∷ []) = refuses noKey
 tokenOf (zero ∷ m ∷ k) = mark m
 
+-- Whether a path ends.
 unfoldable pub endsPath : Said Symbol → Bool
 endsPath (refuses n) = false
 endsPath (says (byte b)) = false
@@ -59,30 +57,32 @@ pub data Taken (A : Type 0) : Type 0 where
   refused : Taken A
   took : A → ℕ → Taken A
 
--- The same after n bytes more, which f puts before it.
+-- What was read behind n bytes more, which f puts before it.
 unfoldable pub more : {A : Type 0} → (A → A) → ℕ → Taken A → Taken A
 more f n refused = refused
 more f n (took a u) = took (f a) (n + u)
 
+-- What is read behind something that was read; refused if that was.
 unfoldable pub bind : {A B : Type 0} → Taken A → (A → ℕ → Taken B) → Taken B
 bind refused f = refused
 bind (took a u) f = f a u
 
+-- Whether something was read.
 unfoldable pub wasRead : {A : Type 0} → Taken A → Bool
 wasRead refused = false
 wasRead (took a u) = true
 
--- A component of at most lim bytes and its end.
+-- What a component's reading does with the token that it meets: an end ends it, behind a byte it goes on, all else is refused.
+unfoldable pub byToken : Said Symbol → (ℕ → Taken Component) → Taken Component
+byToken (refuses n) on = refused
+byToken (says (byte b)) on = on b
+byToken (says component-mark) on = took [] 2
+byToken (says path-mark) on = refused
+
+-- A component of at most lim bytes and its end, token by token.
 unfoldable pub readComponent : ℕ → List ℕ → Taken Component
-readComponent lim [] = refused
-readComponent zero (suc b ∷ k) = refused
-readComponent (suc lim) (suc b ∷ k) = more (suc b ∷_) 1 (readComponent lim k)
-readComponent lim (zero ∷ []) = refused
-readComponent lim (zero ∷ zero ∷ k) = refused
-readComponent lim (zero ∷ suc zero ∷ k) = took [] 2
-readComponent zero (zero ∷ suc (suc zero) ∷ k) = refused
-readComponent (suc lim) (zero ∷ suc (suc zero) ∷ k) = more (0 ∷_) 2 (readComponent lim k)
-readComponent lim (zero ∷ suc (suc (suc m)) ∷ k) = refused
+readComponent zero k = byToken (tokenOf k) (λ b. refused)
+readComponent (suc lim) k = byToken (tokenOf k) (λ b. more (b ∷_) (length (escaped b)) (readComponent lim (drop (length (escaped b)) k)))
 
 -- A path of at most n components of at most mcl bytes each and room bytes in all, and its end.
 unfoldable pub readComponents : ℕ → ℕ → ℕ → List ℕ → Taken Components
@@ -91,6 +91,7 @@ readComponents mcl room (suc n) k =
     cond (endsPath (tokenOf k)) (took [] 2)
     (bind (readComponent (min mcl room) k) (λ c u. more (c ∷_) u (readComponents mcl (room - length c) n (drop u k))))
 
+-- A path within the figures, and its end.
 unfoldable pub readPath : Figures → List ℕ → Taken Components
 readPath f k = readComponents (f .mcl) (f .mpl) (f .mcc) k
 
@@ -159,13 +160,3 @@ unfoldable pub componentRead : Figures → ℕ → List ℕ → StepRead
 componentRead f at k =
     cond (endsPath (tokenOf k)) (record { next = says (end-of-path (at + 2)); bytes = replicate (field .mcl) 0 })
     (nextComponent at (readComponent (f .mcl) k))
-
--- For the inner functions: how many elements were read and how many bytes they took; the buffer is filled with them from the front,
--- if any were.
-unfoldable pub partOf : {A : Type 0} → Taken (List A) → Part
-partOf refused = part.Refused
-partOf (took c u) = part.Took (length c) u
-
-abbrev pub Filled : {A : Type 0} → (A → List ℕ) → Taken A → List ℕ → List ℕ → Type 0
-Filled f refused old new = Unit
-Filled f (took a u) old new = new ≡ put (f a) old

@@ -1,3 +1,4 @@
 pub mod Encode
 pub mod Decode
+pub mod Inner
 pub mod Judge

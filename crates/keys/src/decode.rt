@@ -1,9 +1,11 @@
 // Both keys of an entry, read: from a slice and a position.
-use crate::encode::COMPONENT_END;
-use crate::encode::ESCAPED_ZERO;
-use crate::encode::PATH_END;
+use crate::number::lesser;
 use crate::number::read_subspace;
 use crate::number::read_u64;
+use crate::token::Token;
+use crate::token::ends_path;
+use crate::token::token_at;
+use crate::token::width;
 use data_model::answer::NO_KEY;
 use data_model::parameters::Subspace;
 use data_model::path::MCC;
@@ -11,19 +13,11 @@ use data_model::path::MCL;
 use data_model::path::MPL;
 use data_model::path::Path;
 ghost use mathlib.Core.Path.{_≡_};
-ghost use Prim.Native.Nat.{_≤_, min};
+ghost use Prim.Native.Nat.{_+_, _≤_};
 ghost use lib.ListN.{length, drop};
-ghost use Rattle.data_model.specs.Path.{field, sameComponent, joined, endsFrom};
-ghost use Rattle.keys.specs.Encode.{escaped};
-ghost use Rattle.keys.specs.Decode.{tokenSays, tokenOf, endsPath, readComponent, readComponents, readPath, partOf, Filled, refused, componentSays, componentRead, pathRead, readSpt, readTsp, decoded};
-
-// What stands at a position of a path's bytes.
-pub enum Token {
-    Byte(u8),
-    ComponentEnd,
-    PathEnd,
-    Refused(u8),
-}
+ghost use Rattle.data_model.specs.Path.{field, joined, endsFrom};
+ghost use Rattle.keys.specs.Decode.{readComponent, readComponents, readPath, refused, componentSays, componentRead, pathRead, readSpt, readTsp, decoded};
+ghost use Rattle.keys.specs.Inner.{partOf, Filled, readKey};
 
 // How many elements were read, and how many bytes they took.
 pub enum Part {
@@ -60,62 +54,6 @@ pub struct Decoded {
     pub timestamp: u64,
 }
 
-fn same_mark(a: [u8; 2], b: [u8; 2]) -> bool
-    ensures { λ r. ⌜ r ≡ sameComponent a b ⌝ }
-{
-    if a[0] == b[0] {
-        return a[1] == b[1];
-    }
-    false
-}
-
-// Past the end of the key stands nothing: 5.
-pub fn token_at(key: &[u8], at: usize) -> Token
-    ensures { λ r. ⌜ tokenSays r ≡ tokenOf (drop at (now (key .entry))) ⌝ }
-{
-    if key.len() <= at {
-        return Token::Refused(NO_KEY);
-    }
-    let b = key[at];
-    if b != 0 {
-        return Token::Byte(b);
-    }
-    if at + 1 == key.len() {
-        return Token::Refused(NO_KEY);
-    }
-    let m = key[at + 1];
-    if same_mark([b, m], PATH_END) {
-        return Token::PathEnd;
-    }
-    if same_mark([b, m], COMPONENT_END) {
-        return Token::ComponentEnd;
-    }
-    if same_mark([b, m], ESCAPED_ZERO) {
-        return Token::Byte(0);
-    }
-    Token::Refused(NO_KEY)
-}
-
-// How many bytes a byte of a component takes.
-pub fn width(b: u8) -> usize
-    ensures { λ r. ⌜ r ≡ length (escaped b) ⌝ }
-{
-    if b == 0 { 2 } else { 1 }
-}
-
-// Whether a path ends here.
-pub fn ends_path(key: &[u8], at: usize) -> bool
-    ensures { λ r. ⌜ r ≡ endsPath (tokenOf (drop at (now (key .entry)))) ⌝ }
-{
-    let t = token_at(key, at);
-    match t {
-        Token::Byte(_) => false,
-        Token::ComponentEnd => false,
-        Token::PathEnd => true,
-        Token::Refused(_) => false,
-    }
-}
-
 // A component of at most lim bytes, and its end: its bytes go to the front of the buffer.
 fn read_component(k: &[u8], lim: usize, bytes: &mut [u8]) -> Part
     requires { ⌜ lim ≤ length (now bytes) ⌝ }
@@ -146,12 +84,6 @@ fn read_component(k: &[u8], lim: usize, bytes: &mut [u8]) -> Part
         }
     }
     Part::Refused
-}
-
-pub fn lesser(a: usize, b: usize) -> usize
-    ensures { λ r. ⌜ r ≡ min a b ⌝ }
-{
-    if a < b { a } else { b }
 }
 
 // The components of a path and its end: their bytes and their ends go to the front of the two buffers, whose lengths are the
@@ -215,7 +147,7 @@ pub fn component_bytes(key: &[u8], at: usize) -> ComponentRead
     }
 }
 
-// The path at a position.
+// The path at a position, and the position behind it.
 pub fn decode_path(key: &[u8], at: usize) -> PathRead
     ensures { λ r. ⌜ r ≡ pathRead at (readPath field (drop at (now (key .entry)))) ⌝ }
 {
@@ -235,6 +167,7 @@ pub fn decode_path(key: &[u8], at: usize) -> PathRead
     }
 }
 
+// No path: 5, and all else 0.
 fn refused_path() -> PathRead
     ensures { λ r. ⌜ r ≡ pathRead 0 refused ⌝ }
 {
@@ -246,6 +179,7 @@ fn refused_path() -> PathRead
     }
 }
 
+// No key: 5, and all else 0.
 fn refused_key() -> Decoded
     ensures { λ r. ⌜ r ≡ decoded refused ⌝ }
 {
@@ -258,60 +192,54 @@ fn refused_key() -> Decoded
     }
 }
 
-// The path is read from the part of the key behind the subspace.
+// A key with so many bytes before its path and so many behind it; the subspace stands before the path, the timestamp at a position. The
+// path is read from the part of the key behind the bytes before it.
+fn decode_key(key: &[u8], before: usize, behind: usize, time: usize) -> Decoded
+    requires { ⌜ (16 ≤ before) × (before + behind ≤ 24) × (24 ≤ length (now key)) × (time + 8 ≤ length (now key)) ⌝ }
+    ensures { λ r. ⌜ r ≡ decoded (readKey field before behind time (now (key .entry))) ⌝ }
+{
+    let p = decode_path(&key[before..], 0);
+    let refusal = p.refusal;
+    let used = p.next;
+    if refusal == 0 {
+        if before + used + behind == key.len() {
+            let from = before - 16;
+            let s = read_subspace(&key[from..]);
+            let t = read_u64(&key[time..]);
+            let path = p.path;
+            return Decoded {
+                refusal: 0,
+                subspace: s,
+                path,
+                timestamp: t,
+            };
+        }
+        return refused_key();
+    }
+    refused_key()
+}
+
+// What a subspace-first key stands for: subspace, path, timestamp.
 pub fn decode_spt_entry_key(key: &[u8]) -> Decoded
     ensures { λ r. ⌜ r ≡ decoded (readSpt field (now (key .entry))) ⌝ }
 {
     if key.len() < 24 {
         return refused_key();
     }
-    let p = decode_path(&key[16..], 0);
-    let refusal = p.refusal;
-    let at = 16 + p.next;
-    if refusal == 0 {
-        if at + 8 == key.len() {
-            let t = read_u64(&key[at..]);
-            let s = read_subspace(key);
-            let path = p.path;
-            return Decoded {
-                refusal: 0,
-                subspace: s,
-                path,
-                timestamp: t,
-            };
-        }
-        return refused_key();
-    }
-    refused_key()
+    decode_key(key, 16, 8, key.len() - 8)
 }
 
+// What a time-first key stands for: timestamp, subspace, path.
 pub fn decode_tsp_entry_key(key: &[u8]) -> Decoded
     ensures { λ r. ⌜ r ≡ decoded (readTsp field (now (key .entry))) ⌝ }
 {
     if key.len() < 24 {
         return refused_key();
     }
-    let p = decode_path(&key[24..], 0);
-    let refusal = p.refusal;
-    let end = 24 + p.next;
-    if refusal == 0 {
-        if end == key.len() {
-            let t = read_u64(key);
-            let s = read_subspace(&key[8..]);
-            let path = p.path;
-            return Decoded {
-                refusal: 0,
-                subspace: s,
-                path,
-                timestamp: t,
-            };
-        }
-        return refused_key();
-    }
-    refused_key()
+    decode_key(key, 24, 0, 0)
 }
 
-// The same from a position on; past the end: 5.
+// What the subspace-first key from a position on stands for; past the end: 5.
 pub fn decode_spt_entry_key_at(key: &[u8], at: usize) -> Decoded
     ensures { λ r. ⌜ r ≡ decoded (readSpt field (drop at (now (key .entry)))) ⌝ }
 {
@@ -321,6 +249,7 @@ pub fn decode_spt_entry_key_at(key: &[u8], at: usize) -> Decoded
     decode_spt_entry_key(&key[at..])
 }
 
+// What the time-first key from a position on stands for; past the end: 5.
 pub fn decode_tsp_entry_key_at(key: &[u8], at: usize) -> Decoded
     ensures { λ r. ⌜ r ≡ decoded (readTsp field (drop at (now (key .entry)))) ⌝ }
 {

@@ -83,6 +83,7 @@ fn encode_components(bytes: &[u8], ends: &[usize], out: &mut [u8]) -> usize
     at + write_mark(PATH_END, &mut out[at..])
 }
 
+// The components of a path, and the path's end.
 fn encode_path(p: Path, out: &mut [u8]) -> usize
     requires { ⌜ (legal field p ≡ true) × (pathKeyMost field ≤ length (now out)) ⌝ }
     ensures { λ r. ⌜ (r ≡ length (pathKey (components p))) × (now (out .exit) ≡ put (pathKey (components p)) (now (out .entry))) ⌝ }
@@ -114,7 +115,7 @@ fn write_tsp_key(s: Subspace, p: Path, t: u64, out: &mut [u8]) -> usize
     24 + encode_path(p, &mut out[24..])
 }
 
-// A refusal leaves the buffer as it was.
+// Writes the subspace-first key of a triple to the front of the buffer. A refusal leaves the buffer as it was.
 pub fn encode_spt_entry_key(
     subspace: Subspace,
     path: Path,
@@ -134,6 +135,7 @@ pub fn encode_spt_entry_key(
     }
 }
 
+// Writes the time-first key of a triple to the front of the buffer. A refusal leaves the buffer as it was.
 pub fn encode_tsp_entry_key(
     subspace: Subspace,
     path: Path,

@@ -1,8 +1,8 @@
 // Whether bytes are a key: they are counted in stretches, and nothing is kept of what is read.
-use crate::decode::lesser;
 use crate::encode::COMPONENT_END;
 use crate::encode::ESCAPED_ZERO;
 use crate::encode::PATH_END;
+use crate::number::lesser;
 use data_model::path::MCC;
 use data_model::path::MCL;
 use data_model::path::MPL;

@@ -1,12 +1,13 @@
 // Numbers as 8 bytes, big-endian, and subspaces, at the front of a slice: for the encoders and decoders here, and for the layers above.
 use data_model::parameters::Subspace;
 ghost use mathlib.Core.Path.{_≡_};
-ghost use Prim.Native.Nat.{_≤_, _<_};
+ghost use Prim.Native.Nat.{_≤_, _<_, min};
 ghost use lib.ListN.{length};
 ghost use Rattle.laws.specs.Lists.{put};
 ghost use Rattle.keys.specs.Encode.{be, subspaceKey};
 ghost use Rattle.keys.specs.Decode.{number, subspaceAt};
 
+// Writes a number as 8 bytes, big-endian, and answers 8.
 pub fn write_u64(x: u64, out: &mut [u8]) -> usize
     requires { ⌜ 8 ≤ length (now out) ⌝ }
     ensures { λ r. ⌜ (r ≡ 8) × (now (out .exit) ≡ put (be 8 x) (now (out .entry))) ⌝ }
@@ -22,12 +23,14 @@ pub fn write_u64(x: u64, out: &mut [u8]) -> usize
     8
 }
 
+// A byte as a number of 64 bits.
 fn wide(b: u8) -> u64
     ensures { λ r. ⌜ (r ≡ b) × (r < 256) ⌝ }
 {
     b as u64
 }
 
+// The number in the first 8 bytes, big-endian.
 pub fn read_u64(k: &[u8]) -> u64
     requires { ⌜ 8 ≤ length (now k) ⌝ }
     ensures { λ r. ⌜ r ≡ number (now (k .entry)) ⌝ }
@@ -45,7 +48,7 @@ pub fn read_u64(k: &[u8]) -> u64
     h * 0x1_0000_0000 + l
 }
 
-// The 16 bytes of a subspace.
+// Writes the 16 bytes of a subspace, and answers 16.
 pub fn write_subspace(s: Subspace, out: &mut [u8]) -> usize
     requires { ⌜ 16 ≤ length (now out) ⌝ }
     ensures { λ r. ⌜ (r ≡ 16) × (now (out .exit) ≡ put (subspaceKey s) (now (out .entry))) ⌝ }
@@ -54,6 +57,7 @@ pub fn write_subspace(s: Subspace, out: &mut [u8]) -> usize
     n + write_u64(s.low, &mut out[n..])
 }
 
+// The subspace in the first 16 bytes.
 pub fn read_subspace(k: &[u8]) -> Subspace
     requires { ⌜ 16 ≤ length (now k) ⌝ }
     ensures { λ r. ⌜ r ≡ subspaceAt (now (k .entry)) ⌝ }
@@ -62,4 +66,11 @@ pub fn read_subspace(k: &[u8]) -> Subspace
         high: read_u64(k),
         low: read_u64(&k[8..]),
     }
+}
+
+// The lesser of two numbers.
+pub fn lesser(a: usize, b: usize) -> usize
+    ensures { λ r. ⌜ r ≡ min a b ⌝ }
+{
+    if a < b { a } else { b }
 }

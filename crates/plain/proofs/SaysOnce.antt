@@ -16,8 +16,8 @@ use Rattle.keys.specs.Encode.{encodedSays}
 use Rattle.keys.specs.Decode.{Symbol, byte, component-mark, path-mark, tokenSays, Step, component, end-of-path, nextSays}
 use Rattle.keys.specs.declared.encode.Encoded.{Encoded}
 use Rattle.keys.specs.declared.encode.Encoded.the-variants as encoded
-use Rattle.keys.specs.declared.decode.Token.{Token}
-use Rattle.keys.specs.declared.decode.Token.the-variants as token
+use Rattle.keys.specs.declared.token.Token.{Token}
+use Rattle.keys.specs.declared.token.Token.the-variants as token
 use Rattle.keys.specs.declared.decode.Next.{Next}
 use Rattle.keys.specs.declared.decode.Next.the-variants as next
 use Rattle.store.specs.Ingest.{Verdict, succeeds, is-obsolete, verdictSays}

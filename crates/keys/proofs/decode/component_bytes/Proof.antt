@@ -4,7 +4,8 @@ use mathlib.Core.Path.{_≡_, sym, subst, _∙_}
 use mathlib.Core.List.{List, []}
 use native.Mathlib.Omega.{arith}
 use lib.ListN.{drop, length-drop, drop-of-length-le, replicate}
-use Rattle.keys.specs.Decode.{tokenOf, endsPath, readComponent, partOf, Filled, nextSays, componentSays, nextComponent, componentRead}
+use Rattle.keys.specs.Decode.{tokenOf, endsPath, byToken, readComponent, nextSays, componentSays, nextComponent, componentRead}
+use Rattle.keys.specs.Inner.{partOf, Filled}
 use Rattle.keys.proofs.Reading.{rest, took-it, component-fits}
 use Rattle.keys.proofs.Walking.{ends-within}
 use Rattle.keys.proofs.Decoding.{component-ended, component-took, component-refused}
@@ -13,7 +14,7 @@ use Rattle.keys.proofs.decode.component_bytes.Statement.{statement}
 use Rattle.keys.proofs.decode.component_bytes.Tie as tie
 
 returns : tie.Need-returns
-unfolding tokenOf endsPath readComponent nextSays componentSays nextComponent componentRead
+unfolding tokenOf endsPath byToken readComponent nextSays componentSays nextComponent componentRead
 returns c =
     let a = c .before .before .args in
     let z : drop (a .at) (a .key .now) ≡ [] = drop-of-length-le (a .key .now) {i = a .at} (omega arith) in

@@ -5,7 +5,8 @@ use mathlib.Core.List.{List, []}
 use native.Mathlib.Omega.{arith}
 use lib.ListN.{drop, length-drop, drop-of-length-le, replicate}
 use Rattle.data_model.specs.Path.{field, joined, endsFrom}
-use Rattle.keys.specs.Decode.{readPath, partOf, Filled}
+use Rattle.keys.specs.Decode.{readPath}
+use Rattle.keys.specs.Inner.{partOf, Filled}
 use Rattle.keys.proofs.Reading.{rest}
 use Rattle.keys.proofs.Decoding.{path-past, parts-fit, path-took, path-missed}
 use borrow.Author.Needs.{needs}

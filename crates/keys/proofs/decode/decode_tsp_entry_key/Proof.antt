@@ -1,13 +1,9 @@
--- `decode_tsp_entry_key` meets its contract: too short, no path, bytes left over, or a key. Assumes nothing.
-use Prim.Native.Nat.{ℕ, _≤_}
-use mathlib.Core.Path.{_≡_, sym, ap, _∙_}
-use mathlib.Core.List.{List}
+-- `decode_tsp_entry_key` meets its contract: too short, or read as a key. Assumes nothing.
+use mathlib.Core.Path.{sym, ap, _∙_}
 use native.Mathlib.Omega.{arith}
-use lib.ListN.{length, drop, length-drop}
-use Rattle.data_model.specs.Path.{field}
-use Rattle.keys.specs.Decode.{pathRead, readPath, subspaceAt, readTsp, decoded}
-use Rattle.keys.proofs.Reading.{rest}
-use Rattle.keys.proofs.Decoding.{path-taken, path-refused, next-fits, whole-refused, whole-other, whole-took, whole-short, decoded-took}
+use Rattle.keys.specs.Decode.{readTsp, decoded}
+use Rattle.keys.specs.Inner.{readKey}
+use Rattle.keys.proofs.Decoding.{whole-short}
 use borrow.Author.Needs.{needs}
 use Rattle.keys.proofs.decode.decode_tsp_entry_key.Statement.{statement}
 use Rattle.keys.proofs.decode.decode_tsp_entry_key.Tie as tie
@@ -19,96 +15,12 @@ returns : tie.Need-returns
 unfolding readTsp
 returns c = c .refused-key .ensures ∙ ap decoded (sym (whole-short 24 0 _ _ _ (omega arith)))
 
-sub-decode-path : tie.Need-sub-decode-path
-sub-decode-path c = search needs
-
-part-decode-path-start : tie.Need-part-decode-path-start
-part-decode-path-start c = search needs
-
-part-decode-path-end : tie.Need-part-decode-path-end
-part-decode-path-end c = search needs
-
-decode-path-requires : tie.Need-decode-path-requires
-decode-path-requires c κs = search needs
-
--- What reading the path answered, and that what it took is within the key.
-read : (c : tie.After-decode-path) → c .decode-path .result ≡ pathRead 0 (readPath field (drop 24 (c .before .before .before .before .args .key .now)))
-read c = c .decode-path .ensures ∙ ap (λ (k : List ℕ). pathRead 0 (readPath field k)) (rest (c .before .before .before .before .args .key .now) 24)
-
-long : (c : tie.After-decode-path) → c .decode-path .result .next ≤ length (c .before .before .before .before .args .key .now)
-long c =
-    let k = c .before .before .before .before .args .key .now in
-    omega (arith, next-fits field (drop 24 k) (c .decode-path .result) (read c), length-drop 24 k)
-
-add-end : tie.Need-add-end
-add-end c = omega (arith, long (c .before))
-
-sub-read-subspace : tie.Need-sub-read-subspace
-sub-read-subspace c = search needs
-
-part-read-subspace-start : tie.Need-part-read-subspace-start
-part-read-subspace-start c = search needs
-
-part-read-subspace-end : tie.Need-part-read-subspace-end
-part-read-subspace-end c = search needs
-
-read-u64-requires : tie.Need-read-u64-requires
-read-u64-requires c κs = search needs
-
-read-subspace-requires : tie.Need-read-subspace-requires
-read-subspace-requires c κs = search needs
+decode-key-requires : tie.Need-decode-key-requires
+decode-key-requires c κs = (omega arith, omega arith, omega arith, omega arith)
 
 returns-2 : tie.Need-returns-2
-unfolding readTsp
-returns-2 c =
-    let d = c .before .before .before .before .before .before .before in
-    let k = d .before .before .before .before .args .key .now in
-    let t = path-taken 0 _ (d .decode-path .result) (read d) (c .before .before .before .before .before .if2 .taken) in
-    decoded-took _ _ (length k) _ _ _
-    (whole-took 24 0 (length k) _ _ (t .cs) (t .u) (t .is) (omega (arith, c .before .before .before .before .if3 .taken, t .next-is)))
-    (c .before .read-subspace .ensures ∙ ap subspaceAt (rest k 8))
-    (t .path-is)
-    (c .before .before .before .read-u64 .ensures)
-
-refused-key-requires-2 : tie.Need-refused-key-requires-2
-refused-key-requires-2 c κs = search needs
-
-returns-3 : tie.Need-returns-3
-unfolding readTsp
-returns-3 c =
-    let d = c .before .before .before .before in
-    let k = d .before .before .before .before .args .key .now in
-    let t = path-taken 0 _ (d .decode-path .result) (read d) (c .before .before .if2 .taken) in
-    c .refused-key2 .ensures ∙ ap decoded (sym (whole-other 24 0 (length k) _ _ (t .cs) (t .u) (t .is) (λ e. c .before .if3 .left (omega (arith, e, t .next-is)))))
-
-refused-key-requires-3 : tie.Need-refused-key-requires-3
-refused-key-requires-3 c κs = search needs
-
-returns-4 : tie.Need-returns-4
-unfolding readTsp
-returns-4 c =
-    let d = c .before .before .before in
-    c .refused-key3 .ensures
-    ∙ ap decoded (sym (whole-refused 24 0 _ _ _ (path-refused 0 _ (d .decode-path .result) (read d) (c .before .if2 .left))))
+unfolding readTsp readKey
+returns-2 c = c .decode-key .ensures
 
 pub decode-tsp-entry-key-spec : {M : Type 1} → statement M
-decode-tsp-entry-key-spec =
-    tie.close
-    (tie.spec
-    refused-key-requires
-    returns
-    sub-decode-path
-    part-decode-path-start
-    part-decode-path-end
-    decode-path-requires
-    add-end
-    read-u64-requires
-    sub-read-subspace
-    part-read-subspace-start
-    part-read-subspace-end
-    read-subspace-requires
-    returns-2
-    refused-key-requires-2
-    returns-3
-    refused-key-requires-3
-    returns-4)
+decode-tsp-entry-key-spec = tie.close (tie.spec refused-key-requires returns decode-key-requires returns-2)

@@ -1,17 +1,17 @@
 -- `is_path_to` meets its contract. The invariant: what is left to walk decides. Assumes nothing.
-use Prim.Native.Nat.{ℕ, _+_, _-_, _≤_}
+use Prim.Native.Nat.{ℕ, _+_, _-_, _≤_, _<_}
 use mathlib.Core.Path.{_≡_, refl, sym, ap, _∙_}
-use mathlib.Core.Bool.{Bool, _&&_}
+use mathlib.Core.Bool.{_&&_}
 use native.Mathlib.Omega.{arith}
 use lib.Dec.{eqb, leb}
 use lib.ListN.{length}
 use Rattle.laws.proofs.Truth.{not-true, not-false}
 use Rattle.data_model.specs.Path.{field}
 use Rattle.keys.specs.Decode.{readPath}
-use Rattle.keys.specs.Judge.{takes, ended}
+use Rattle.keys.specs.Judge.{takes}
 use Rattle.keys.specs.declared.judge.Counts.{Counts}
 use Rattle.keys.proofs.Counting.{counts-few, ends-before}
-use Rattle.keys.proofs.Exact.{Judged, judging-start, judged-stretch, judged-turn, judged-end, judged, ran-off}
+use Rattle.keys.proofs.Exact.{Judged, judging-start, judged-off, judged-turn, judged-end, judged}
 use borrow.Author.Needs.{needs}
 use Rattle.keys.proofs.judge.is_path_to.Statement.{statement}
 use Rattle.keys.proofs.judge.is_path_to.Tie as tie
@@ -26,9 +26,23 @@ abbrev μ-loop : tie.MeasureT-loop
 within : (c : tie.After-shared-slice-known Inv-loop μ-loop) → length (c .before .args .k .now) ≤ 0xffff_ffff_ffff_ffff
 within c = omega arith
 
+-- A stretch has a byte at least, and ends where the path's own mark should stand, at the latest.
+span : (c : tie.After-lesser Inv-loop μ-loop) → (c .before .before .loop .at + c .lesser .result ≤ c .before .before .before .before .args .stop) × (c .lesser .result ≤ 32) × (0 < c .lesser .result)
+span c = (omega (arith, c .lesser .ensures), omega (arith, c .lesser .ensures), omega (arith, c .lesser .ensures))
+
+few : (c : tie.After-counts-of Inv-loop μ-loop) → c .counts-of .result .others ≤ c .before .lesser .result
+few c = counts-few _ _ _ _ (c .counts-of .ensures) .0
+
+-- Some component ends in the stretch: before its end, and no component before that.
+upto : (c : tie.After-counts-of2 Inv-loop μ-loop) → (c .before .to-end .result < c .before .before .before .before .before .lesser .result) × (c .counts-of2 .result .others ≤ c .before .to-end .result) × (c .counts-of2 .result .ends ≡ 0)
+upto c =
+    let x = c .before .to-end .ensures in
+    let n = c .before .before .before .before in
+    (ends-before _ _ _ _ (x .0) (x .1) (λ e. c .before .before .if1 .left (ap (λ (d : Counts). d .ends) (n .counts-of .ensures) ∙ e)), counts-few _ _ _ _ (c .counts-of2 .ensures) .0, ap (λ (d : Counts). d .ends) (c .counts-of2 .ensures) ∙ x .1)
+
 loop-holds : tie.Need-loop-holds Inv-loop μ-loop
 unfolding readPath
-loop-holds c = let a = (c .before) .args in judging-start (field .mcl) (field .mpl) (field .mcc) (a .stop) (a .k .now) (takes (a .stop + 2) (readPath field (a .k .now))) (omega arith) refl
+loop-holds c = judging-start _ _ _ _ _ _ (omega arith) refl
 
 sub-lesser : tie.Need-sub-lesser Inv-loop μ-loop
 sub-lesser c = omega arith
@@ -37,219 +51,70 @@ lesser-requires : tie.Need-lesser-requires Inv-loop μ-loop
 lesser-requires c κs = search needs
 
 counts-of-requires : tie.Need-counts-of-requires Inv-loop μ-loop
-counts-of-requires c κs =
-    let a = (c .before .before .before .before) .args in
-    let l = c .before .before .loop in
-    let w = c .lesser .result in
-    let b = c .lesser .ensures in
-    let u = l .inv .fits in
-    (omega (arith, b, u), omega (arith, b, u))
+counts-of-requires c κs = (omega (arith, span (c), c .before .before .loop .inv .fits), omega (arith, span (c)))
 
 add-passes : tie.Need-add-passes Inv-loop μ-loop
-add-passes c =
-    let a = (c .before .before .before .before .before .before .before .before) .args in
-    let l = c .before .before .before .before .before .before .loop in
-    let w = c .before .before .before .before .lesser .result in
-    let b = c .before .before .before .before .lesser .ensures in
-    let u = l .inv .fits in
-    let f = counts-few w (l .at) (a .k .now) (c .before .before .before .counts-of .result) (c .before .before .before .counts-of .ensures) in
-    omega (arith, f .0, b, l .inv .low)
+add-passes c = omega (arith, span (c .before .before .before .before), few (c .before .before .before), c .before .before .before .before .before .before .loop .inv .low)
 
 passes-requires : tie.Need-passes-requires Inv-loop μ-loop
 passes-requires c κs = search needs
 
 returns : tie.Need-returns Inv-loop μ-loop
-returns c =
-    let a = (c .before .before .before .before .before .before .before .before .before .before) .args in
-    let l = c .before .before .before .before .before .before .before .before .loop in
-    let w = c .before .before .before .before .before .before .lesser .result in
-    let b = c .before .before .before .before .before .before .lesser .ensures in
-    let u = l .inv .fits in
-    let f = counts-few w (l .at) (a .k .now) (c .before .before .before .before .before .counts-of .result) (c .before .before .before .before .before .counts-of .ensures) in
-    let q = c .before .before .before .before .before .counts-of .result in
-    sym (ran-off (field .mcl) (field .mpl) (field .mcc) (a .stop) (a .k .now) (takes (a .stop + 2) (readPath field (a .k .now))) (q .sound && leb (l .len + q .others) (field .mcl)) (l .at + w) (l .len + q .others) (l .total + q .others) (l .ends)
-    (judged-stretch (field .mcl) (field .mpl) (field .mcc) (a .stop) (a .k .now) (takes (a .stop + 2) (readPath field (a .k .now))) (l .at) (l .len) (l .total) (l .ends) w q (l .inv) (c .before .before .before .before .before .counts-of .ensures) (c .before .before .before .if1 .taken) (omega (arith, b)))
-    (sym (c .before .passes .ensures) ∙ not-true _ (c .if2 .taken)))
+returns c = let l = c .before .before .before .before .before .before .before .before .loop in judged-off _ _ _ _ _ _ (l .at) (l .len) (l .total) (l .ends) (c .before .before .before .before .before .before .lesser .result) (c .before .before .before .before .before .counts-of .result) (l .inv) (c .before .before .before .before .before .counts-of .ensures) (c .before .before .before .if1 .taken) (span (c .before .before .before .before .before .before) .0) (sym (c .before .passes .ensures) ∙ not-true _ (c .if2 .taken))
 
 add-len : tie.Need-add-len Inv-loop μ-loop
-add-len c =
-    let a = (c .before .before .before .before .before .before .before .before .before .before .before) .args in
-    let l = c .before .before .before .before .before .before .before .before .before .loop in
-    let w = c .before .before .before .before .before .before .before .lesser .result in
-    let b = c .before .before .before .before .before .before .before .lesser .ensures in
-    let u = l .inv .fits in
-    let f = counts-few w (l .at) (a .k .now) (c .before .before .before .before .before .before .counts-of .result) (c .before .before .before .before .before .before .counts-of .ensures) in
-    omega (arith, f .0, b, l .inv .low)
+add-len c = omega (arith, span (c .before .before .before .before .before .before .before), few (c .before .before .before .before .before .before), c .before .before .before .before .before .before .before .before .before .loop .inv .low)
 
 add-total : tie.Need-add-total Inv-loop μ-loop
-add-total c =
-    let a = (c .before .before .before .before .before .before .before .before .before .before .before .before) .args in
-    let l = c .before .before .before .before .before .before .before .before .before .before .loop in
-    let w = c .before .before .before .before .before .before .before .before .lesser .result in
-    let b = c .before .before .before .before .before .before .before .before .lesser .ensures in
-    let u = l .inv .fits in
-    let f = counts-few w (l .at) (a .k .now) (c .before .before .before .before .before .before .before .counts-of .result) (c .before .before .before .before .before .before .before .counts-of .ensures) in
-    omega (arith, f .0, b, u, l .inv .few-bytes, within (c .before .before .before .before .before .before .before .before .before .before .before))
+add-total c = omega (arith, span (c .before .before .before .before .before .before .before .before), few (c .before .before .before .before .before .before .before), c .before .before .before .before .before .before .before .before .before .before .loop .inv .fits, c .before .before .before .before .before .before .before .before .before .before .loop .inv .few-bytes, within (c .before .before .before .before .before .before .before .before .before .before .before))
 
 add-at : tie.Need-add-at Inv-loop μ-loop
-add-at c =
-    let a = (c .before .before .before .before .before .before .before .before .before .before .before .before) .args in
-    let l = c .before .before .before .before .before .before .before .before .before .before .loop in
-    let w = c .before .before .before .before .before .before .before .before .lesser .result in
-    let b = c .before .before .before .before .before .before .before .before .lesser .ensures in
-    let u = l .inv .fits in
-    omega (arith, b, u, within (c .before .before .before .before .before .before .before .before .before .before .before))
+add-at c = omega (arith, span (c .before .before .before .before .before .before .before .before), c .before .before .before .before .before .before .before .before .before .before .loop .inv .fits, within (c .before .before .before .before .before .before .before .before .before .before .before))
 
 loop-less : tie.Need-loop-less Inv-loop μ-loop
-loop-less c =
-    let a = (c .before .before .before .before .before .before .before .before .before .before .before .before) .args in
-    let l = c .before .before .before .before .before .before .before .before .before .before .loop in
-    let w = c .before .before .before .before .before .before .before .before .lesser .result in
-    let b = c .before .before .before .before .before .before .before .before .lesser .ensures in
-    let u = l .inv .fits in
-    omega (arith, b)
+loop-less c = omega (arith, span (c .before .before .before .before .before .before .before .before))
 
 loop-again : tie.Need-loop-again Inv-loop μ-loop
-loop-again c =
-    let a = (c .before .before .before .before .before .before .before .before .before .before .before .before) .args in
-    let l = c .before .before .before .before .before .before .before .before .before .before .loop in
-    let w = c .before .before .before .before .before .before .before .before .lesser .result in
-    let b = c .before .before .before .before .before .before .before .before .lesser .ensures in
-    let u = l .inv .fits in
-    judged-turn (field .mcl) (field .mpl) (field .mcc) (a .stop) (a .k .now) (takes (a .stop + 2) (readPath field (a .k .now))) (l .at) (l .len) (l .total) (l .ends) w (c .before .before .before .before .before .before .before .counts-of .result) (l .inv) (c .before .before .before .before .before .before .before .counts-of .ensures) (c .before .before .before .before .before .if1 .taken) (omega (arith, b))
-    (sym (c .before .before .before .passes .ensures) ∙ not-false _ (c .before .before .if2 .left))
+loop-again c = let l = c .before .before .before .before .before .before .before .before .before .before .loop in judged-turn _ _ _ _ _ _ (l .at) (l .len) (l .total) (l .ends) (c .before .before .before .before .before .before .before .before .lesser .result) (c .before .before .before .before .before .before .before .counts-of .result) (l .inv) (c .before .before .before .before .before .before .before .counts-of .ensures) (c .before .before .before .before .before .if1 .taken) (span (c .before .before .before .before .before .before .before .before) .0) (sym (c .before .before .before .passes .ensures) ∙ not-false _ (c .before .before .if2 .left))
 
 to-end-requires : tie.Need-to-end-requires Inv-loop μ-loop
-to-end-requires c κs =
-    let a = (c .before .before .before .before .before .before .before) .args in
-    let l = c .before .before .before .before .before .loop in
-    let w = c .before .before .before .lesser .result in
-    let b = c .before .before .before .lesser .ensures in
-    let u = l .inv .fits in
-    omega (arith, b, u)
+to-end-requires c κs = omega (arith, span (c .before .before .before), c .before .before .before .before .before .loop .inv .fits)
 
 counts-of-requires-2 : tie.Need-counts-of-requires-2 Inv-loop μ-loop
-counts-of-requires-2 c κs =
-    let a = (c .before .before .before .before .before .before .before .before) .args in
-    let l = c .before .before .before .before .before .before .loop in
-    let w = c .before .before .before .before .lesser .result in
-    let b = c .before .before .before .before .lesser .ensures in
-    let u = l .inv .fits in
-    let x = c .to-end .ensures in
-    (omega (arith, b, u, x .0), omega (arith, b, x .0))
+counts-of-requires-2 c κs = (omega (arith, span (c .before .before .before .before), c .before .before .before .before .before .before .loop .inv .fits, c .to-end .ensures .0), omega (arith, span (c .before .before .before .before), c .to-end .ensures .0))
 
 add-passes-2 : tie.Need-add-passes-2 Inv-loop μ-loop
-add-passes-2 c =
-    let a = (c .before .before .before .before .before .before .before .before .before .before) .args in
-    let l = c .before .before .before .before .before .before .before .before .loop in
-    let w = c .before .before .before .before .before .before .lesser .result in
-    let b = c .before .before .before .before .before .before .lesser .ensures in
-    let u = l .inv .fits in
-    let v = c .before .before .to-end .result in
-    let x = c .before .before .to-end .ensures in
-    let z = ap (λ (d : Counts). d .ends) (c .before .counts-of2 .ensures) ∙ x .1 in
-    let f = counts-few v (l .at) (a .k .now) (c .before .counts-of2 .result) (c .before .counts-of2 .ensures) in
-    omega (arith, f .0, x .0, b, l .inv .low)
+add-passes-2 c = omega (arith, span (c .before .before .before .before .before .before), upto (c .before), c .before .before .before .before .before .before .before .before .loop .inv .low)
 
 passes-requires-2 : tie.Need-passes-requires-2 Inv-loop μ-loop
 passes-requires-2 c κs = search needs
 
 returns-2 : tie.Need-returns-2 Inv-loop μ-loop
-returns-2 c =
-    let a = (c .before .before .before .before .before .before .before .before .before .before .before .before) .args in
-    let l = c .before .before .before .before .before .before .before .before .before .before .loop in
-    let w = c .before .before .before .before .before .before .before .before .lesser .result in
-    let b = c .before .before .before .before .before .before .before .before .lesser .ensures in
-    let u = l .inv .fits in
-    let v = c .before .before .before .before .to-end .result in
-    let x = c .before .before .before .before .to-end .ensures in
-    let z = ap (λ (d : Counts). d .ends) (c .before .before .before .counts-of2 .ensures) ∙ x .1 in
-    let f = counts-few v (l .at) (a .k .now) (c .before .before .before .counts-of2 .result) (c .before .before .before .counts-of2 .ensures) in
-    let q = c .before .before .before .counts-of2 .result in
-    sym (ran-off (field .mcl) (field .mpl) (field .mcc) (a .stop) (a .k .now) (takes (a .stop + 2) (readPath field (a .k .now))) (q .sound && leb (l .len + q .others) (field .mcl)) (l .at + v) (l .len + q .others) (l .total + q .others) (l .ends)
-    (judged-stretch (field .mcl) (field .mpl) (field .mcc) (a .stop) (a .k .now) (takes (a .stop + 2) (readPath field (a .k .now))) (l .at) (l .len) (l .total) (l .ends) v q (l .inv) (c .before .before .before .counts-of2 .ensures) z (omega (arith, b, x .0)))
-    (sym (c .before .passes2 .ensures) ∙ not-true _ (c .if3 .taken)))
+returns-2 c = let l = c .before .before .before .before .before .before .before .before .before .before .loop in let u = upto (c .before .before .before) in judged-off _ _ _ _ _ _ (l .at) (l .len) (l .total) (l .ends) (c .before .before .before .before .to-end .result) (c .before .before .before .counts-of2 .result) (l .inv) (c .before .before .before .counts-of2 .ensures) (u .2) (omega (arith, span (c .before .before .before .before .before .before .before .before), u .0)) (sym (c .before .passes2 .ensures) ∙ not-true _ (c .if3 .taken))
 
 add-total-2 : tie.Need-add-total-2 Inv-loop μ-loop
-add-total-2 c =
-    let a = (c .before .before .before .before .before .before .before .before .before .before .before .before .before) .args in
-    let l = c .before .before .before .before .before .before .before .before .before .before .before .loop in
-    let w = c .before .before .before .before .before .before .before .before .before .lesser .result in
-    let b = c .before .before .before .before .before .before .before .before .before .lesser .ensures in
-    let u = l .inv .fits in
-    let v = c .before .before .before .before .before .to-end .result in
-    let x = c .before .before .before .before .before .to-end .ensures in
-    let z = ap (λ (d : Counts). d .ends) (c .before .before .before .before .counts-of2 .ensures) ∙ x .1 in
-    let f = counts-few v (l .at) (a .k .now) (c .before .before .before .before .counts-of2 .result) (c .before .before .before .before .counts-of2 .ensures) in
-    omega (arith, f .0, x .0, b, u, l .inv .few-bytes, within (c .before .before .before .before .before .before .before .before .before .before .before .before))
+add-total-2 c = omega (arith, span (c .before .before .before .before .before .before .before .before .before), upto (c .before .before .before .before), c .before .before .before .before .before .before .before .before .before .before .before .loop .inv .fits, c .before .before .before .before .before .before .before .before .before .before .before .loop .inv .few-bytes, within (c .before .before .before .before .before .before .before .before .before .before .before .before))
 
 add-ends : tie.Need-add-ends Inv-loop μ-loop
-add-ends c =
-    let a = (c .before .before .before .before .before .before .before .before .before .before .before .before .before) .args in
-    let l = c .before .before .before .before .before .before .before .before .before .before .before .loop in
-    let w = c .before .before .before .before .before .before .before .before .before .lesser .result in
-    let b = c .before .before .before .before .before .before .before .before .before .lesser .ensures in
-    let u = l .inv .fits in
-    omega (arith, u, l .inv .few-ends, within (c .before .before .before .before .before .before .before .before .before .before .before .before))
+add-ends c = omega (arith, c .before .before .before .before .before .before .before .before .before .before .before .loop .inv .fits, c .before .before .before .before .before .before .before .before .before .before .before .loop .inv .few-ends, within (c .before .before .before .before .before .before .before .before .before .before .before .before))
 
 add-at-2 : tie.Need-add-at-2 Inv-loop μ-loop
-add-at-2 c =
-    let a = (c .before .before .before .before .before .before .before .before .before .before .before .before .before) .args in
-    let l = c .before .before .before .before .before .before .before .before .before .before .before .loop in
-    let w = c .before .before .before .before .before .before .before .before .before .lesser .result in
-    let b = c .before .before .before .before .before .before .before .before .before .lesser .ensures in
-    let u = l .inv .fits in
-    let x = c .before .before .before .before .before .to-end .ensures in
-    omega (arith, b, x .0)
+add-at-2 c = omega (arith, span (c .before .before .before .before .before .before .before .before .before), upto (c .before .before .before .before))
 
 add-at-3 : tie.Need-add-at-3 Inv-loop μ-loop
-add-at-3 c =
-    let a = (c .before .before .before .before .before .before .before .before .before .before .before .before .before) .args in
-    let l = c .before .before .before .before .before .before .before .before .before .before .before .loop in
-    let w = c .before .before .before .before .before .before .before .before .before .lesser .result in
-    let b = c .before .before .before .before .before .before .before .before .before .lesser .ensures in
-    let u = l .inv .fits in
-    let v = c .before .before .before .before .before .to-end .result in
-    let x = c .before .before .before .before .before .to-end .ensures in
-    let z = ap (λ (d : Counts). d .ends) (c .before .before .before .before .counts-of2 .ensures) ∙ x .1 in
-    let f = counts-few v (l .at) (a .k .now) (c .before .before .before .before .counts-of2 .result) (c .before .before .before .before .counts-of2 .ensures) in
-    let less = ends-before v w (l .at) (a .k .now) (x .0) (x .1) (λ e. c .before .before .before .before .before .before .if1 .left (ap (λ (d : Counts). d .ends) (c .before .before .before .before .before .before .before .before .counts-of .ensures) ∙ e)) in
-    omega (arith, b, less, u, within (c .before .before .before .before .before .before .before .before .before .before .before .before))
+add-at-3 c = omega (arith, span (c .before .before .before .before .before .before .before .before .before), upto (c .before .before .before .before), c .before .before .before .before .before .before .before .before .before .before .before .loop .inv .fits, within (c .before .before .before .before .before .before .before .before .before .before .before .before))
 
 loop-less-2 : tie.Need-loop-less-2 Inv-loop μ-loop
-loop-less-2 c =
-    let a = (c .before .before .before .before .before .before .before .before .before .before .before .before .before) .args in
-    let l = c .before .before .before .before .before .before .before .before .before .before .before .loop in
-    let w = c .before .before .before .before .before .before .before .before .before .lesser .result in
-    let b = c .before .before .before .before .before .before .before .before .before .lesser .ensures in
-    let u = l .inv .fits in
-    let x = c .before .before .before .before .before .to-end .ensures in
-    omega (arith, b, x .0)
+loop-less-2 c = omega arith
 
 loop-again-2 : tie.Need-loop-again-2 Inv-loop μ-loop
-loop-again-2 c =
-    let a = (c .before .before .before .before .before .before .before .before .before .before .before .before .before) .args in
-    let l = c .before .before .before .before .before .before .before .before .before .before .before .loop in
-    let w = c .before .before .before .before .before .before .before .before .before .lesser .result in
-    let b = c .before .before .before .before .before .before .before .before .before .lesser .ensures in
-    let u = l .inv .fits in
-    let v = c .before .before .before .before .before .to-end .result in
-    let x = c .before .before .before .before .before .to-end .ensures in
-    let z = ap (λ (d : Counts). d .ends) (c .before .before .before .before .counts-of2 .ensures) ∙ x .1 in
-    let f = counts-few v (l .at) (a .k .now) (c .before .before .before .before .counts-of2 .result) (c .before .before .before .before .counts-of2 .ensures) in
-    let less = ends-before v w (l .at) (a .k .now) (x .0) (x .1) (λ e. c .before .before .before .before .before .before .if1 .left (ap (λ (d : Counts). d .ends) (c .before .before .before .before .before .before .before .before .counts-of .ensures) ∙ e)) in
-    judged-end (field .mcl) (field .mpl) (field .mcc) (a .stop) (a .k .now) (takes (a .stop + 2) (readPath field (a .k .now))) (l .at) (l .len) (l .total) (l .ends) v (c .before .before .before .before .counts-of2 .result) (l .inv) (c .before .before .before .before .counts-of2 .ensures) z (omega (arith, b, less))
-    (sym (c .before .before .passes2 .ensures) ∙ not-false _ (c .before .if3 .left)) (x .2 less)
+loop-again-2 c = let l = c .before .before .before .before .before .before .before .before .before .before .before .loop in let u = upto (c .before .before .before .before) in judged-end _ _ _ _ _ _ (l .at) (l .len) (l .total) (l .ends) (c .before .before .before .before .before .to-end .result) (c .before .before .before .before .counts-of2 .result) (l .inv) (c .before .before .before .before .counts-of2 .ensures) (u .2) (omega (arith, span (c .before .before .before .before .before .before .before .before .before), u .0)) (sym (c .before .before .passes2 .ensures) ∙ not-false _ (c .before .if3 .left)) (c .before .before .before .before .before .to-end .ensures .2 (u .0))
 
 has-mark-requires : tie.Need-has-mark-requires Inv-loop μ-loop
 has-mark-requires c κs = omega arith
 
 returns-3 : tie.Need-returns-3 Inv-loop μ-loop
-returns-3 c =
-    let a = (c .before .before .before .before) .args in
-    let l = c .before .before .loop in
-    ap (((eqb (l .len) 0 && leb (l .total) (field .mpl)) && leb (l .ends) (field .mcc)) &&_) (c .has-mark .ensures)
-    ∙ judged (field .mcl) (field .mpl) (field .mcc) (a .stop) (a .k .now) (takes (a .stop + 2) (readPath field (a .k .now))) (l .at) (l .len) (l .total) (l .ends) (l .inv) (omega arith)
+returns-3 c = let l = c .before .before .loop in ap (((eqb (l .len) 0 && leb (l .total) (field .mpl)) && leb (l .ends) (field .mcc)) &&_) (c .has-mark .ensures) ∙ judged _ _ _ _ _ _ (l .at) (l .len) (l .total) (l .ends) (l .inv) (omega arith)
 
 pub is-path-to-spec : {M : Type 1} → statement M
 is-path-to-spec = tie.close (tie.spec Inv-loop μ-loop loop-holds sub-lesser lesser-requires counts-of-requires add-passes passes-requires returns add-len add-total add-at loop-less loop-again to-end-requires counts-of-requires-2 add-passes-2 passes-requires-2 returns-2 add-total-2 add-ends add-at-2 add-at-3 loop-less-2 loop-again-2 has-mark-requires returns-3)

@@ -2,8 +2,8 @@
 use mathlib.Core.Path.{sym, ap, _∙_}
 use Rattle.keys.specs.Decode.{tokenSays, endsPath}
 use borrow.Author.Needs.{needs}
-use Rattle.keys.proofs.decode.ends_path.Statement.{statement}
-use Rattle.keys.proofs.decode.ends_path.Tie as tie
+use Rattle.keys.proofs.token.ends_path.Statement.{statement}
+use Rattle.keys.proofs.token.ends_path.Tie as tie
 
 token-at-requires : tie.Need-token-at-requires
 token-at-requires c κs = search needs

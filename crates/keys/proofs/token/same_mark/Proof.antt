@@ -3,8 +3,8 @@ use mathlib.Core.Path.{_≡_}
 use lib.ListN.{length}
 use Rattle.keys.proofs.Reading.{marks-same, marks-differ}
 use borrow.Author.Needs.{needs}
-use Rattle.keys.proofs.decode.same_mark.Statement.{statement}
-use Rattle.keys.proofs.decode.same_mark.Tie as tie
+use Rattle.keys.proofs.token.same_mark.Statement.{statement}
+use Rattle.keys.proofs.token.same_mark.Tie as tie
 
 array-read-if1 : tie.Need-array-read-if1
 array-read-if1 c = search needs

@@ -6,8 +6,8 @@ use lib.ListN.{drop, getD}
 use Rattle.keys.specs.Decode.{tokenSays, tokenOf, mark}
 use Rattle.keys.proofs.Reading.{mark-is, mark-not, mark-other, token-past, token-byte, token-cut, token-mark}
 use borrow.Author.Needs.{needs}
-use Rattle.keys.proofs.decode.token_at.Statement.{statement}
-use Rattle.keys.proofs.decode.token_at.Tie as tie
+use Rattle.keys.proofs.token.token_at.Statement.{statement}
+use Rattle.keys.proofs.token.token_at.Tie as tie
 
 returns : tie.Need-returns
 unfolding tokenSays

@@ -1,7 +1,7 @@
 -- `width` meets its contract: two bytes for 00, else one. Assumes nothing.
 use Rattle.keys.proofs.Encoding.{escaped-zero, escaped-other}
-use Rattle.keys.proofs.decode.width.Statement.{statement}
-use Rattle.keys.proofs.decode.width.Tie as tie
+use Rattle.keys.proofs.token.width.Statement.{statement}
+use Rattle.keys.proofs.token.width.Tie as tie
 
 returns : tie.Need-returns
 returns c = rw (escaped-zero _ (c .if1 .taken))
