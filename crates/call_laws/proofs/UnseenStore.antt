@@ -21,7 +21,7 @@ use Rattle.key_laws.proofs.Behind.{behind-legal, behind-components, guarded, be
 use Rattle.tree.specs.Stored.{Stored}
 use Rattle.tree.specs.Matching.{standsAt, inArea, inRange, isForgotten, letThrough, listedInArea, listedInRange}
 use Rattle.tree.specs.Interest.{interestFrom}
-use Rattle.data_model.specs.declared.store.QueryIgnoreParams.{QueryIgnoreParams}
+use Rattle.data_model.specs.declared.«query_ignore_params».QueryIgnoreParams.{QueryIgnoreParams}
 use Rattle.tree.specs.declared.stored.KeyOrder.the-variants.{Spt, Tsp}
 use Rattle.store.specs.Store.{Store, dirRoom, held, heldBy, holding}
 use Rattle.store.specs.Refusal.{unless, _orElse_, storeRefusal, otherNamespace, otherDigest}

@@ -13,7 +13,7 @@ use Rattle.data_model.specs.Refusal.{answered}
 use Rattle.data_model.specs.declared.parameters.Subspace.{Subspace}
 use Rattle.keys.specs.Encode.{triple, sptKey, tspKey, roomy, encoded, encodedIn}
 use Rattle.key_laws.specs.Agree.{PathsAgree, EntriesAgree, AreasAgree, PathRangesAgree, RangesAgree, InterestsAgree, ProtectedAgree, SameFor, SameForBoth}
-use Rattle.data_model.specs.declared.store.QueryIgnoreParams.{QueryIgnoreParams}
+use Rattle.data_model.specs.declared.«query_ignore_params».QueryIgnoreParams.{QueryIgnoreParams}
 use Rattle.store.specs.Store.{Store}
 use Rattle.store.specs.Ingest.{ingested}
 use Rattle.store.specs.Forget.{entryForgotten, areaForgotten}

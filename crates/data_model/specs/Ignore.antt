@@ -1,6 +1,6 @@
 -- The flags of a query.
 use mathlib.Core.Bool.{false}
-use Rattle.data_model.specs.declared.store.QueryIgnoreParams.{QueryIgnoreParams}
+use Rattle.data_model.specs.declared.«query_ignore_params».QueryIgnoreParams.{QueryIgnoreParams}
 
 -- Nothing is ignored.
 abbrev pub noFlags : QueryIgnoreParams

@@ -8,6 +8,6 @@ pub mod checked;
 pub mod entry;
 pub mod parameters;
 pub mod path;
+pub mod query_ignore_params;
 pub mod range;
 pub mod range_3d;
-pub mod store;

@@ -25,7 +25,7 @@ use Rattle.data_model.specs.declared.area.Area.{Area}
 use Rattle.key_laws.proofs.Fits.{legal-of, components-of}
 use Rattle.tree.specs.Stored.{Stored, storedFrom, stored, contents}
 use Rattle.tree.specs.Matching.{inArea, listedInArea}
-use Rattle.data_model.specs.declared.store.QueryIgnoreParams.{QueryIgnoreParams}
+use Rattle.data_model.specs.declared.«query_ignore_params».QueryIgnoreParams.{QueryIgnoreParams}
 use Rattle.tree.specs.declared.stored.KeyOrder.the-variants.{Spt}
 use Rattle.tree.proofs.FormedContents.{formed-many}
 use Rattle.tree.proofs.RecordLaws.{contents-length}

@@ -13,7 +13,7 @@ use Rattle.data_model.specs.declared.range.SubspaceRange.{SubspaceRange}
 use Rattle.data_model.specs.declared.range.SubspaceEnd.the-variants as ends
 use Rattle.data_model.specs.declared.range.PathRange.{PathRange}
 use Rattle.data_model.specs.declared.«range_3d».Range3d.{Range3d}
-use Rattle.data_model.specs.declared.store.QueryIgnoreParams.{QueryIgnoreParams}
+use Rattle.data_model.specs.declared.«query_ignore_params».QueryIgnoreParams.{QueryIgnoreParams}
 use Rattle.plain.specs.declared.input.PlainTimes.{PlainTimes}
 use Rattle.plain.specs.declared.input.PlainSubspaces.{PlainSubspaces}
 use Rattle.plain.specs.declared.input.PlainPaths.{PlainPaths}

@@ -20,7 +20,7 @@ use Rattle.key_laws.proofs.OnValues.{above-legal}
 use Rattle.key_laws.proofs.AreaLaws.{AreaWords, area-range}
 use Rattle.tree.specs.Stored.{Stored, tripleOf, Lawful}
 use Rattle.tree.specs.Matching.{inArea, inRange, letThrough, listedInArea, listedInRange}
-use Rattle.data_model.specs.declared.store.QueryIgnoreParams.{QueryIgnoreParams}
+use Rattle.data_model.specs.declared.«query_ignore_params».QueryIgnoreParams.{QueryIgnoreParams}
 use Rattle.tree.specs.declared.stored.KeyOrder.{KeyOrder}
 use Rattle.tree.specs.declared.stored.KeyOrder.the-variants.{Spt}
 use Rattle.tree.proofs.RecordLaws.{record-forth, contents-view}

@@ -21,7 +21,7 @@ use Rattle.data_model.specs.declared.parameters.Subspace.{Subspace}
 use Rattle.tree.specs.Stored.{Stored, stored, lengthy, storedOf}
 use Rattle.tree.specs.Tree.{Formed}
 use Rattle.tree.specs.Matching.{standsAt, letThrough}
-use Rattle.data_model.specs.declared.store.QueryIgnoreParams.{QueryIgnoreParams}
+use Rattle.data_model.specs.declared.«query_ignore_params».QueryIgnoreParams.{QueryIgnoreParams}
 use Rattle.tree.specs.declared.stored.KeyOrder.the-variants.{Spt}
 use Rattle.tree.specs.declared.stored.LengthyAuthorisedEntry.{LengthyAuthorisedEntry}
 use Rattle.tree.proofs.FormedLaws.{formed-bounds}

@@ -19,7 +19,7 @@ use Rattle.data_model.specs.declared.«range_3d».Range3d.{Range3d}
 use Rattle.tree.specs.Stored.{Stored}
 use Rattle.tree.specs.Matching.{inArea, inRange, letThrough, listedInArea, listedInRange}
 use Rattle.tree.specs.Interest.{interestFrom}
-use Rattle.data_model.specs.declared.store.QueryIgnoreParams.{QueryIgnoreParams}
+use Rattle.data_model.specs.declared.«query_ignore_params».QueryIgnoreParams.{QueryIgnoreParams}
 use Rattle.store.proofs.DecideLaws.{marks-front, marks-number}
 use Rattle.query.specs.Listing.{next, isMark}
 

@@ -19,7 +19,7 @@ use Rattle.data_model.specs.declared.area.AreaRange.{AreaRange}
 use Rattle.data_model.specs.declared.«area_of_interest».AreaOfInterest.{AreaOfInterest}
 use Rattle.tree.specs.Stored.{Stored}
 use Rattle.tree.specs.Tree.{Formed}
-use Rattle.data_model.specs.declared.store.QueryIgnoreParams.{QueryIgnoreParams}
+use Rattle.data_model.specs.declared.«query_ignore_params».QueryIgnoreParams.{QueryIgnoreParams}
 use Rattle.tree.specs.declared.stored.KeyOrder.the-variants.{Spt, Tsp}
 use Rattle.store.specs.Store.{Store, treeRoom, dirRoom, treeOf, dirOf, held}
 use Rattle.store.specs.Refusal.{unless, _orElse_, storeRefusal}

@@ -27,7 +27,7 @@ use Rattle.data_model.specs.declared.«range_3d».Range3d.{Range3d}
 use Rattle.tree.specs.Stored.{Stored, stored, contents, lengthy, keyBelow}
 use Rattle.tree.specs.Value.{valueLength}
 use Rattle.tree.specs.Matching.{standsAt, letThrough, inArea, inRange, listedInArea, listedInRange}
-use Rattle.data_model.specs.declared.store.QueryIgnoreParams.{QueryIgnoreParams}
+use Rattle.data_model.specs.declared.«query_ignore_params».QueryIgnoreParams.{QueryIgnoreParams}
 use Rattle.tree.specs.declared.stored.KeyOrder.the-variants.{Spt}
 use Rattle.tree.proofs.FormedLaws.{record-long, formed-record}
 use Rattle.tree.proofs.RecordLaws.{contents-length}

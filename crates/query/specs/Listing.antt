@@ -13,7 +13,7 @@ use Rattle.data_model.specs.declared.«range_3d».Range3d.{Range3d}
 use Rattle.tree.specs.Stored.{Stored}
 use Rattle.tree.specs.Tree.{InBounds}
 use Rattle.tree.specs.Matching.{listedInArea, listedInRange}
-use Rattle.data_model.specs.declared.store.QueryIgnoreParams.{QueryIgnoreParams}
+use Rattle.data_model.specs.declared.«query_ignore_params».QueryIgnoreParams.{QueryIgnoreParams}
 use Rattle.tree.specs.declared.stored.KeyOrder.the-variants.{Spt}
 use Rattle.store.specs.Store.{limitMost, Store, treeRoom, dirRoom, held}
 use Rattle.query.specs.Reading.{areaRefusal, rangeRefusal}

@@ -3,7 +3,7 @@ use crate::answer::EntryFound;
 use crate::check::read_refusal;
 use data_model::parameters::Subspace;
 use data_model::path::Path;
-use data_model::store::QueryIgnoreParams;
+use data_model::query_ignore_params::QueryIgnoreParams;
 use store::ingest::zero_entry;
 use store::state::LIMIT_MOST;
 use store::state::RECORD_MOST;

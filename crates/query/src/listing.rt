@@ -2,8 +2,8 @@
 use crate::answer::Listed;
 use crate::check::read_refusal;
 use data_model::area::Area;
+use data_model::query_ignore_params::QueryIgnoreParams;
 use data_model::range_3d::Range3d;
-use data_model::store::QueryIgnoreParams;
 use store::state::LIMIT_MOST;
 use store::state::RECORD_MOST;
 use store::state::State;

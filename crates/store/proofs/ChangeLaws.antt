@@ -29,7 +29,7 @@ use Rattle.tree.specs.Tree.{Searchable, Whole, keysBelow, hasKey}
 use Rattle.data_model.specs.Ignore.{noFlags}
 use Rattle.data_model.specs.declared.area.Area.{Area}
 use Rattle.tree.specs.Matching.{outdates, removes, inArea, isForgotten, listedInArea}
-use Rattle.data_model.specs.declared.store.QueryIgnoreParams.{QueryIgnoreParams}
+use Rattle.data_model.specs.declared.«query_ignore_params».QueryIgnoreParams.{QueryIgnoreParams}
 use Rattle.tree.proofs.TestLaws.{unflagged-area}
 use Rattle.tree.specs.declared.stored.KeyOrder.{KeyOrder}
 use Rattle.tree.specs.declared.stored.KeyOrder.the-variants.{Spt, Tsp}

@@ -4,7 +4,7 @@ use crate::state::RECORD_MOST;
 use data_model::area::Area;
 use data_model::parameters::Subspace;
 use data_model::path::Path;
-use data_model::store::QueryIgnoreParams;
+use data_model::query_ignore_params::QueryIgnoreParams;
 use tree::edit::insert_at;
 use tree::edit::retain;
 use tree::entries::mark_at;

@@ -29,7 +29,7 @@ use Rattle.tree.specs.Matching.{inArea, inRange, letThrough, listedInAre
 use Rattle.tree.specs.Selection.{selectsPath, selects, selectsListed}
 use Rattle.tree.specs.declared.selection.Selection.{Selection}
 use Rattle.tree.specs.declared.stored.KeyOrder.{KeyOrder}
-use Rattle.data_model.specs.declared.store.QueryIgnoreParams.{QueryIgnoreParams}
+use Rattle.data_model.specs.declared.«query_ignore_params».QueryIgnoreParams.{QueryIgnoreParams}
 use Rattle.tree.proofs.AddressLaws.{open-begins}
 
 -- The numbers of a record, each read by itself.

@@ -11,7 +11,7 @@ use Rattle.data_model.specs.declared.«range_3d».Range3d.{Range3d}
 use Rattle.data_model.specs.Ignore.{noFlags}
 use Rattle.tree.specs.Stored.{Stored}
 use Rattle.tree.specs.Matching.{inArea, inRange, letThrough, listedInArea, listedInRange}
-use Rattle.data_model.specs.declared.store.QueryIgnoreParams.{QueryIgnoreParams}
+use Rattle.data_model.specs.declared.«query_ignore_params».QueryIgnoreParams.{QueryIgnoreParams}
 
 -- Let through: with no flag set, payloads that are not all there, empty ones. The two lengths may be read in any way.
 module _ (g : QueryIgnoreParams) (x : Stored) where

@@ -15,7 +15,7 @@ use Rattle.data_model.specs.declared.entry.Entry.{Entry}
 use Rattle.data_model.specs.declared.parameters.Subspace.{Subspace}
 use Rattle.data_model.specs.declared.path.Path.{Path}
 use Rattle.data_model.specs.declared.«range_3d».Range3d.{Range3d}
-use Rattle.data_model.specs.declared.store.QueryIgnoreParams.{QueryIgnoreParams}
+use Rattle.data_model.specs.declared.«query_ignore_params».QueryIgnoreParams.{QueryIgnoreParams}
 use Rattle.store.specs.Store.{Store}
 use Rattle.store.specs.Ingest.{IngestSaid, ingestedSays, ingestOutcome, ingested}
 use Rattle.store.specs.Forget.{areaForgotten, ForgetAreaOutcome}

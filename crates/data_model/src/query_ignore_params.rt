@@ -1,4 +1,4 @@
-// What a store's calls take by value.
+// The flags of a query.
 ghost use mathlib.Core.Path.{_≡_};
 ghost use Rattle.data_model.specs.Ignore.{noFlags};
 
