@@ -1,18 +1,18 @@
 -- What marks say of the list that they were made for, and what `decide` answers by them. Assumes nothing.
-use mathlib.Core.Path.{_≡_, sym, ap, _∙_}
-use mathlib.Core.List.{List}
+use mathlib.Core.Path.{_≡_, refl, sym, ap, _∙_}
+use mathlib.Core.List.{List, _++_}
 use mathlib.Core.Bool.{Bool, true, false, _&&_}
 use Prim.Native.Nat.{ℕ, _+_, _-_, _≤_, _<_}
 use native.Mathlib.Omega.{arith}
 use native.Mathlib.Nat.{zero-add}
 use lib.ListN.{length, take, drop}
-use lib.Seq.{take-at, length-take-le}
+use lib.Seq.{take-at, drop-at, length-take-le}
 use lib.Dec.{ltb}
 use borrow.Author.Tests.{lt-ltb, le-ltb, le-leb, lt-leb}
 use Rattle.laws.specs.Lists.{put}
 use Rattle.laws.specs.Sorted.{keep}
 use Rattle.layout.specs.Layout.{records}
-use Rattle.layout.specs.Marks.{marksOf, firstMark, countMarks, markedPairs}
+use Rattle.layout.specs.Marks.{marksOf, firstMark, countMarks}
 use Rattle.layout.proofs.MarkLaws.{length-marks, count-marks, count-most}
 use Rattle.data_model.specs.Path.{field}
 use Rattle.data_model.specs.Entry.{Entry}
@@ -40,6 +40,11 @@ module _ {A : Type 0} (p : A → Bool) (l : List A) (n : ℕ) (many : length l �
 
   pub marks-number : (k : ℕ) → k ≡ countMarks (take n marks) → k ≡ length (keep p l)
   marks-number k q = q ∙ ap countMarks marks-front ∙ count-marks p l
+
+-- What was written at the front of a buffer is what it begins with.
+pub marked-by : (front marks old : List ℕ) → marks ≡ put front old → marks ≡ put front marks
+unfolding put
+marked-by front marks old e = e ∙ ap (λ (rest : List ℕ). front ++ rest) (sym (ap (drop (length front)) e ∙ drop-at front (drop (length front) old) (length front) refl))
 
 pub marks-few : (n : ℕ) (marks : List ℕ) → n ≤ length marks → countMarks (take n marks) ≤ n
 marks-few n marks h = omega (arith, count-most (take n marks), length-take-le n marks h)
@@ -76,11 +81,6 @@ module _ {count : ℕ} {dir tree : List ℕ} (v : Formed Spt count dir tree) (ns
       pub decided-take : t ≡ false → count - n < limit → place.Take n ≡ placeDecided limit all e prevent
       unfolding placeDecided
       decided-take q g = rw (none, number, ← et, q, formed-many v ns, lt-leb limit (count - n) g)
-
-  -- What `write_pruned` writes.
-  pub pruned-pairs : (marks old : List ℕ) → marks ≡ put (marksOf (removes e) all) old → (prune out : List ℕ) → out ≡ put (markedPairs (take count marks) dir) prune
-      → out ≡ put (markedPairs (marksOf (removes e) all) dir) prune
-  pruned-pairs marks old em prune out q = q ∙ ap (λ (ms : List ℕ). put (markedPairs ms dir) prune) (marks-front (removes e) all count (formed-many v ns) marks old em)
 
 -- What is handed out with an obsolete verdict.
 pub answer-obsolete : (s : State) (x : Stored) (a : LengthyAuthorisedEntry) → a ≡ lengthy x

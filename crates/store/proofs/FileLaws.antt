@@ -13,7 +13,8 @@ use Rattle.laws.specs.Lists.{put}
 use Rattle.laws.specs.Sorted.{any, keep}
 use Rattle.laws.proofs.Truth.{split, clash, refute}
 use Rattle.laws.proofs.Sorted.{any-view, any-make}
-use Rattle.layout.specs.Marks.{marksOf, markedPairs}
+use Rattle.layout.specs.Marks.{countMarks, markedPairs}
+use Rattle.layout.proofs.MarkLaws.{count-most}
 use Rattle.data_model.specs.Said.{says}
 use Rattle.data_model.specs.Path.{field, legal}
 use Rattle.data_model.specs.Entry.{Entry, entryOf}
@@ -22,14 +23,15 @@ use Rattle.key_laws.specs.Bytes.{Bytes}
 use Rattle.key_laws.proofs.Fits.{bytes-take}
 use Rattle.tree.specs.Stored.{Stored, storedOf}
 use Rattle.tree.specs.Matching.{outdates, removes}
-use Rattle.tree.specs.Tree.{Formed}
 use Rattle.tree.specs.declared.stored.KeyOrder.{KeyOrder}
 use Rattle.tree.specs.declared.stored.KeyOrder.the-variants.{Spt, Tsp}
 use Rattle.tree.specs.declared.stored.LengthyAuthorisedEntry.{LengthyAuthorisedEntry}
 use Rattle.store.specs.Store.{Store, storeOf, limitMost, treeRoom, dirRoom, treeOf, dirOf, held, heldBy, holding}
 use Rattle.store.specs.Ingest.{succeeds, IngestSaid, stays, filing, filedIn, filed, Decision, refuse, obsolete, take-it, decidedOf, decided, ingestRefusal, judged, MayFile, storeFiled, ingestOutcome, prunedPairs, carried, ingested}
 use Rattle.store.specs.Forget.{without}
-use Rattle.store.specs.Change.{inTree, Changed, FilesIn}
+use Rattle.store.specs.Change.{inTree, Marked, Changed, FilesIn}
+use Rattle.tree.proofs.FormedContents.{formed-many}
+use Rattle.store.proofs.DecideLaws.{marks-front}
 use Rattle.store.proofs.Meaning.{SoundHeld, sound-without, sound-length}
 use Rattle.store.proofs.WellStore.{held-fit}
 use Rattle.store.proofs.HoldingLaws.{tree-holds, dir-holds}
@@ -61,14 +63,31 @@ module _ (s : Store) (prune : List ℕ) (e : EntryValue) (m : MayFile field s pr
   dir-room Spt = length-take-le (dirRoom (s .state .limit)) (s .sptDir) (may-ready .passes .room .sptDir)
   dir-room Tsp = length-take-le (dirRoom (s .state .limit)) (s .tspDir) (may-ready .passes .room .tspDir)
 
-  -- What `write_pruned` asks.
-  pub may-prune : (Formed Spt (s .state .count) (sptDirIn s) (sptIn s)) × (s .state .count ≤ limitMost) × (legal field (e .path) ≡ true) × (2 * s .state .count ≤ length prune)
-  may-prune =
-      let v = may-ready in
-      let f = v .passes .few in
-      let l = v .passes .most in
-      let p = v .pairs in
-      (ready-formed s prune e v, omega arith, v .legal-path, omega arith)
+  -- The marks of what it removes: one for each entry, so their pairs fit the prune list.
+  module _ (removed : List ℕ) (k : Marked (removes (entryOf e)) (held field Spt s) removed) (long : limitMost ≤ length removed) where
+    pub may-many : length (take (s .state .count) removed) ≡ s .state .count
+    may-many =
+        let f = may-ready .passes .few in
+        let l = may-ready .passes .most in
+        length-take-le (s .state .count) removed (omega arith)
+
+    pub may-prune : (2 * length (take (s .state .count) removed) ≤ length (sptDirIn s)) × (2 * countMarks (take (s .state .count) removed) ≤ length prune)
+    unfolding dirOf
+    may-prune =
+        let f = may-ready .passes .few in
+        let p = may-ready .pairs in
+        (omega (arith, may-many, dir-room Spt), omega (arith, may-many, count-most (take (s .state .count) removed)))
+
+    pub pruned-done : (out : List ℕ) → out ≡ put (markedPairs (take (s .state .count) removed) (sptDirIn s)) prune → out ≡ put (prunedPairs field s (entryOf e)) prune
+    unfolding prunedPairs held treeOf dirOf
+    pruned-done out q =
+        let n = formed-many (ready-formed s prune e may-ready) (s .state .«namespace_id») in
+        q ∙ ap (λ (ms : List ℕ). put (markedPairs ms (sptDirIn s)) prune) (marks-front (removes (entryOf e)) (inSpt s) (s .state .count) n removed removed k)
+
+    -- What `file_marked` asks of them.
+    pub marked-spt : Marked (removes (entryOf e)) (inTree Spt (e .«namespace_id») (s .state .count) (sptDirIn s) (sptIn s)) removed
+    unfolding held treeOf dirOf
+    marked-spt = subst (λ (ns : List ℕ). Marked (removes (entryOf e)) (inTree Spt ns (s .state .count) (sptDirIn s) (sptIn s)) removed) (sym (may-ready .namespace)) k
 
   -- In bytes both trees hold the same: nothing outdates it in either, and as many stay.
   module _ (spt-bytes : Bytes (s .spt)) (tsp-bytes : Bytes (s .tsp)) where
@@ -142,10 +161,6 @@ module _ (s : Store) (prune : List ℕ) (e : EntryValue) (m : MayFile field s pr
         let c = tree-holds Tsp (s .state .limit) (filedIn Tsp (filing (entryOf e) token) (held field Tsp s)) (s .tsp) tsp (r .tsp) (q .bytes) in
         let d = dir-holds Tsp (s .state .limit) (filedIn Tsp (filing (entryOf e) token) (held field Tsp s)) (s .tspDir) tspDir (r .tspDir) (q .numbers) in
         λ k. storeOf (storeFiled field s (entryOf e) token .state) (a k) (b k) (c k) (d k)
-
-    pub pruned-done : (out : List ℕ) → out ≡ put (markedPairs (marksOf (removes (entryOf e)) (inTree Spt (e .«namespace_id») (s .state .count) (sptDirIn s) (sptIn s))) (sptDirIn s)) prune → out ≡ put (prunedPairs field s (entryOf e)) prune
-    unfolding prunedPairs held treeOf dirOf
-    pruned-done out q = q ∙ ap (λ (ns : List ℕ). put (markedPairs (marksOf (removes (entryOf e)) (inTree Spt ns (s .state .count) (sptDirIn s) (sptIn s))) (sptDirIn s)) prune) (may-ready .namespace)
 
 -- Decisions differ.
 module _ {G : Type 0} where

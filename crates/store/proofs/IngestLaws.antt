@@ -1,6 +1,6 @@
 -- What an ingestion refuses, decides and answers: the decision by place and number means the definition's, and each way's answer is the
 -- definition's. Assumes nothing.
-use mathlib.Core.Path.{_≡_, refl, sym, ap, _∙_}
+use mathlib.Core.Path.{_≡_, refl, sym, ap, _∙_, subst}
 use mathlib.Core.Option.{some, none}
 use mathlib.Core.List.{List, [], _∷_}
 use mathlib.Core.Bool.{Bool, true, false, not, _&&_}
@@ -29,7 +29,9 @@ use Rattle.tree.proofs.FormedLaws.{formed-bounds}
 use Rattle.tree.proofs.FormedContents.{formed-many, formed-next}
 use Rattle.store.specs.Store.{Store, dirRoom, treeOf, dirOf, held, heldBy, holding, treeRoom}
 use Rattle.store.specs.Refusal.{unless, _orElse_, storeRefusal}
-use Rattle.store.specs.Ingest.{succeeds, IngestSaid, Decision, refuse, obsolete, take-it, firstThat, decidedOf, decided, stays, outdatedAt, removedFrom, placeDecided, ingestRefusal, judged, plainAnswer, obsoleteAnswer, stateWith, filed, filedIn, filing, carried, ingested}
+use Rattle.store.specs.Ingest.{succeeds, is-obsolete, IngestSaid, Decision, refuse, obsolete, take-it, firstThat, decidedOf, decided, stays, outdatedAt, removedFrom, placeDecided, ingestRefusal, judged, plainAnswer, obsoleteAnswer, stateWith, filed, filedIn, filing, carried, ingested}
+use Rattle.store.specs.Change.{Marked}
+use Rattle.store.specs.declared.state.State.{State}
 use Rattle.store.specs.declared.ingest.PlaceDecision.{PlaceDecision}
 use Rattle.store.specs.declared.ingest.PlaceDecision.the-variants as place
 use Rattle.store.proofs.CheckLaws.{or-none, unless-none, Passed, passed}
@@ -181,6 +183,26 @@ pub decided-own : (s : Store) (prune : List ℕ) (e : EntryValue) (prevent : Boo
     → d ≡ placeDecided (s .state .limit) (contents Spt field (e .«namespace_id») (records (s .state .count) (sptDirIn s) (sptIn s))) (entryOf e) prevent
     → d ≡ placeDecided (s .state .limit) (inSpt s) (entryOf e) prevent
 decided-own s prune e prevent v d q = q ∙ ap (λ (ns : List ℕ). placeDecided (s .state .limit) (contents Spt field ns (records (s .state .count) (sptDirIn s) (sptIn s))) (entryOf e) prevent) (v .namespace)
+
+-- What is marked in a tree of the entry's namespace is marked in the store's.
+pub marked-own : (s : Store) (prune : List ℕ) (e : EntryValue) → Ready s prune e → (marks : List ℕ)
+    → Marked (removes (entryOf e)) (contents Spt field (e .«namespace_id») (records (s .state .count) (sptDirIn s) (sptIn s))) marks → Marked (removes (entryOf e)) (held field Spt s) marks
+unfolding held treeOf dirOf
+marked-own s prune e v marks m = subst (λ (ns : List ℕ). Marked (removes (entryOf e)) (contents Spt field ns (records (s .state .count) (sptDirIn s) (sptIn s))) marks) (v .namespace) m
+
+-- A refusal and an obsolete verdict are no success, and the decisions for them take nothing.
+module _ {G : Type 0} {n : ℕ} where
+  pub old-unlike : {k : ℕ} → place.Old k ≡ place.Take n → G
+  old-unlike e = absurd (let z : _≡_ {A = ℕ} 0 1 = cc in omega arith)
+
+  pub refuse-unlike : {k : ℕ} → place.Refuse k ≡ place.Take n → G
+  refuse-unlike e = absurd (let z : _≡_ {A = ℕ} 0 1 = cc in omega arith)
+
+  pub refused-unlike : {k : ℕ} {s : State} {a : IngestSaid} → a ≡ plainAnswer (refuses k) s → a .verdict ≡ says (succeeds n) → G
+  refused-unlike {k} {s} {a} e q = absurd (let w : refuses k ≡ says (succeeds n) = sym (ap (λ (b : IngestSaid). b .verdict) e) ∙ q in let z : _≡_ {A = ℕ} 0 1 = cc in omega arith)
+
+  pub obsolete-unlike : {s : State} (x : Stored) {a : IngestSaid} → a ≡ obsoleteAnswer s x → a .verdict ≡ says (succeeds n) → G
+  obsolete-unlike {s} x {a} e q = absurd (let w : says is-obsolete ≡ says (succeeds n) = sym (ap (λ (b : IngestSaid). b .verdict) e) ∙ q in let z : _≡_ {A = ℕ} 0 1 = cc in omega arith)
 
 -- The answers.
 module _ (s : Store) (prune : List ℕ) (e : EntryValue) (token : List ℕ) (prevent : Bool) where

@@ -2,10 +2,12 @@
 use Prim.Native.Nat.{ℕ, _+_, _*_, _≤_}
 use mathlib.Core.Path.{_≡_}
 use mathlib.Core.List.{List, map}
-use mathlib.Core.Bool.{true, false}
+use mathlib.Core.Bool.{Bool, true, false}
 use lib.ListN.{length}
+use Rattle.laws.specs.Lists.{put}
 use Rattle.laws.specs.Sorted.{any, keep}
 use Rattle.layout.specs.Layout.{records, treeBytes, dirNumbers}
+use Rattle.layout.specs.Marks.{marksOf}
 use Rattle.data_model.specs.Path.{field, legal}
 use Rattle.data_model.specs.Entry.{entryOf}
 use Rattle.tree.specs.Stored.{Stored, contents, recordOf}
@@ -19,6 +21,10 @@ use Rattle.store.specs.Ingest.{stays}
 -- What one tree in its room says.
 abbrev pub inTree : KeyOrder → (namespace : List ℕ) → (count : ℕ) → (dir tree : List ℕ) → List Stored
 inTree o namespace count dir tree = contents o field namespace (records count dir tree)
+
+-- Marks that begin with those of what a test holds of, one for each.
+abbrev pub Marked : (Stored → Bool) → List Stored → (marks : List ℕ) → Type 0
+Marked p l marks = marks ≡ put (marksOf p l) marks
 
 -- The buffers of a tree after a change to these entries: their records from 0 on and zeros behind. And how many they are.
 pub record Changed (o : KeyOrder) (l : List Stored) (dir tree dirAfter treeAfter : List ℕ) (n : ℕ) : Type 0 where

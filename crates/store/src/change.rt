@@ -25,14 +25,36 @@ ghost use Rattle.laws.specs.Lists.{put};
 ghost use Rattle.layout.specs.Marks.{marksOf};
 ghost use Rattle.laws.specs.Sorted.{keep};
 ghost use Rattle.data_model.specs.Path.{field, legal, components};
+ghost use Rattle.data_model.specs.Entry.{entryOf};
 ghost use Rattle.tree.specs.Stored.{storedOf};
 ghost use Rattle.tree.specs.Tree.{Formed, Whole};
-ghost use Rattle.tree.specs.Matching.{standsAt, isForgotten};
+ghost use Rattle.tree.specs.Matching.{removes, standsAt, isForgotten};
 ghost use Rattle.store.specs.Store.{limitMost};
 ghost use Rattle.store.specs.Ingest.{filedIn};
-ghost use Rattle.store.specs.Change.{inTree, Changed, FilesIn};
+ghost use Rattle.store.specs.Change.{inTree, Marked, Changed, FilesIn};
 
-// Files an entry in one tree of its namespace: removes what it removes, puts its record in at its key's place, and answers the new count.
+// Files an entry in one tree of its namespace whose marks of what the entry removes are given: takes that out, puts its record in at its key's
+// place, and answers the new count.
+pub fn file_marked(
+    order: KeyOrder,
+    count: usize,
+    tree: &mut [u8],
+    dir: &mut [u32],
+    a: LengthyAuthorisedEntry,
+    removed: &[u8],
+) -> usize
+    requires { ⌜ (FilesIn order (a .entry .«namespace_id») count (now dir) (now tree) a) × (Marked (removes (entryOf (a .entry))) (inTree order (a .entry .«namespace_id») count (now dir) (now tree)) (now removed)) × (count ≤ length (now removed)) ⌝ }
+    ensures { λ r. ⌜ Changed order (filedIn order (storedOf a) (inTree order (a .entry .«namespace_id») count (now (dir .entry)) (now (tree .entry)))) (now (dir .entry)) (now (tree .entry)) (now (dir .exit)) (now (tree .exit)) r ⌝ }
+{
+    let left = retain(count, dir, tree, removed);
+    let mut rec = [0u8; RECORD_MOST];
+    let n = encode_record(order, a, &mut rec);
+    let p = find(left, dir, tree, &rec[..n - VALUE]);
+    insert_at(left, dir, tree, p.at, &rec[..n]);
+    left + 1
+}
+
+// Files an entry in one tree of its namespace: marks what it removes there and files it by these marks.
 pub fn file_in(
     order: KeyOrder,
     count: usize,
@@ -44,14 +66,9 @@ pub fn file_in(
     ensures { λ r. ⌜ Changed order (filedIn order (storedOf a) (inTree order (a .entry .«namespace_id») count (now (dir .entry)) (now (tree .entry)))) (now (dir .entry)) (now (tree .entry)) (now (dir .exit)) (now (tree .exit)) r ⌝ }
 {
     let e = a.entry;
-    let mut marks = [0u8; LIMIT_MOST];
-    mark_removed(order, count, dir, tree, e, &mut marks);
-    let left = retain(count, dir, tree, &marks);
-    let mut rec = [0u8; RECORD_MOST];
-    let n = encode_record(order, a, &mut rec);
-    let p = find(left, dir, tree, &rec[..n - VALUE]);
-    insert_at(left, dir, tree, p.at, &rec[..n]);
-    left + 1
+    let mut removed = [0u8; LIMIT_MOST];
+    mark_removed(order, count, dir, tree, e, &mut removed);
+    file_marked(order, count, tree, dir, a, &removed)
 }
 
 // Takes out what stands at a subspace and path, whatever the tree's namespace, and answers how many are left.

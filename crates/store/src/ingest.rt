@@ -1,5 +1,6 @@
 // Ingestion.
 use crate::change::file_in;
+use crate::change::file_marked;
 use crate::check::check_store;
 use crate::check::dir_fits;
 use crate::state::FULL;
@@ -32,16 +33,18 @@ ghost use lib.ListN.{length};
 ghost use lib.Dec.{ltb};
 ghost use Rattle.laws.specs.Lists.{put};
 ghost use Rattle.layout.specs.Layout.{records, recordAt};
-ghost use Rattle.layout.specs.Marks.{marksOf, markedPairs};
+ghost use Rattle.data_model.specs.Said.{says};
 ghost use Rattle.data_model.specs.Path.{field, legal};
 ghost use Rattle.data_model.specs.Entry.{entryOf};
 ghost use Rattle.tree.specs.Stored.{contents, stored};
 ghost use Rattle.tree.specs.Matching.{removes};
 ghost use Rattle.tree.specs.Tree.{Formed, InBounds};
 ghost use Rattle.tree.specs.declared.stored.KeyOrder.the-variants.{Spt};
-ghost use Rattle.store.specs.Store.{limitMost, storeOf};
-ghost use Rattle.store.specs.Ingest.{verdictSays, ingestedSays, MayFile, noEntry, plainAnswer, obsoleteAnswer, stateWith, storeFiled, placeDecided, prunedPairs, ingestRefusal, ingestOutcome, ingested};
+ghost use Rattle.store.specs.Store.{limitMost, storeOf, held};
+ghost use Rattle.store.specs.Change.{Marked};
+ghost use Rattle.store.specs.Ingest.{succeeds, verdictSays, ingestedSays, MayFile, noEntry, plainAnswer, obsoleteAnswer, stateWith, storeFiled, placeDecided, prunedPairs, ingestRefusal, ingestOutcome, ingested};
 ghost use Rattle.store.specs.declared.ingest.IngestVerdict.the-variants as verdict;
+ghost use Rattle.store.specs.declared.ingest.PlaceDecision.the-variants as place;
 
 // Success says how many entries were pruned.
 pub enum IngestVerdict {
@@ -104,7 +107,8 @@ fn is_prevented(prevent_pruning: bool, removed: usize) -> bool
     false
 }
 
-// Whether the entry is refused, outdated or taken, over the subspace-first tree of its namespace in its room.
+// Whether the entry is refused, outdated or taken, over the subspace-first tree of its namespace in its room. If it is taken, what it
+// removes is marked.
 fn decide(
     limit: usize,
     count: usize,
@@ -112,9 +116,11 @@ fn decide(
     spt_dir: &[u32],
     entry: Entry,
     prevent_pruning: bool,
+    removed: &mut [u8],
 ) -> PlaceDecision
-    requires { ⌜ (Formed Spt count (now «spt_dir») (now spt)) × (count ≤ limitMost) × (legal field (entry .path) ≡ true) ⌝ }
-    ensures { λ r. ⌜ r ≡ placeDecided limit (contents Spt field (entry .«namespace_id») (records count (now («spt_dir» .entry)) (now (spt .entry)))) (entryOf entry) «prevent_pruning» ⌝ }
+    requires { ⌜ (Formed Spt count (now «spt_dir») (now spt)) × (count ≤ limitMost) × (legal field (entry .path) ≡ true) × (count ≤ length (now removed)) ⌝ }
+    ensures decision { λ r. ⌜ r ≡ placeDecided limit (contents Spt field (entry .«namespace_id») (records count (now («spt_dir» .entry)) (now (spt .entry)))) (entryOf entry) «prevent_pruning» ⌝ }
+    ensures marks { λ r. ⌜ ((n : ℕ) → r ≡ place.Take n → Marked (removes (entryOf entry)) (contents Spt field (entry .«namespace_id») (records count (now («spt_dir» .entry)) (now (spt .entry)))) (now (removed .exit))) ⌝ }
 {
     let mut marks = [0u8; LIMIT_MOST];
     mark_outdating(KeyOrder::Spt, count, spt_dir, spt, entry, &mut marks);
@@ -122,8 +128,7 @@ fn decide(
     if k < count {
         return PlaceDecision::Old(k);
     }
-    let mut removed = [0u8; LIMIT_MOST];
-    mark_removed(KeyOrder::Spt, count, spt_dir, spt, entry, &mut removed);
+    mark_removed(KeyOrder::Spt, count, spt_dir, spt, entry, removed);
     let n = count_marked(&removed[..count]);
     if is_prevented(prevent_pruning, n) {
         return PlaceDecision::Refuse(PRUNING_PREVENTED);
@@ -195,7 +200,7 @@ fn taken_answer(state: State, n: usize) -> Ingested
     plain_answer(IngestVerdict::Success(n), after)
 }
 
-// The whole answer, over shared slices, whatever the token.
+// The whole answer, over the store's buffers shared, whatever the token. With a success, what the entry removes is marked.
 fn ingest_answer(
     state: State,
     spt: &[u8],
@@ -205,8 +210,11 @@ fn ingest_answer(
     prune: &[u32],
     entry: Entry,
     prevent_pruning: bool,
+    removed: &mut [u8],
 ) -> Ingested
-    ensures { λ r. ⌜ ((token : List ℕ) → ingestedSays r ≡ ingested field (storeOf state (now (spt .entry)) (now («spt_dir» .entry)) (now (tsp .entry)) (now («tsp_dir» .entry))) (now (prune .entry)) entry token «prevent_pruning» .answer) ⌝ }
+    requires { ⌜ limitMost ≤ length (now removed) ⌝ }
+    ensures answer { λ r. ⌜ ((token : List ℕ) → ingestedSays r ≡ ingested field (storeOf state (now (spt .entry)) (now («spt_dir» .entry)) (now (tsp .entry)) (now («tsp_dir» .entry))) (now (prune .entry)) entry token «prevent_pruning» .answer) ⌝ }
+    ensures marks { λ r. ⌜ ((n : ℕ) → verdictSays (r .verdict) ≡ says (succeeds n) → Marked (removes (entryOf entry)) (held field Spt (storeOf state (now (spt .entry)) (now («spt_dir» .entry)) (now (tsp .entry)) (now («tsp_dir» .entry)))) (now (removed .exit))) ⌝ }
 {
     let refusal = ingest_refusal(state, spt, spt_dir, tsp, tsp_dir, prune, entry);
     if refusal != 0 {
@@ -223,6 +231,7 @@ fn ingest_answer(
         &spt_dir[..m],
         entry,
         prevent_pruning,
+        removed,
     );
     match d {
         PlaceDecision::Refuse(k) => plain_answer(IngestVerdict::Refused(k), state),
@@ -231,17 +240,7 @@ fn ingest_answer(
     }
 }
 
-// Writes the pairs of what an entry removes from the subspace-first tree of its namespace.
-fn write_pruned(count: usize, spt: &[u8], spt_dir: &[u32], entry: Entry, prune: &mut [u32])
-    requires { ⌜ (Formed Spt count (now «spt_dir») (now spt)) × (count ≤ limitMost) × (legal field (entry .path) ≡ true) × (2 * count ≤ length (now prune)) ⌝ }
-    ensures { λ _. ⌜ now (prune .exit) ≡ put (markedPairs (marksOf (removes (entryOf entry)) (contents Spt field (entry .«namespace_id») (records count (now («spt_dir» .entry)) (now (spt .entry))))) (now («spt_dir» .entry))) (now (prune .entry)) ⌝ }
-{
-    let mut marks = [0u8; LIMIT_MOST];
-    mark_removed(KeyOrder::Spt, count, spt_dir, spt, entry, &mut marks);
-    write_pairs(spt_dir, &marks[..count], prune);
-}
-
-// Files an entry in both trees.
+// Files an entry in both trees, by the marks of what it removes from the subspace-first tree, and writes the pairs of that.
 fn file(
     state: State,
     spt: &mut [u8],
@@ -251,8 +250,9 @@ fn file(
     prune: &mut [u32],
     entry: Entry,
     token: [u8; 64],
+    removed: &[u8],
 )
-    requires { ⌜ MayFile field (storeOf state (now spt) (now «spt_dir») (now tsp) (now «tsp_dir»)) (now prune) entry ⌝ }
+    requires { ⌜ (MayFile field (storeOf state (now spt) (now «spt_dir») (now tsp) (now «tsp_dir»)) (now prune) entry) × (Marked (removes (entryOf entry)) (held field Spt (storeOf state (now spt) (now «spt_dir») (now tsp) (now «tsp_dir»))) (now removed)) × (limitMost ≤ length (now removed)) ⌝ }
     ensures store { λ _. ⌜ storeOf (storeFiled field (storeOf state (now (spt .entry)) (now («spt_dir» .entry)) (now (tsp .entry)) (now («tsp_dir» .entry))) (entryOf entry) token .state) (now (spt .exit)) (now («spt_dir» .exit)) (now (tsp .exit)) (now («tsp_dir» .exit)) ≡ storeFiled field (storeOf state (now (spt .entry)) (now («spt_dir» .entry)) (now (tsp .entry)) (now («tsp_dir» .entry))) (entryOf entry) token ⌝ }
     ensures pairs { λ _. ⌜ now (prune .exit) ≡ put (prunedPairs field (storeOf state (now (spt .entry)) (now («spt_dir» .entry)) (now (tsp .entry)) (now («tsp_dir» .entry))) (entryOf entry)) (now (prune .entry)) ⌝ }
 {
@@ -265,8 +265,15 @@ fn file(
         token,
         available: 0,
     };
-    write_pruned(count, &spt[..n], &spt_dir[..m], entry, prune);
-    file_in(KeyOrder::Spt, count, &mut spt[..n], &mut spt_dir[..m], a);
+    write_pairs(&spt_dir[..m], &removed[..count], prune);
+    file_marked(
+        KeyOrder::Spt,
+        count,
+        &mut spt[..n],
+        &mut spt_dir[..m],
+        a,
+        removed,
+    );
     file_in(KeyOrder::Tsp, count, &mut tsp[..n], &mut tsp_dir[..m], a);
 }
 
@@ -283,6 +290,7 @@ pub fn ingest_entry_numbers(
 ) -> Ingested
     ensures { λ r. ⌜ ingestOutcome (ingestedSays r) (now (spt .exit)) (now («spt_dir» .exit)) (now (tsp .exit)) (now («tsp_dir» .exit)) (now (prune .exit)) ≡ ingested field (storeOf state (now (spt .entry)) (now («spt_dir» .entry)) (now (tsp .entry)) (now («tsp_dir» .entry))) (now (prune .entry)) entry token «prevent_pruning» ⌝ }
 {
+    let mut removed = [0u8; LIMIT_MOST];
     let given = ingest_answer(
         state,
         spt,
@@ -292,10 +300,21 @@ pub fn ingest_entry_numbers(
         prune,
         entry,
         prevent_pruning,
+        &mut removed,
     );
     let verdict = given.verdict;
     if let IngestVerdict::Success(_) = verdict {
-        file(state, spt, spt_dir, tsp, tsp_dir, prune, entry, token);
+        file(
+            state,
+            spt,
+            spt_dir,
+            tsp,
+            tsp_dir,
+            prune,
+            entry,
+            token,
+            &removed,
+        );
     }
     given
 }

@@ -8,7 +8,7 @@ use Rattle.data_model.specs.Path.{field}
 use Rattle.data_model.specs.Entry.{entryOf}
 use Rattle.store.specs.Store.{Store, storeOf}
 use Rattle.store.specs.Ingest.{verdictSays, ingestRefusal, placeDecided}
-use Rattle.store.proofs.IngestLaws.{Ready, inSpt, decided-own, ready, ready-formed, answers-refused, answers-late, old-bounds, answers-old, take-fits, answers-take}
+use Rattle.store.proofs.IngestLaws.{Ready, inSpt, decided-own, ready, ready-formed, answers-refused, answers-late, old-bounds, answers-old, take-fits, answers-take, marked-own, refused-unlike, obsolete-unlike}
 use borrow.Author.Needs.{needs}
 use Rattle.store.proofs.ingest.ingest_answer.Statement.{statement}
 use Rattle.store.proofs.ingest.ingest_answer.Tie as tie
@@ -18,7 +18,7 @@ abbrev lent : tie.Start → Store
 lent p = storeOf (p .args .state) (p .args .spt .now) (p .args .«spt-dir» .now) (p .args .tsp .now) (p .args .«tsp-dir» .now)
 
 abbrev start : tie.Else1 → tie.Start
-start c = c .before .before .before .before .before .before .before
+start c = c .before .before .before .before .before .before .before .before
 
 zero : (c : tie.Else1) → ingestRefusal field (lent (start c)) (start c .args .prune .now) (start c .args .entry) ≡ 0
 zero c = sym (c .before .ingest-refusal .ensures) ∙ c .if1 .left
@@ -28,12 +28,12 @@ known c = ready (lent (start c)) (start c .args .prune .now) (start c .args .ent
 
 -- What is decided, in the store's namespace.
 abbrev tested : tie.After-decide → tie.Else1
-tested c = c .before .before .before
+tested c = c .before .before .before .before
 
 own : (c : tie.After-decide) → c .decide .result ≡ placeDecided (start (tested c) .args .state .limit) (inSpt (lent (start (tested c)))) (entryOf (start (tested c) .args .entry)) (start (tested c) .args .«prevent-pruning»)
 own c =
     let p = start (tested c) in
-    decided-own (lent p) (p .args .prune .now) (p .args .entry) (p .args .«prevent-pruning») (known (tested c)) (c .decide .result) (c .decide .ensures)
+    decided-own (lent p) (p .args .prune .now) (p .args .entry) (p .args .«prevent-pruning») (known (tested c)) (c .decide .result) (c .decide .ensures .0)
 
 ingest-refusal-requires : tie.Need-ingest-refusal-requires
 ingest-refusal-requires c κs = search needs
@@ -43,9 +43,10 @@ plain-answer-requires c κs = search needs
 
 returns : tie.Need-returns
 unfolding verdictSays
-returns c = λ token.
-    let p = c .before .before .before .before .before .before .before .before in
-    answers-refused (lent p) (p .args .prune .now) (p .args .entry) token (p .args .«prevent-pruning») (c .before .before .ingest-refusal .result) (c .before .before .ingest-refusal .ensures) (c .before .if1 .taken) _ (c .plain-answer .ensures)
+returns c =
+    let p = (c .before .before .before .before .before .before .before .before .before) in
+    let f = (c .before .before) .ingest-refusal in
+    ((λ token. answers-refused (lent p) (p .args .prune .now) (p .args .entry) token (p .args .«prevent-pruning») (f .result) (f .ensures) ((c .before) .if1 .taken) _ (c .plain-answer .ensures)), λ n q. refused-unlike (c .plain-answer .ensures) q)
 
 mul-n : tie.Need-mul-n
 mul-n c =
@@ -57,24 +58,24 @@ mul-m c =
 
 slice-aggregate-decide : tie.Need-slice-aggregate-decide
 slice-aggregate-decide c =
-    let e = c .before in
+    let e = (c .before) in
     let r = known e .passes .room .spt in
     sym (length-take-le _ (start e .args .spt .now) (omega arith))
 
 slice-aggregate-decide-2 : tie.Need-slice-aggregate-decide-2
 slice-aggregate-decide-2 c =
-    let e = c .before .before in
+    let e = (c .before .before) in
     let r = known e .passes .room .sptDir in
     sym (length-take-le (2 * start e .args .state .limit) (start e .args .«spt-dir» .now) (omega arith))
 
 decide-requires : tie.Need-decide-requires
 decide-requires c κs =
-    let e = c .before .before in
+    let e = (c .before .before .before) in
     let p = start e in
     let v = known e in
     let m = v .passes .most in
     let f = v .passes .few in
-    (ready-formed (lent p) (p .args .prune .now) (p .args .entry) v, omega arith, v .legal-path)
+    (ready-formed (lent p) (p .args .prune .now) (p .args .entry) v, omega arith, v .legal-path, omega (arith, p .pre))
 
 enum-known-d : tie.Need-enum-known-d
 enum-known-d c = search needs
@@ -87,55 +88,70 @@ enum-known-d-2 c = search needs
 
 slice-aggregate-obsolete-answer : tie.Need-slice-aggregate-obsolete-answer
 slice-aggregate-obsolete-answer c =
-    let e = c .before .before .before .before .before .before .before in
+    let e = (c .before .before .before .before .before .before .before .before .before .before) in
     let r = known e .passes .room .spt in
     sym (length-take-le _ (start e .args .spt .now) (omega arith))
 
 slice-aggregate-obsolete-answer-2 : tie.Need-slice-aggregate-obsolete-answer-2
 slice-aggregate-obsolete-answer-2 c =
-    let e = c .before .before .before .before .before .before .before .before in
+    let e = (c .before .before .before .before .before .before .before .before .before .before .before) in
     let r = known e .passes .room .sptDir in
     sym (length-take-le (2 * start e .args .state .limit) (start e .args .«spt-dir» .now) (omega arith))
 
 obsolete-answer-requires : tie.Need-obsolete-answer-requires
 obsolete-answer-requires c κs =
-    let e = c .before .before .before .before .before .before .before .before in
+    let e = (c .before .before .before .before .before .before .before .before .before .before .before) in
     let p = start e in
-    old-bounds (lent p) (p .args .prune .now) (p .args .entry) [] (p .args .«prevent-pruning») (zero e) (c .before .before .before .before .before .decide .result) (own (c .before .before .before .before .before))
-    _ (c .before .before .before .d2 .given .1)
+    old-bounds (lent p) (p .args .prune .now) (p .args .entry) [] (p .args .«prevent-pruning») (zero e) ((c .before .before .before .before .before .before .before) .decide .result) (own (c .before .before .before .before .before .before .before))
+    _ ((c .before .before .before) .d2 .given .1)
 
 enum-known-d-3 : tie.Need-enum-known-d-3
 enum-known-d-3 c = search needs
 
 taken-answer-requires : tie.Need-taken-answer-requires
 taken-answer-requires c κs =
-    let e = c .before .before .before .before .before .before in
+    let e = (c .before .before .before .before .before .before .before .before .before) in
     let p = start e in
-    take-fits (lent p) (p .args .prune .now) (p .args .entry) [] (p .args .«prevent-pruning») (zero e) (c .before .before .before .decide .result) (own (c .before .before .before))
-    _ (c .before .d3 .given .1)
+    take-fits (lent p) (p .args .prune .now) (p .args .entry) [] (p .args .«prevent-pruning») (zero e) ((c .before .before .before .before .before) .decide .result) (own (c .before .before .before .before .before))
+    _ ((c .before) .d3 .given .1)
+
+same-length : tie.Need-same-length
+same-length c = search needs
 
 returns-2 : tie.Need-returns-2
 unfolding verdictSays
-returns-2 c = λ token.
-    let e = c .before .before .before .before .before .before .before in
-    let p = start e in
-    answers-late (lent p) (p .args .prune .now) (p .args .entry) token (p .args .«prevent-pruning») (zero e) (c .before .before .before .before .decide .result) (own (c .before .before .before .before))
-    _ (c .before .before .d .given .1) _ (c .plain-answer2 .ensures)
+returns-2 c =
+    let e = (c .before .before .before .before .before .before .before .before .before .before) in
+    let p = start e in (
+      (λ token. answers-late (lent p) (p .args .prune .now) (p .args .entry) token (p .args .«prevent-pruning») (zero e) ((c .before .before .before .before .before .before) .decide .result) (own (c .before .before .before .before .before .before))
+          _ ((c .before .before) .d .given .1) _ (c .plain-answer2 .ensures)),
+      λ n q. refused-unlike (c .plain-answer2 .ensures) q,
+    )
+
+same-length-2 : tie.Need-same-length-2
+same-length-2 c = search needs
 
 returns-3 : tie.Need-returns-3
-returns-3 c = λ token.
-    let e = c .before .before .before .before .before .before .before .before .before in
-    let p = start e in
-    answers-old (lent p) (p .args .prune .now) (p .args .entry) token (p .args .«prevent-pruning») (zero e) (c .before .before .before .before .before .before .decide .result) (own (c .before .before .before .before .before .before))
-    _ (c .before .before .before .before .d2 .given .1) _ (c .obsolete-answer .ensures)
+returns-3 c =
+    let e = (c .before .before .before .before .before .before .before .before .before .before .before .before) in
+    let p = start e in (
+      (λ token. answers-old (lent p) (p .args .prune .now) (p .args .entry) token (p .args .«prevent-pruning») (zero e) ((c .before .before .before .before .before .before .before .before) .decide .result) (own (c .before .before .before .before .before .before .before .before))
+          _ ((c .before .before .before .before) .d2 .given .1) _ (c .obsolete-answer .ensures)),
+      λ n q. obsolete-unlike _ (c .obsolete-answer .ensures) q,
+    )
+
+same-length-3 : tie.Need-same-length-3
+same-length-3 c = search needs
 
 returns-4 : tie.Need-returns-4
 unfolding verdictSays
-returns-4 c = λ token.
-    let e = c .before .before .before .before .before .before .before in
-    let p = start e in
-    answers-take (lent p) (p .args .prune .now) (p .args .entry) token (p .args .«prevent-pruning») (zero e) (c .before .before .before .before .decide .result) (own (c .before .before .before .before))
-    _ (c .before .before .d3 .given .1) _ (c .taken-answer .ensures)
+returns-4 c =
+    let e = (c .before .before .before .before .before .before .before .before .before .before) in
+    let p = start e in (
+      (λ token. answers-take (lent p) (p .args .prune .now) (p .args .entry) token (p .args .«prevent-pruning») (zero e) ((c .before .before .before .before .before .before) .decide .result) (own (c .before .before .before .before .before .before))
+          _ ((c .before .before) .d3 .given .1) _ (c .taken-answer .ensures)),
+      λ n q. marked-own (lent p) (p .args .prune .now) (p .args .entry) (known e) _ ((c .before .before .before .before .before .before) .decide .ensures .1 _ ((c .before .before) .d3 .given .1)),
+    )
 
 pub ingest-answer-spec : {M : Type 1} → statement M
 ingest-answer-spec =
@@ -157,6 +173,9 @@ ingest-answer-spec =
     obsolete-answer-requires
     enum-known-d-3
     taken-answer-requires
+    same-length
     returns-2
+    same-length-2
     returns-3
+    same-length-3
     returns-4)

@@ -4,11 +4,12 @@ use mathlib.Core.Path.{_≡_, ap}
 use mathlib.Core.List.{[], _∷_}
 use mathlib.Core.Logic.{⊎-elim}
 use native.Mathlib.Omega.{arith}
+use lib.ListN.{length-replicate}
 use types.Run.{OneOf}
 use denote.Enum.Declared.{tagOf}
 use Rattle.data_model.specs.Said.{says}
 use Rattle.store.specs.Ingest.{succeeds, verdictSays, ingestedSays}
-use Rattle.store.specs.Store.{Store, storeOf}
+use Rattle.store.specs.Store.{Store, storeOf, limitMost}
 use Rattle.store.specs.declared.ingest.IngestVerdict.{IngestVerdict}
 use Rattle.store.specs.declared.ingest.IngestVerdict.the-variants.{Success, Obsolete, Refused}
 use Rattle.store.proofs.ingest.IngestVerdict.{the-type}
@@ -27,16 +28,25 @@ other (Success m) k n q = ⊎-elim (λ e. omega arith) (λ e. omega arith) k
 other Obsolete k n q = let z : _≡_ {A = ℕ} 0 1 = cc in omega arith
 other (Refused m) k n q = let z : _≡_ {A = ℕ} 0 1 = cc in omega arith
 
+slice-aggregate-ingest-answer : tie.Need-slice-aggregate-ingest-answer
+slice-aggregate-ingest-answer c = search needs
+
 ingest-answer-requires : tie.Need-ingest-answer-requires
 ingest-answer-requires c κs = search needs
 
 enum-told : tie.Need-enum-told
 enum-told c = search needs
 
+slice-aggregate-file : tie.Need-slice-aggregate-file
+slice-aggregate-file c = search needs
+
 file-requires : tie.Need-file-requires
 unfolding verdictSays
 file-requires c κs =
-    let p = c .before .before .before .before .before .before .before .before .before .before .before .before .before .before .before .before .before .before in success-may (lent p) (p .args .prune .now) (p .args .entry) (p .args .token) (p .args .«prevent-pruning») (ingestedSays (c .before .before .before .before .before .before .before .ingest-answer .result)) (c .before .before .before .before .before .before .before .ingest-answer .ensures (p .args .token)) _ (ap verdictSays (c .before .before .before .before .before .enum-told .given .1))
+    let p = (c .before .before .before .before .before .before .before .before .before .before .before .before .before .before .before .before .before .before .before .before .before) in
+    let a = (c .before .before .before .before .before .before .before .before .before) .ingest-answer in
+    let q = ap verdictSays ((c .before .before .before .before .before .before) .enum-told .given .1) in
+    (success-may (lent p) (p .args .prune .now) (p .args .entry) (p .args .token) (p .args .«prevent-pruning») (ingestedSays (a .result)) (a .ensures .0 (p .args .token)) _ q, a .ensures .1 _ q, omega (arith, a .kept .1 .1 .1 .1 .1 .1 .1 .1 .0, length-replicate {A = ℕ} limitMost 0))
 
 same-length : tie.Need-same-length
 same-length c = search needs
@@ -56,9 +66,11 @@ same-length-5 c = search needs
 returns : tie.Need-returns
 unfolding verdictSays
 returns c =
-    let p = c .before .before .before .before .before .before .before .before .before .before .before .before .before .before .before .before .before .before .before .before .before .before .before .before .before .before .before .before .before in
-    let f = c .before .before .before .before .before .before .before .before .before .before .file in
-    outcome-filed (lent p) (p .args .prune .now) (p .args .entry) (p .args .token) (p .args .«prevent-pruning») (ingestedSays (c .before .before .before .before .before .before .before .before .before .before .before .before .before .before .before .before .before .before .ingest-answer .result)) (c .before .before .before .before .before .before .before .before .before .before .before .before .before .before .before .before .before .before .ingest-answer .ensures (p .args .token)) _ (ap verdictSays (c .before .before .before .before .before .before .before .before .before .before .before .before .before .before .before .before .enum-told .given .1)) (f .last .1 .0) (f .last .1 .1 .0) (f .last .1 .1 .1 .0) (f .last .1 .1 .1 .1 .0) (f .last .1 .1 .1 .1 .1 .0) (f .ensures .0) (f .ensures .1)
+    let p = (c .before .before .before .before .before .before .before .before .before .before .before .before .before .before .before .before .before .before .before .before .before .before .before .before .before .before .before .before .before .before .before .before) in
+    let a = (c .before .before .before .before .before .before .before .before .before .before .before .before .before .before .before .before .before .before .before .before) .ingest-answer in
+    let f = (c .before .before .before .before .before .before .before .before .before .before) .file in
+    outcome-filed (lent p) (p .args .prune .now) (p .args .entry) (p .args .token) (p .args .«prevent-pruning») (ingestedSays (a .result)) (a .ensures .0 (p .args .token)) _ (ap verdictSays ((c .before .before .before .before .before .before .before .before .before .before .before .before .before .before .before .before .before) .enum-told .given .1))
+    (f .last .1 .0) (f .last .1 .1 .0) (f .last .1 .1 .1 .0) (f .last .1 .1 .1 .1 .0) (f .last .1 .1 .1 .1 .1 .0) (f .ensures .0) (f .ensures .1)
 
 same-length-6 : tie.Need-same-length-6
 same-length-6 c = search needs
@@ -77,14 +89,18 @@ same-length-10 c = search needs
 
 returns-2 : tie.Need-returns-2
 returns-2 c =
-    let p = c .before .before .before .before .before .before .before .before .before .before .before .before in outcome-same (lent p) (p .args .prune .now) (p .args .entry) (p .args .token) (p .args .«prevent-pruning») (ingestedSays (c .before .ingest-answer .result)) (c .before .ingest-answer .ensures (p .args .token)) (other _ (c .match .keys2))
+    let p = (c .before .before .before .before .before .before .before .before .before .before .before .before .before .before) in
+    let a = (c .before .before) .ingest-answer in
+    outcome-same (lent p) (p .args .prune .now) (p .args .entry) (p .args .token) (p .args .«prevent-pruning») (ingestedSays (a .result)) (a .ensures .0 (p .args .token)) (other _ (c .match .keys2))
 
 pub ingest-entry-numbers-spec : {M : Type 1} → statement M
 ingest-entry-numbers-spec =
     tie.close
     (tie.spec
+    slice-aggregate-ingest-answer
     ingest-answer-requires
     enum-told
+    slice-aggregate-file
     file-requires
     same-length
     same-length-2
