@@ -15,9 +15,9 @@ use Rattle.tree.specs.Stored.{Stored, recordOf, keyBelow}
 use Rattle.tree.specs.Matching.{isForgotten}
 use Rattle.tree.specs.declared.stored.KeyOrder.{KeyOrder}
 use Rattle.tree.specs.declared.stored.KeyOrder.the-variants.{Spt, Tsp}
-use Rattle.store.specs.Store.{Store, storeOf, treeRoom, dirRoom, treeOf, dirOf, held, Held, heldBy, holding}
+use Rattle.store.specs.Store.{stateWith, Store, storeOf, treeRoom, dirRoom, treeOf, dirOf, held, Held, heldBy, holding}
 use Rattle.store.specs.Open.{nothing}
-use Rattle.store.specs.Ingest.{filing, sptLess, tspLess, stays, filedIn, filed, stateWith}
+use Rattle.store.specs.Ingest.{filing, sptLess, tspLess, stays, filedIn, filed}
 use Rattle.call_laws.specs.Calls.{Opening, Ingestion, AreaForgetting, Call, ingest, forget-entry, forget-area, filedAs, forgets, Verdict, refused, obsolete, done}
 use Rattle.call_laws.specs.Checks.{OpeningVerdictRight}
 use Rattle.call_laws.specs.Outcomes.{Outcome, outcome, opens}

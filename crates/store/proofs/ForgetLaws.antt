@@ -36,9 +36,10 @@ use Rattle.tree.proofs.RecordLaws.{record-forth, contents-in}
 use Rattle.tree.proofs.WithinLaws.{at-bytes}
 use Rattle.tree.proofs.FormedLaws.{formed-record}
 use Rattle.tree.proofs.FormedContents.{formed-many, formed-next}
-use Rattle.store.specs.Store.{Store, storeOf, treeRoom, dirRoom, treeOf, dirOf, held, heldBy, holding}
+use Rattle.store.specs.Store.{stateWith, Store, storeOf, treeRoom, dirRoom, treeOf, dirOf, held, heldBy, holding}
 use Rattle.store.specs.Refusal.{unless, _orElse_, storeRefusal}
-use Rattle.store.specs.Forget.{without, unexpected, forgetEntryRefusal, forgetEntryOutcome, entryForgotten, forgetAreaRefusal, forgetAreaOutcome, areaForgotten}
+use Rattle.store.specs.Forget.{without, storeWithout, unexpected, forgetEntryRefusal, forgetEntryOutcome, entryForgotten, forgetAreaRefusal, forgetAreaOutcome, areaForgotten}
+use Rattle.store.specs.declared.state.State.{State}
 use Rattle.store.specs.Change.{inTree, Changed}
 use Rattle.store.proofs.CheckLaws.{or-none, unless-none, Passed, passed}
 use Rattle.store.proofs.DecideLaws.{marks-first}
@@ -149,23 +150,17 @@ module _ (s : Store) (subspace : Subspace) (path : Path) (expects : Bool) (diges
   unfolding entryForgotten
   entry-refused h = rw (← e, ne-eqb n 0 h)
 
-  pub entry-tested : n ≡ 0 → Passed s × (legal field path ≡ true)
+  pub entry-tested : n ≡ 0 → (storeRefusal field s true ≡ 0) × (legal field path ≡ true)
   unfolding forgetEntryRefusal
   entry-tested z =
       let k = or-none (storeRefusal field s true) (unless (legal field path) 4 orElse unless (not (any (unexpected subspace (components path) expects digest) (held field Spt s))) 9) (sym e ∙ z) in
       let j = or-none (unless (legal field path) 4) (unless (not (any (unexpected subspace (components path) expects digest) (held field Spt s))) 9) (k .1) in
-      (passed s true (k .0) .0, unless-none (legal field path) 4 (omega arith) (j .0))
+      (k .0, unless-none (legal field path) 4 (omega arith) (j .0))
 
-  pub entry-done : n ≡ 0 → (m k : ℕ) (spt sptDir tsp tspDir : List ℕ)
-      → Changed Spt (keep (λ (x : Stored). not (standsAt subspace (components path) x)) (inTree Spt (s .state .«namespace_id») (s .state .count) (take (dirRoom (s .state .limit)) (s .sptDir)) (take (treeRoom field (s .state .limit)) (s .spt)))) (take (dirRoom (s .state .limit)) (s .sptDir)) (take (treeRoom field (s .state .limit)) (s .spt)) sptDir spt m
-      → Changed Tsp (keep (λ (x : Stored). not (standsAt subspace (components path) x)) (inTree Tsp (s .state .«namespace_id») (s .state .count) (take (dirRoom (s .state .limit)) (s .tspDir)) (take (treeRoom field (s .state .limit)) (s .tsp)))) (take (dirRoom (s .state .limit)) (s .tspDir)) (take (treeRoom field (s .state .limit)) (s .tsp)) tspDir tsp k
-      → forgetEntryOutcome (record { refusal = 0; state = record { «namespace_id» = s .state .«namespace_id»; count = m; limit = s .state .limit } })
-      (spt ++ drop (treeRoom field (s .state .limit)) (s .spt)) (sptDir ++ drop (dirRoom (s .state .limit)) (s .sptDir))
-      (tsp ++ drop (treeRoom field (s .state .limit)) (s .tsp)) (tspDir ++ drop (dirRoom (s .state .limit)) (s .tspDir))
-      ≡ entryForgotten field s subspace path expects digest
-  unfolding entryForgotten without heldBy held treeOf dirOf
-  entry-done z m k spt sptDir tsp tspDir cs ct =
-      let g = store-holds s (without (standsAt subspace (components path)) (heldBy field s)) (entry-tested z .0 .room) m k spt sptDir tsp tspDir cs ct in
+  pub entry-done : n ≡ 0 → (r : State) (a b c d : List ℕ) → storeOf r a b c d ≡ storeWithout field (standsAt subspace (components path)) s
+      → forgetEntryOutcome (record { refusal = 0; state = r }) a b c d ≡ entryForgotten field s subspace path expects digest
+  unfolding entryForgotten
+  entry-done z r a b c d g =
       let w : forgetEntryRefusal field s subspace path expects digest ≡ 0 = sym e ∙ z in
       rw w (λ i. record { answer = record { refusal = 0; state = g i .state }; store = g i })
 
@@ -191,42 +186,43 @@ module _ (s : Store) (area : Area) (protects : Bool) (protected : Area) (n : ℕ
   unfolding areaForgotten
   area-refused h = rw (← e, ne-eqb n 0 h)
 
-  pub area-tested : n ≡ 0 → Passed s × (legal field (area .path) ≡ true) × (cond protects (legal field (protected .path)) true ≡ true)
+  pub area-tested : n ≡ 0 → (storeRefusal field s true ≡ 0) × (legal field (area .path) ≡ true) × (cond protects (legal field (protected .path)) true ≡ true)
   unfolding forgetAreaRefusal
   area-tested z =
       let k = or-none (storeRefusal field s true) (unless (legal field (area .path) && cond protects (legal field (protected .path)) true) 4) (sym e ∙ z) in
       let l = and-true (legal field (area .path)) (cond protects (legal field (protected .path)) true) (unless-none (legal field (area .path) && cond protects (legal field (protected .path)) true) 4 (omega arith) (k .1)) in
-      (passed s true (k .0) .0, l .0, l .1)
+      (k .0, l .0, l .1)
 
-  module _ (z : n ≡ 0) (m k : ℕ) (spt sptDir tsp tspDir : List ℕ)
-      (cs : Changed Spt (keep (λ (x : Stored). not (isForgotten area protects protected x)) (inTree Spt (s .state .«namespace_id») (s .state .count) (take (dirRoom (s .state .limit)) (s .sptDir)) (take (treeRoom field (s .state .limit)) (s .spt)))) (take (dirRoom (s .state .limit)) (s .sptDir)) (take (treeRoom field (s .state .limit)) (s .spt)) sptDir spt m)
-      (ct : Changed Tsp (keep (λ (x : Stored). not (isForgotten area protects protected x)) (inTree Tsp (s .state .«namespace_id») (s .state .count) (take (dirRoom (s .state .limit)) (s .tspDir)) (take (treeRoom field (s .state .limit)) (s .tsp)))) (take (dirRoom (s .state .limit)) (s .tspDir)) (take (treeRoom field (s .state .limit)) (s .tsp)) tspDir tsp k) where
-    area-count : length (keep (isForgotten area protects protected) (held field Spt s)) + m ≡ s .state .count
-    unfolding held treeOf dirOf
+  module _ (z : n ≡ 0) (r : State) (a b c d : List ℕ) (g : storeOf r a b c d ≡ storeWithout field (isForgotten area protects protected) s) where
+    area-count : length (keep (isForgotten area protects protected) (held field Spt s)) + r .count ≡ s .state .count
+    unfolding holding without heldBy held treeOf dirOf
     area-count =
-        let c = cs .count in
-        let f = formed-many (area-tested z .0 .formed Spt) (s .state .«namespace_id») in
+        let m : r .count ≡ length (keep (λ (x : Stored). not (isForgotten area protects protected x)) (held field Spt s)) = ap (λ (t : Store). t .state .count) g in
+        let f = formed-many (passed s true (area-tested z .0) .0 .formed Spt) (s .state .«namespace_id») in
         omega (arith, keep-both (isForgotten area protects protected) (held field Spt s))
 
-    pub area-left : m ≤ s .state .count
+    pub area-left : r .count ≤ s .state .count
     area-left = omega (arith, area-count)
 
-    pub area-done : forgetAreaOutcome (record { refusal = 0; state = record { «namespace_id» = s .state .«namespace_id»; count = m; limit = s .state .limit }; forgotten = s .state .count - m })
-        (spt ++ drop (treeRoom field (s .state .limit)) (s .spt)) (sptDir ++ drop (dirRoom (s .state .limit)) (s .sptDir))
-        (tsp ++ drop (treeRoom field (s .state .limit)) (s .tsp)) (tspDir ++ drop (dirRoom (s .state .limit)) (s .tspDir))
-        ≡ areaForgotten field s area protects protected
-    unfolding areaForgotten without heldBy
+    pub area-done : forgetAreaOutcome (record { refusal = 0; state = r; forgotten = s .state .count - r .count }) a b c d ≡ areaForgotten field s area protects protected
+    unfolding areaForgotten
     area-done =
-        let g = store-left in
         let w : forgetAreaRefusal field s area protects protected ≡ 0 = sym e ∙ z in
-        let d : s .state .count - m ≡ length (keep (isForgotten area protects protected) (held field Spt s)) = omega (arith, area-count) in
-        rw w (λ i. record { answer = record { refusal = 0; state = g i .state; forgotten = d i }; store = g i })
-      where
-        store-left : storeOf (record { «namespace_id» = s .state .«namespace_id»; count = m; limit = s .state .limit })
-            (spt ++ drop (treeRoom field (s .state .limit)) (s .spt)) (sptDir ++ drop (dirRoom (s .state .limit)) (s .sptDir))
-            (tsp ++ drop (treeRoom field (s .state .limit)) (s .tsp)) (tspDir ++ drop (dirRoom (s .state .limit)) (s .tspDir))
-            ≡ holding field (without (isForgotten area protects protected) (heldBy field s)) s
-        store-left = unfold without heldBy held treeOf dirOf in store-holds s (without (isForgotten area protects protected) (heldBy field s)) (area-tested z .0 .room) m k spt sptDir tsp tspDir cs ct
+        let m : s .state .count - r .count ≡ length (keep (isForgotten area protects protected) (held field Spt s)) = omega (arith, area-count) in
+        rw w (λ i. record { answer = record { refusal = 0; state = g i .state; forgotten = m i }; store = g i })
+
+-- What a change of both trees of a store leaves of it: what a test holds of is gone.
+pub left-without : (s : Store) (p : Stored → Bool) → Passed s → (m k : ℕ) (r : State) → r ≡ stateWith (s .state) m → (spt sptDir tsp tspDir : List ℕ)
+    → Changed Spt (keep (λ (x : Stored). not (p x)) (inTree Spt (s .state .«namespace_id») (s .state .count) (take (dirRoom (s .state .limit)) (s .sptDir)) (take (treeRoom field (s .state .limit)) (s .spt)))) (take (dirRoom (s .state .limit)) (s .sptDir)) (take (treeRoom field (s .state .limit)) (s .spt)) sptDir spt m
+    → Changed Tsp (keep (λ (x : Stored). not (p x)) (inTree Tsp (s .state .«namespace_id») (s .state .count) (take (dirRoom (s .state .limit)) (s .tspDir)) (take (treeRoom field (s .state .limit)) (s .tsp)))) (take (dirRoom (s .state .limit)) (s .tspDir)) (take (treeRoom field (s .state .limit)) (s .tsp)) tspDir tsp k
+    → storeOf r
+    (spt ++ drop (treeRoom field (s .state .limit)) (s .spt)) (sptDir ++ drop (dirRoom (s .state .limit)) (s .sptDir))
+    (tsp ++ drop (treeRoom field (s .state .limit)) (s .tsp)) (tspDir ++ drop (dirRoom (s .state .limit)) (s .tspDir))
+    ≡ storeWithout field p s
+unfolding without heldBy held treeOf dirOf
+left-without s p v m k r e spt sptDir tsp tspDir cs ct =
+    ap (λ (t : State). storeOf t (spt ++ drop (treeRoom field (s .state .limit)) (s .spt)) (sptDir ++ drop (dirRoom (s .state .limit)) (s .sptDir)) (tsp ++ drop (treeRoom field (s .state .limit)) (s .tsp)) (tspDir ++ drop (dirRoom (s .state .limit)) (s .tspDir))) e
+    ∙ store-holds s (without p (heldBy field s)) (v .room) m k spt sptDir tsp tspDir cs ct
 
 -- The digest of what a record says is 32 bytes long.
 pub digest-long : {count : ℕ} {dir tree : List ℕ} → Formed Spt count dir tree → Bytes tree → (ns : List ℕ) (k : ℕ) → k < count → (a : LengthyAuthorisedEntry)

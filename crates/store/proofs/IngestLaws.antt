@@ -27,9 +27,9 @@ use Rattle.tree.specs.Matching.{outdates, removes}
 use Rattle.tree.specs.declared.stored.KeyOrder.the-variants.{Spt}
 use Rattle.tree.proofs.FormedLaws.{formed-bounds}
 use Rattle.tree.proofs.FormedContents.{formed-many, formed-next}
-use Rattle.store.specs.Store.{Store, dirRoom, treeOf, dirOf, held, heldBy, holding, treeRoom}
+use Rattle.store.specs.Store.{stateWith, Store, dirRoom, treeOf, dirOf, held, heldBy, holding, treeRoom}
 use Rattle.store.specs.Refusal.{unless, _orElse_, storeRefusal}
-use Rattle.store.specs.Ingest.{succeeds, is-obsolete, IngestSaid, Decision, refuse, obsolete, take-it, firstThat, decidedOf, decided, stays, outdatedAt, removedFrom, placeDecided, ingestRefusal, judged, plainAnswer, obsoleteAnswer, stateWith, filed, filedIn, filing, carried, ingested}
+use Rattle.store.specs.Ingest.{succeeds, is-obsolete, IngestSaid, Decision, refuse, obsolete, take-it, firstThat, decidedOf, decided, stays, outdatedAt, removedFrom, placeDecided, ingestRefusal, judged, plainAnswer, obsoleteAnswer, filed, filedIn, filing, carried, ingested}
 use Rattle.store.specs.Change.{Marked}
 use Rattle.store.specs.declared.state.State.{State}
 use Rattle.store.specs.declared.ingest.PlaceDecision.{PlaceDecision}

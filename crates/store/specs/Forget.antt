@@ -23,6 +23,10 @@ use Rattle.store.specs.declared.forget.AreaForgotten.{AreaForgotten}
 unfoldable pub without : (Stored → Bool) → Held → Held
 without p h = record { spt = keep (λ (x : Stored). not (p x)) (h .spt); tsp = keep (λ (x : Stored). not (p x)) (h .tsp) }
 
+-- A store without what a test holds of.
+abbrev pub storeWithout : Figures → (Stored → Bool) → Store → Store
+storeWithout f p s = holding f (without p (heldBy f s)) s
+
 -- An entry: 9, if one stands there and a digest is expected that is not its own. Absent, it is done.
 unfoldable pub unexpected : Subspace → Components → (expects : Bool) → (digest : List ℕ) → Stored → Bool
 unexpected s p expects digest x = standsAt s p x && (expects && not (sameList sameNumber (x .entry .rank .«payload_digest») digest))
@@ -46,7 +50,7 @@ entryForgotten f s subspace path expects digest =
     (record { answer = record { refusal = forgetEntryRefusal f s subspace path expects digest; state = s .state }; store = s })
   where
     after : Store
-    after = holding f (without (standsAt subspace (components path)) (heldBy f s)) s
+    after = storeWithout f (standsAt subspace (components path)) s
 
 -- An area: the path of an absent protected area is not looked at.
 unfoldable pub forgetAreaRefusal : Figures → Store → Area → (protects : Bool) → Area → ℕ
@@ -70,4 +74,4 @@ areaForgotten f s area protects protected =
     (record { answer = record { refusal = forgetAreaRefusal f s area protects protected; state = s .state; forgotten = 0 }; store = s })
   where
     after : Store
-    after = holding f (without (isForgotten area protects protected) (heldBy f s)) s
+    after = storeWithout f (isForgotten area protects protected) s

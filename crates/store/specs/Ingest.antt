@@ -146,10 +146,6 @@ plainAnswer v s = record { verdict = v; state = s; newer = noEntry; token = repl
 abbrev pub obsoleteAnswer : State → Stored → IngestSaid
 obsoleteAnswer s x = record { verdict = says is-obsolete; state = s; newer = lengthy x .entry; token = x .token }
 
--- A state with another count.
-abbrev pub stateWith : State → (count : ℕ) → State
-stateWith s n = record { «namespace_id» = s .«namespace_id»; count = n; limit = s .limit }
-
 -- The store after the entry was filed.
 abbrev pub storeFiled : Figures → Store → Entry → (token : List ℕ) → Store
 storeFiled f s e token = holding f (filed (filing e token) (heldBy f s)) s

@@ -23,6 +23,10 @@ limitMost = 1024
 abbrev pub recordMost : Figures → ℕ
 recordMost f = keyMost f + valueLength
 
+-- A state with another count.
+abbrev pub stateWith : State → (count : ℕ) → State
+stateWith s n = record { «namespace_id» = s .«namespace_id»; count = n; limit = s .limit }
+
 pub record Store : Type 0 where
   pub state : State
   pub spt : List ℕ
@@ -91,7 +95,7 @@ dirHolding o limit l old = dirNumbers (dirRoom limit) (map (recordOf o) l) ++ dr
 -- The store that holds it: the count is the number of entries.
 unfoldable pub holding : Figures → Held → Store → Store
 holding f h s = record {
-  state = record { «namespace_id» = s .state .«namespace_id»; count = length (h .spt); limit = s .state .limit };
+  state = stateWith (s .state) (length (h .spt));
   spt = treeHolding f Spt (s .state .limit) (h .spt) (s .spt);
   sptDir = dirHolding Spt (s .state .limit) (h .spt) (s .sptDir);
   tsp = treeHolding f Tsp (s .state .limit) (h .tsp) (s .tsp);

@@ -22,11 +22,13 @@ ghost use Prim.Native.Nat.{_≤_};
 ghost use Rattle.laws.specs.Sorted.{any};
 ghost use Rattle.data_model.specs.Path.{field, legal, components};
 ghost use Rattle.tree.specs.Tree.{Formed};
+ghost use Rattle.tree.specs.Matching.{standsAt, isForgotten};
 ghost use Rattle.tree.specs.Apart.{noPlaceTwice};
 ghost use Rattle.tree.specs.declared.stored.KeyOrder.the-variants.{Spt};
 ghost use Rattle.store.specs.Store.{storeOf, limitMost};
+ghost use Rattle.store.specs.Refusal.{storeRefusal};
 ghost use Rattle.store.specs.Change.{inTree};
-ghost use Rattle.store.specs.Forget.{unexpected, forgetEntryRefusal, forgetEntryOutcome, entryForgotten, forgetAreaRefusal, forgetAreaOutcome, areaForgotten};
+ghost use Rattle.store.specs.Forget.{storeWithout, unexpected, forgetEntryRefusal, forgetEntryOutcome, entryForgotten, forgetAreaRefusal, forgetAreaOutcome, areaForgotten};
 
 // Refusal 0 and the state; or the refusal and the state that was handed in.
 #[repr(C)]
@@ -117,7 +119,42 @@ fn forget_entry_refusal(
     0
 }
 
-// An absent entry answers done, whatever digest was expected.
+// Takes what stands at a subspace and path out of both trees of a store, and answers its state with what is left.
+fn forget_at(
+    state: State,
+    spt: &mut [u8],
+    spt_dir: &mut [u32],
+    tsp: &mut [u8],
+    tsp_dir: &mut [u32],
+    subspace: Subspace,
+    path: Path,
+) -> State
+    requires { ⌜ (storeRefusal field (storeOf state (now spt) (now «spt_dir») (now tsp) (now «tsp_dir»)) true ≡ 0) × (legal field path ≡ true) ⌝ }
+    ensures { λ r. ⌜ storeOf r (now (spt .exit)) (now («spt_dir» .exit)) (now (tsp .exit)) (now («tsp_dir» .exit)) ≡ storeWithout field (standsAt subspace (components path)) (storeOf state (now (spt .entry)) (now («spt_dir» .entry)) (now (tsp .entry)) (now («tsp_dir» .entry))) ⌝ }
+{
+    let n = state.count;
+    let t = RECORD_MOST * state.limit;
+    let d = 2 * state.limit;
+    let left = drop_at(
+        KeyOrder::Spt,
+        n,
+        &mut spt[..t],
+        &mut spt_dir[..d],
+        subspace,
+        path,
+    );
+    drop_at(
+        KeyOrder::Tsp,
+        n,
+        &mut tsp[..t],
+        &mut tsp_dir[..d],
+        subspace,
+        path,
+    );
+    state.with_count(left)
+}
+
+// Forgets the entry at a subspace and path. An absent entry answers done, whatever digest was expected.
 pub fn forget_entry(
     state: State,
     spt: &mut [u8],
@@ -145,32 +182,10 @@ pub fn forget_entry(
     if refusal != 0 {
         return EntryForgotten { refusal, state };
     }
-    let namespace_id = state.namespace_id;
-    let t = RECORD_MOST * state.limit;
-    let d = 2 * state.limit;
-    let count = drop_at(
-        KeyOrder::Spt,
-        state.count,
-        &mut spt[..t],
-        &mut spt_dir[..d],
-        subspace,
-        path,
-    );
-    drop_at(
-        KeyOrder::Tsp,
-        state.count,
-        &mut tsp[..t],
-        &mut tsp_dir[..d],
-        subspace,
-        path,
-    );
+    let after = forget_at(state, spt, spt_dir, tsp, tsp_dir, subspace, path);
     EntryForgotten {
         refusal: 0,
-        state: State {
-            namespace_id,
-            count,
-            limit: state.limit,
-        },
+        state: after,
     }
 }
 
@@ -212,6 +227,45 @@ fn forget_area_refusal(
     0
 }
 
+// Takes what an area includes and the protected area, if any, does not out of both trees of a store, and answers its state with what is left.
+fn forget_within(
+    state: State,
+    spt: &mut [u8],
+    spt_dir: &mut [u32],
+    tsp: &mut [u8],
+    tsp_dir: &mut [u32],
+    area: Area,
+    protects: bool,
+    protected: Area,
+) -> State
+    requires { ⌜ (storeRefusal field (storeOf state (now spt) (now «spt_dir») (now tsp) (now «tsp_dir»)) true ≡ 0) × (legal field (area .path) ≡ true) × (cond protects (legal field (protected .path)) true ≡ true) ⌝ }
+    ensures { λ r. ⌜ storeOf r (now (spt .exit)) (now («spt_dir» .exit)) (now (tsp .exit)) (now («tsp_dir» .exit)) ≡ storeWithout field (isForgotten area protects protected) (storeOf state (now (spt .entry)) (now («spt_dir» .entry)) (now (tsp .entry)) (now («tsp_dir» .entry))) ⌝ }
+{
+    let n = state.count;
+    let t = RECORD_MOST * state.limit;
+    let d = 2 * state.limit;
+    let left = drop_area(
+        KeyOrder::Spt,
+        n,
+        &mut spt[..t],
+        &mut spt_dir[..d],
+        area,
+        protects,
+        protected,
+    );
+    drop_area(
+        KeyOrder::Tsp,
+        n,
+        &mut tsp[..t],
+        &mut tsp_dir[..d],
+        area,
+        protects,
+        protected,
+    );
+    state.with_count(left)
+}
+
+// Forgets what an area includes and the protected area, if any, does not.
 pub fn forget_area(
     state: State,
     spt: &mut [u8],
@@ -232,34 +286,10 @@ pub fn forget_area(
             forgotten: 0,
         };
     }
-    let namespace_id = state.namespace_id;
-    let t = RECORD_MOST * state.limit;
-    let d = 2 * state.limit;
-    let count = drop_area(
-        KeyOrder::Spt,
-        state.count,
-        &mut spt[..t],
-        &mut spt_dir[..d],
-        area,
-        protects,
-        protected,
-    );
-    drop_area(
-        KeyOrder::Tsp,
-        state.count,
-        &mut tsp[..t],
-        &mut tsp_dir[..d],
-        area,
-        protects,
-        protected,
-    );
+    let after = forget_within(state, spt, spt_dir, tsp, tsp_dir, area, protects, protected);
     AreaForgotten {
         refusal: 0,
-        state: State {
-            namespace_id,
-            count,
-            limit: state.limit,
-        },
-        forgotten: state.count - count,
+        state: after,
+        forgotten: state.count - after.count,
     }
 }

@@ -40,9 +40,9 @@ ghost use Rattle.tree.specs.Stored.{contents, stored};
 ghost use Rattle.tree.specs.Matching.{removes};
 ghost use Rattle.tree.specs.Tree.{Formed, InBounds};
 ghost use Rattle.tree.specs.declared.stored.KeyOrder.the-variants.{Spt};
-ghost use Rattle.store.specs.Store.{limitMost, storeOf, held};
+ghost use Rattle.store.specs.Store.{limitMost, stateWith, storeOf, held};
 ghost use Rattle.store.specs.Change.{Marked};
-ghost use Rattle.store.specs.Ingest.{succeeds, verdictSays, ingestedSays, MayFile, noEntry, plainAnswer, obsoleteAnswer, stateWith, storeFiled, placeDecided, prunedPairs, ingestRefusal, ingestOutcome, ingested};
+ghost use Rattle.store.specs.Ingest.{succeeds, verdictSays, ingestedSays, MayFile, noEntry, plainAnswer, obsoleteAnswer, storeFiled, placeDecided, prunedPairs, ingestRefusal, ingestOutcome, ingested};
 ghost use Rattle.store.specs.declared.ingest.IngestVerdict.the-variants as verdict;
 ghost use Rattle.store.specs.declared.ingest.PlaceDecision.the-variants as place;
 
@@ -190,13 +190,7 @@ fn taken_answer(state: State, n: usize) -> Ingested
     requires { ⌜ (n ≤ state .count) × (state .count - n < state .limit) ⌝ }
     ensures { λ r. ⌜ ingestedSays r ≡ plainAnswer (verdictSays (verdict.Success n)) (stateWith state (state .count - n + 1)) ⌝ }
 {
-    let namespace_id = state.namespace_id;
-    let count = state.count - n + 1;
-    let after = State {
-        namespace_id,
-        count,
-        limit: state.limit,
-    };
+    let after = state.with_count(state.count - n + 1);
     plain_answer(IngestVerdict::Success(n), after)
 }
 

@@ -1,6 +1,8 @@
 // The state of a store, by value; the refusals that this layer gives.
 use keys::encode::KEY_MOST;
 use tree::value::VALUE;
+ghost use mathlib.Core.Path.{_≡_};
+ghost use Rattle.store.specs.Store.{stateWith};
 
 // The most entries that a store may be opened for, and the most bytes of a record.
 pub const LIMIT_MOST: usize = 1024;
@@ -26,6 +28,21 @@ pub struct State {
     pub namespace_id: [u8; 16],
     pub count: usize,
     pub limit: usize,
+}
+
+impl State {
+    // The same state with another count.
+    pub fn with_count(self, count: usize) -> State
+        ensures { λ r. ⌜ r ≡ stateWith self count ⌝ }
+    {
+        let namespace_id = self.namespace_id;
+        let limit = self.limit;
+        State {
+            namespace_id,
+            count,
+            limit,
+        }
+    }
 }
 
 // Refusal 0 and the state; or the refusal and a state that is all 0.
