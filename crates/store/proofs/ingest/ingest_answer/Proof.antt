@@ -1,13 +1,14 @@
 -- `ingest_answer` meets its contract: each way's answer is the definition's. Assumes nothing.
-use Prim.Native.Nat.{_*_}
+use Prim.Native.Nat.{ℕ, _*_}
 use mathlib.Core.Path.{_≡_, sym, _∙_}
-use mathlib.Core.List.{[]}
+use mathlib.Core.List.{List, []}
 use native.Mathlib.Omega.{arith}
 use lib.Seq.{length-take-le}
 use Rattle.data_model.specs.Path.{field}
 use Rattle.data_model.specs.Entry.{entryOf}
 use Rattle.store.specs.Store.{Store, storeOf}
 use Rattle.store.specs.Ingest.{verdictSays, ingestRefusal, placeDecided}
+use Rattle.store.specs.declared.ingest.Ingestion.{Ingestion}
 use Rattle.store.proofs.IngestLaws.{Ready, inSpt, decided-own, ready, ready-formed, answers-refused, answers-late, old-bounds, answers-old, take-fits, answers-take}
 use borrow.Author.Needs.{needs}
 use Rattle.store.proofs.ingest.ingest_answer.Statement.{statement}
@@ -25,6 +26,10 @@ zero c = sym (c .before .ingest-refusal .ensures) ∙ c .if1 .left
 
 known : (c : tie.Else1) → Ready (lent (start c)) (start c .args .prune .now) (start c .args .entry)
 known c = ready (lent (start c)) (start c .args .prune .now) (start c .args .entry) (zero c)
+
+-- What was handed in, with whatever token.
+abbrev handed : tie.Start → List ℕ → Ingestion
+handed p token = record { entry = p .args .entry; token = token; «prevent_pruning» = p .args .«prevent-pruning» }
 
 -- What is decided, in the store's namespace.
 abbrev tested : tie.After-decide → tie.Else1
@@ -45,7 +50,7 @@ returns : tie.Need-returns
 unfolding verdictSays
 returns c = λ token.
     let p = c .before .before .before .before .before .before .before .before in
-    answers-refused (lent p) (p .args .prune .now) (p .args .entry) token (p .args .«prevent-pruning») (c .before .before .ingest-refusal .result) (c .before .before .ingest-refusal .ensures) (c .before .if1 .taken) _ (c .plain-answer .ensures)
+    answers-refused (lent p) (p .args .prune .now) (handed p token) (c .before .before .ingest-refusal .result) (c .before .before .ingest-refusal .ensures) (c .before .if1 .taken) _ (c .plain-answer .ensures)
 
 mul-n : tie.Need-mul-n
 mul-n c =
@@ -101,7 +106,7 @@ obsolete-answer-requires : tie.Need-obsolete-answer-requires
 obsolete-answer-requires c κs =
     let e = c .before .before .before .before .before .before .before .before in
     let p = start e in
-    old-bounds (lent p) (p .args .prune .now) (p .args .entry) [] (p .args .«prevent-pruning») (zero e) (c .before .before .before .before .before .decide .result) (own (c .before .before .before .before .before))
+    old-bounds (lent p) (p .args .prune .now) (handed p []) (zero e) (c .before .before .before .before .before .decide .result) (own (c .before .before .before .before .before))
     _ (c .before .before .before .d2 .given .1)
 
 enum-known-d-3 : tie.Need-enum-known-d-3
@@ -111,7 +116,7 @@ taken-answer-requires : tie.Need-taken-answer-requires
 taken-answer-requires c κs =
     let e = c .before .before .before .before .before .before in
     let p = start e in
-    take-fits (lent p) (p .args .prune .now) (p .args .entry) [] (p .args .«prevent-pruning») (zero e) (c .before .before .before .decide .result) (own (c .before .before .before))
+    take-fits (lent p) (p .args .prune .now) (handed p []) (zero e) (c .before .before .before .decide .result) (own (c .before .before .before))
     _ (c .before .d3 .given .1)
 
 returns-2 : tie.Need-returns-2
@@ -119,14 +124,14 @@ unfolding verdictSays
 returns-2 c = λ token.
     let e = c .before .before .before .before .before .before .before in
     let p = start e in
-    answers-late (lent p) (p .args .prune .now) (p .args .entry) token (p .args .«prevent-pruning») (zero e) (c .before .before .before .before .decide .result) (own (c .before .before .before .before))
+    answers-late (lent p) (p .args .prune .now) (handed p token) (zero e) (c .before .before .before .before .decide .result) (own (c .before .before .before .before))
     _ (c .before .before .d .given .1) _ (c .plain-answer2 .ensures)
 
 returns-3 : tie.Need-returns-3
 returns-3 c = λ token.
     let e = c .before .before .before .before .before .before .before .before .before in
     let p = start e in
-    answers-old (lent p) (p .args .prune .now) (p .args .entry) token (p .args .«prevent-pruning») (zero e) (c .before .before .before .before .before .before .decide .result) (own (c .before .before .before .before .before .before))
+    answers-old (lent p) (p .args .prune .now) (handed p token) (zero e) (c .before .before .before .before .before .before .decide .result) (own (c .before .before .before .before .before .before))
     _ (c .before .before .before .before .d2 .given .1) _ (c .obsolete-answer .ensures)
 
 returns-4 : tie.Need-returns-4
@@ -134,7 +139,7 @@ unfolding verdictSays
 returns-4 c = λ token.
     let e = c .before .before .before .before .before .before .before in
     let p = start e in
-    answers-take (lent p) (p .args .prune .now) (p .args .entry) token (p .args .«prevent-pruning») (zero e) (c .before .before .before .before .decide .result) (own (c .before .before .before .before))
+    answers-take (lent p) (p .args .prune .now) (handed p token) (zero e) (c .before .before .before .before .decide .result) (own (c .before .before .before .before))
     _ (c .before .before .d3 .given .1) _ (c .taken-answer .ensures)
 
 pub ingest-answer-spec : {M : Type 1} → statement M

@@ -36,7 +36,7 @@ enum-told c = search needs
 file-requires : tie.Need-file-requires
 unfolding verdictSays
 file-requires c κs =
-    let p = c .before .before .before .before .before .before .before .before .before .before .before .before .before .before .before .before .before .before in success-may (lent p) (p .args .prune .now) (p .args .entry) (p .args .token) (p .args .«prevent-pruning») (ingestedSays (c .before .before .before .before .before .before .before .ingest-answer .result)) (c .before .before .before .before .before .before .before .ingest-answer .ensures (p .args .token)) _ (ap verdictSays (c .before .before .before .before .before .enum-told .given .1))
+    let p = c .before .before .before .before .before .before .before .before .before .before .before .before .before .before .before .before .before .before .before .before in success-may (lent p) (p .args .prune .now) (p .args .ingestion) (ingestedSays (c .before .before .before .before .before .before .before .ingest-answer .result)) (c .before .before .before .before .before .before .before .ingest-answer .ensures (p .args .ingestion .token)) _ (ap verdictSays (c .before .before .before .before .before .enum-told .given .1))
 
 same-length : tie.Need-same-length
 same-length c = search needs
@@ -56,9 +56,9 @@ same-length-5 c = search needs
 returns : tie.Need-returns
 unfolding verdictSays
 returns c =
-    let p = c .before .before .before .before .before .before .before .before .before .before .before .before .before .before .before .before .before .before .before .before .before .before .before .before .before .before .before .before .before in
+    let p = c .before .before .before .before .before .before .before .before .before .before .before .before .before .before .before .before .before .before .before .before .before .before .before .before .before .before .before .before .before .before .before in
     let f = c .before .before .before .before .before .before .before .before .before .before .file in
-    outcome-filed (lent p) (p .args .prune .now) (p .args .entry) (p .args .token) (p .args .«prevent-pruning») (ingestedSays (c .before .before .before .before .before .before .before .before .before .before .before .before .before .before .before .before .before .before .ingest-answer .result)) (c .before .before .before .before .before .before .before .before .before .before .before .before .before .before .before .before .before .before .ingest-answer .ensures (p .args .token)) _ (ap verdictSays (c .before .before .before .before .before .before .before .before .before .before .before .before .before .before .before .before .enum-told .given .1)) (f .last .1 .0) (f .last .1 .1 .0) (f .last .1 .1 .1 .0) (f .last .1 .1 .1 .1 .0) (f .last .1 .1 .1 .1 .1 .0) (f .ensures .0) (f .ensures .1)
+    outcome-filed (lent p) (p .args .prune .now) (p .args .ingestion) (ingestedSays (c .before .before .before .before .before .before .before .before .before .before .before .before .before .before .before .before .before .before .ingest-answer .result)) (c .before .before .before .before .before .before .before .before .before .before .before .before .before .before .before .before .before .before .ingest-answer .ensures (p .args .ingestion .token)) _ (ap verdictSays (c .before .before .before .before .before .before .before .before .before .before .before .before .before .before .before .before .enum-told .given .1)) (f .last .1 .0) (f .last .1 .1 .0) (f .last .1 .1 .1 .0) (f .last .1 .1 .1 .1 .0) (f .last .1 .1 .1 .1 .1 .0) (f .ensures .0) (f .ensures .1)
 
 same-length-6 : tie.Need-same-length-6
 same-length-6 c = search needs
@@ -77,7 +77,7 @@ same-length-10 c = search needs
 
 returns-2 : tie.Need-returns-2
 returns-2 c =
-    let p = c .before .before .before .before .before .before .before .before .before .before .before .before in outcome-same (lent p) (p .args .prune .now) (p .args .entry) (p .args .token) (p .args .«prevent-pruning») (ingestedSays (c .before .ingest-answer .result)) (c .before .ingest-answer .ensures (p .args .token)) (other _ (c .match .keys2))
+    let p = c .before .before .before .before .before .before .before .before .before .before .before .before .before .before in outcome-same (lent p) (p .args .prune .now) (p .args .ingestion) (ingestedSays (c .before .ingest-answer .result)) (c .before .ingest-answer .ensures (p .args .ingestion .token)) (other _ (c .match .keys2))
 
 pub ingest-entry-numbers-spec : {M : Type 1} → statement M
 ingest-entry-numbers-spec =
