@@ -18,7 +18,7 @@ use Rattle.store.specs.Open.{nothing, openRefusal}
 use Rattle.store.specs.Ingest.{filed}
 use Rattle.store.specs.Forget.{without}
 use Rattle.store.proofs.Lifted.{listOf, held-in}
-use Rattle.call_laws.specs.Calls.{Opening, Ingestion, Call, ingest, filedAs, forgets, counted, Verdict, refused, obsolete, done, IsValue}
+use Rattle.call_laws.specs.Calls.{Opening, IngestCall, Call, ingest, filedAs, forgets, counted, Verdict, refused, obsolete, done, IsValue}
 use Rattle.call_laws.specs.Checks.{asked}
 use Rattle.call_laws.specs.Outcomes.{Outcome, outcome, opens, CallRight, OpeningRight}
 use Rattle.call_laws.proofs.WellFormedFacts.{well-formed-store}
@@ -32,7 +32,7 @@ refused-done e = absurd (let z : _≡_ {A = ℕ} 0 1 = cc in omega arith)
 pub obsolete-done : {G : Type 0} → obsolete ≡ done → G
 obsolete-done e = absurd (let z : _≡_ {A = ℕ} 0 1 = cc in omega arith)
 
-pub not-forgets : {G : Type 0} (i : Ingestion) (p : Stored → Bool) → forgets (ingest i) ≡ some p → G
+pub not-forgets : {G : Type 0} (i : IngestCall) (p : Stored → Bool) → forgets (ingest i) ≡ some p → G
 unfolding forgets
 not-forgets i p z = absurd (let n : _≡_ {A = ℕ} 0 1 = cc in omega arith)
 
@@ -62,22 +62,22 @@ module _ (f : Figures) (s : Store) (c : Call) where
       leaves n (has-forgotten p q e) = absurd (n (verdict-is e))
 
   -- What an ingestion that is done leaves of a store that stands, and what forgetting leaves.
-  pub files-right : Stands f s → IsValue f c → (i : Ingestion) → c ≡ ingest i → outcome f s c .verdict ≡ done → heldBy f (outcome f s c .store) ≡ filed (filedAs i) (heldBy f s)
+  pub files-right : Stands f s → IsValue f c → (i : IngestCall) → c ≡ ingest i → outcome f s c .verdict ≡ done → heldBy f (outcome f s c .store) ≡ filed (filedAs i) (heldBy f s)
   files-right v w i q d = go (did f s c)
     where
-      same : {j : Ingestion} → c ≡ ingest j → j ≡ i
+      same : {j : IngestCall} → c ≡ ingest j → j ≡ i
       same p = let z = sym p ∙ q in cc
 
       go : Did f s c → heldBy f (outcome f s c .store) ≡ filed (filedAs i) (heldBy f s)
       go (was-refused n e) = refused-done (sym (verdict-is e) ∙ d)
       go (was-obsolete j p y m o e) = obsolete-done (sym (verdict-is e) ∙ d)
-      go (has-filed j p t e) = ap (heldBy f) (store-is e) ∙ held-taken f s v j (value-of f c j p w) t ∙ ap (λ (a : Ingestion). filed (filedAs a) (heldBy f s)) (same p)
+      go (has-filed j p t e) = ap (heldBy f) (store-is e) ∙ held-taken f s v j (value-of f c j p w) t ∙ ap (λ (a : IngestCall). filed (filedAs a) (heldBy f s)) (same p)
       go (has-forgotten p g e) = not-forgets i p (subst (λ (d : Call). forgets d ≡ some p) q g)
 
   pub forgets-right : Stands f s → (p : Stored → Bool) → forgets c ≡ some p → outcome f s c .verdict ≡ done → heldBy f (outcome f s c .store) ≡ without p (heldBy f s)
   forgets-right v p g d = go (did f s c)
     where
-      not-ingested : {G : Type 0} (i : Ingestion) → c ≡ ingest i → G
+      not-ingested : {G : Type 0} (i : IngestCall) → c ≡ ingest i → G
       not-ingested i q = not-forgets i p (subst (λ (d : Call). forgets d ≡ some p) q g)
 
       go : Did f s c → heldBy f (outcome f s c .store) ≡ without p (heldBy f s)

@@ -16,7 +16,7 @@ use Rattle.data_model.specs.Refusal.{illegalPath}
 use Rattle.data_model.specs.declared.parameters.Subspace.{Subspace}
 use Rattle.data_model.specs.declared.area.Area.{Area}
 use Rattle.data_model.specs.declared.«range_3d».Range3d.{Range3d}
-use Rattle.key_laws.specs.Agree.{PathsAgree, EntriesAgree, AreasAgree, RangesAgree, InterestsAgree, ProtectedAgree, SameFor, SameForBoth}
+use Rattle.key_laws.specs.Agree.{PathsAgree, AreasAgree, RangesAgree, InterestsAgree, ProtectedAgree, SameFor, SameForBoth}
 use Rattle.key_laws.proofs.Behind.{behind-legal, behind-components, guarded, behind-entry, behind-area, behind-area-range, behind-legal-range, behind-range}
 use Rattle.tree.specs.Stored.{Stored}
 use Rattle.tree.specs.Matching.{standsAt, inArea, inRange, isForgotten, letThrough, listedInArea, listedInRange}
@@ -34,6 +34,7 @@ use Rattle.query.specs.Lookup.{foundIn, notFound, entryFound}
 use Rattle.query.specs.Listing.{listed, areaListed, rangeListed}
 use Rattle.query.specs.Count.{counted}
 use Rattle.query.specs.Interest.{startingAt, interestRange}
+use Rattle.call_laws.specs.Unseen.{IngestionsAgree}
 
 -- Of a store's call: 4 is answered, or a refusal before it, where a path is illegal.
 illegal-first : (n : ℕ) → eqb (n orElse illegalPath) 0 ≡ false
@@ -112,18 +113,18 @@ entryAnswer f s prune token prevent namespace lawful e =
     carried f s prune e token (cond (eqb n 0) (decided (s .state .limit) (held f Spt s) e prevent) (refuse n))
 
 module _ (f : Figures) (s : Store) where
-  pub ingested-same : (prune token : List ℕ) (prevent : Bool) → SameFor EntriesAgree (λ e. ingested f s prune e token prevent)
+  pub ingested-same : (prune : List ℕ) → SameFor IngestionsAgree (ingested f s prune)
   unfolding ingested judged ingestRefusal
-  ingested-same prune token prevent a b h =
-      guarded (entryAnswer f s prune token prevent (a .«namespace_id»)) blind _ _ _ _ (behind-legal f (a .path) (b .path) (h .path)) (behind-entry a b h f)
-      ∙ ap (λ (n : List ℕ). entryAnswer f s prune token prevent n (legal f (b .path)) (entryOf b)) (h .namespace)
+  ingested-same prune a b h =
+      guarded (entryAnswer f s prune (a .token) (a .«prevent_pruning») (a .entry .«namespace_id»)) blind _ _ _ _ (behind-legal f (a .entry .path) (b .entry .path) (h .entry .path)) (behind-entry (a .entry) (b .entry) (h .entry) f)
+      ∙ (λ i. entryAnswer f s prune (h .token i) (h .prevents i) (h .entry .namespace i) (legal f (b .entry .path)) (entryOf (b .entry)))
     where
-      blind : (x y : Entry) → entryAnswer f s prune token prevent (a .«namespace_id») false x ≡ entryAnswer f s prune token prevent (a .«namespace_id») false y
+      blind : (x y : Entry) → entryAnswer f s prune (a .token) (a .«prevent_pruning») (a .entry .«namespace_id») false x ≡ entryAnswer f s prune (a .token) (a .«prevent_pruning») (a .entry .«namespace_id») false y
       blind x y = unfold carried unless _orElse_ in rw (illegal-first (storeRefusal f s (leb (dirRoom (s .state .limit)) (length prune)))) refl
 
-  pub pairs-same : (prune : List Pair) (token : List ℕ) (prevent : Bool) → SameFor EntriesAgree (λ e. pairsIngested f s prune e token prevent)
+  pub pairs-same : (prune : List Pair) → SameFor IngestionsAgree (pairsIngested f s prune)
   unfolding pairsIngested
-  pairs-same prune token prevent a b h = ap inPairs (ingested-same (numbersOf prune) token prevent a b h)
+  pairs-same prune a b h = ap inPairs (ingested-same (numbersOf prune) a b h)
 
   pub forgotten-same : (subspace : Subspace) (expects : Bool) (digest : List ℕ) → SameFor PathsAgree (λ p. entryForgotten f s subspace p expects digest)
   unfolding entryForgotten forgetEntryRefusal

@@ -10,7 +10,6 @@ use Rattle.laws.specs.Sorted.{_∈_}
 use Rattle.data_model.specs.Said.{Said, refuses, says}
 use Rattle.data_model.specs.Path.{Figures, components, isPrefix}
 use Rattle.data_model.specs.Entry.{Entry, entryOf}
-use Rattle.data_model.specs.declared.entry.Entry.{Entry as EntryValue}
 use Rattle.data_model.specs.declared.path.Path.{Path}
 use Rattle.data_model.specs.declared.parameters.Subspace.{Subspace}
 use Rattle.data_model.specs.declared.area.Area.{Area}
@@ -19,6 +18,7 @@ use Rattle.tree.specs.Stored.{Stored}
 use Rattle.tree.specs.Matching.{removes, standsAt, isForgotten}
 use Rattle.store.specs.Store.{dirRoom}
 use Rattle.store.specs.Ingest.{Verdict as IngestVerdict, succeeds, is-obsolete, filing}
+use Rattle.store.specs.declared.ingest.Ingestion.{Ingestion}
 
 -- An opening: whatever namespace, limit and buffers. Two are alike if namespace and limit are the same.
 pub record Opening : Type 0 where
@@ -33,13 +33,11 @@ pub record Alike (o p : Opening) : Type 0 where
   pub namespace : o .namespace ≡ p .namespace
   pub limit : o .limit ≡ p .limit
 
--- The calls that change a store, with all that is free in them: an entry with its token, a prune list and the flag that prevents pruning; the place of an entry
--- and the digest expected there, if one is; an area and a protected one, if there is one.
-pub record Ingestion : Type 0 where
+-- The calls that change a store, with all that is free in them: a prune list and what an ingestion is handed; the place of an entry and the digest expected there,
+-- if one is; an area and a protected one, if there is one.
+pub record IngestCall : Type 0 where
   pub prune : List ℕ
-  pub entry : EntryValue
-  pub token : List ℕ
-  pub prevent : Bool
+  pub handed : Ingestion
 
 pub record Target : Type 0 where
   pub subspace : Subspace
@@ -53,13 +51,13 @@ pub record AreaForgetting : Type 0 where
   pub protected : Area
 
 pub data Call : Type 0 where
-  ingest : Ingestion → Call
+  ingest : IngestCall → Call
   forget-entry : Target → Call
   forget-area : AreaForgetting → Call
 
 -- What an ingestion files.
-abbrev pub filedAs : Ingestion → Stored
-filedAs i = filing (entryOf (i .entry)) (i .token)
+abbrev pub filedAs : IngestCall → Stored
+filedAs i = filing (entryOf (i .handed .entry)) (i .handed .token)
 
 -- Two entries of one subspace, the path of b properly extending that of a, that agree in timestamp, digest and length.
 pub record Tied (a b : Entry) : Type 0 where
@@ -77,11 +75,11 @@ pub record Room : Type 0 where
 pub record Input : Type 0 where
   pub paths : List Path
   pub rooms : (limit : ℕ) → List Room
-  pub ingestions : List Ingestion
+  pub ingestions : List IngestCall
   pub expected : List Target
 
 unfoldable pub input : Call → Input
-input (ingest i) = record { paths = i .entry .path ∷ []; rooms = λ limit. record { has = length (i .prune); needs = dirRoom limit } ∷ []; ingestions = i ∷ []; expected = [] }
+input (ingest i) = record { paths = i .handed .entry .path ∷ []; rooms = λ limit. record { has = length (i .prune); needs = dirRoom limit } ∷ []; ingestions = i ∷ []; expected = [] }
 input (forget-entry p) = record { paths = p .path ∷ []; rooms = λ limit. []; ingestions = []; expected = cond (p .expects) (p ∷ []) [] }
 input (forget-area a) = record { paths = a .area .path ∷ cond (a .protects) (a .protected .path ∷ []) []; rooms = λ limit. []; ingestions = []; expected = [] }
 
@@ -93,7 +91,7 @@ forgets (forget-area a) = some (isForgotten (a .area) (a .protects) (a .protecte
 
 -- Which entries the number in its answer counts: those that an ingestion removes, those that an area's forgetting forgets. The other answers no number.
 unfoldable pub counted : Call → Stored → Bool
-counted (ingest i) = removes (entryOf (i .entry))
+counted (ingest i) = removes (entryOf (i .handed .entry))
 counted (forget-entry p) = λ x. false
 counted (forget-area a) = isForgotten (a .area) (a .protects) (a .protected)
 
@@ -125,4 +123,4 @@ pub record IngestionIsValue (f : Figures) (i : Ingestion) : Type 0 where
   pub token-bytes : Bytes (i .token)
 
 abbrev pub IsValue : Figures → Call → Type 0
-IsValue f c = (i : Ingestion) → i ∈ input c .ingestions → IngestionIsValue f i
+IsValue f c = (i : IngestCall) → i ∈ input c .ingestions → IngestionIsValue f (i .handed)

@@ -16,7 +16,7 @@ use Rattle.tree.specs.declared.stored.KeyOrder.the-variants.{Spt, Tsp}
 use Rattle.store.specs.Store.{Store, storeOf, limitMost, treeRoom, dirRoom, treeOf, dirOf, held}
 use Rattle.store.specs.Open.{emptyState}
 use Rattle.store.specs.Ingest.{stays}
-use Rattle.call_laws.specs.Calls.{Opening, Ingestion, Target, Call, ingest, forget-entry, forget-area, Room, Input, input, Verdict, refused, obsolete, done}
+use Rattle.call_laws.specs.Calls.{Opening, IngestCall, Target, Call, ingest, forget-entry, forget-area, Room, Input, input, Verdict, refused, obsolete, done}
 
 -- No subspace and path stands twice.
 abbrev pub NoTwice : List Stored → Type 0
@@ -76,10 +76,10 @@ Holds f s h limit-outside = (s .state .limit < 1) ⊎ (limitMost < s .state .lim
 Holds f s h short-buffer = ShortBuffer f s ⊎ ((b : Room) × b ∈ h .rooms (s .state .limit) × (b .has < b .needs))
 Holds f s h not-well-formed = WellFormedStore f s → ⊥
 Holds f s h illegal-path = (p : Path) × p ∈ h .paths × (legal f p ≡ false)
-Holds f s h other-namespace = (i : Ingestion) × i ∈ h .ingestions × (i .entry .«namespace_id» ≡ s .state .«namespace_id» → ⊥)
-Holds f s h outdated = (i : Ingestion) × i ∈ h .ingestions × Outdated f s (entryOf (i .entry))
-Holds f s h prevented = (i : Ingestion) × i ∈ h .ingestions × ((i .prevent ≡ true) × Removes f s (entryOf (i .entry)))
-Holds f s h full = (i : Ingestion) × i ∈ h .ingestions × (s .state .limit ≤ length (keep (stays (entryOf (i .entry))) (held f Spt s)))
+Holds f s h other-namespace = (i : IngestCall) × i ∈ h .ingestions × (i .handed .entry .«namespace_id» ≡ s .state .«namespace_id» → ⊥)
+Holds f s h outdated = (i : IngestCall) × i ∈ h .ingestions × Outdated f s (entryOf (i .handed .entry))
+Holds f s h prevented = (i : IngestCall) × i ∈ h .ingestions × ((i .handed .«prevent_pruning» ≡ true) × Removes f s (entryOf (i .handed .entry)))
+Holds f s h full = (i : IngestCall) × i ∈ h .ingestions × (s .state .limit ≤ length (keep (stays (entryOf (i .handed .entry))) (held f Spt s)))
 Holds f s h other-digest = (p : Target) × p ∈ h .expected × OtherDigest f s p
 
 -- The first case that holds decides the verdict; done, if none does. One verdict is right: `decides-one`.

@@ -2,13 +2,12 @@
 use Prim.Native.Nat.{ℕ}
 use mathlib.Core.Path.{_≡_}
 use mathlib.Core.List.{List, []}
-use mathlib.Core.Bool.{Bool, true}
+use mathlib.Core.Bool.{true}
 use lib.ListN.{length, replicate}
 use Rattle.laws.specs.Lists.{put}
 use Rattle.laws.specs.Sorted.{_∈_, keep}
 use Rattle.data_model.specs.Path.{Figures}
 use Rattle.data_model.specs.Entry.{entryOf, prunes}
-use Rattle.data_model.specs.declared.entry.Entry.{Entry as EntryValue}
 use Rattle.tree.specs.Stored.{Stored, lengthy}
 use Rattle.tree.specs.declared.stored.KeyOrder.{KeyOrder}
 use Rattle.tree.specs.declared.stored.KeyOrder.the-variants.{Spt}
@@ -18,7 +17,7 @@ use Rattle.store.specs.Ingest.{IngestOutcome, ingested, prunedPairs, noEntry}
 use Rattle.store.specs.Forget.{entryForgotten, areaForgotten}
 use Rattle.store.specs.declared.state.State.{State}
 use Rattle.pairs.specs.Pairs.{prunedCount}
-use Rattle.call_laws.specs.Calls.{Opening, Ingestion, Call, ingest, forget-entry, forget-area, counted, Verdict, obsolete, done, ingestVerdict, numberVerdict}
+use Rattle.call_laws.specs.Calls.{Opening, IngestCall, Call, ingest, forget-entry, forget-area, counted, Verdict, obsolete, done, ingestVerdict, numberVerdict}
 use Rattle.call_laws.specs.Checks.{WellFormedStore, VerdictRight, OpeningVerdictRight}
 
 -- The verdict, the number in the answer (0 if it has none), and the store that is left: its state is the one that is answered.
@@ -29,22 +28,19 @@ pub record Outcome (S : Type 0) : Type 0 where
 
 -- Ours: what is answered and left on a store, and by an opening.
 unfoldable pub outcome : Figures → Store → Call → Outcome Store
-outcome f s (ingest i) = let r = ingested f s (i .prune) (i .entry) (i .token) (i .prevent) in record { verdict = ingestVerdict (r .answer .verdict); number = prunedCount (r .answer .verdict); store = r .store }
+outcome f s (ingest i) = let r = ingested f s (i .prune) (i .handed) in record { verdict = ingestVerdict (r .answer .verdict); number = prunedCount (r .answer .verdict); store = r .store }
 outcome f s (forget-entry p) = let r = entryForgotten f s (p .subspace) (p .path) (p .expects) (p .digest) in record { verdict = numberVerdict (r .answer .refusal); number = 0; store = r .store }
 outcome f s (forget-area a) = let r = areaForgotten f s (a .area) (a .protects) (a .protected) in record { verdict = numberVerdict (r .answer .refusal); number = r .answer .forgotten; store = r .store }
 
 unfoldable pub opens : Figures → Opening → Outcome Store
 opens f o = let r = opening f (o .namespace) (o .limit) (o .spt) (o .sptDir) (o .tsp) (o .tspDir) in record { verdict = numberVerdict (r .answer .refusal); number = 0; store = r .store }
 
--- What a call answered and left: a verdict and a number, with the state in the answer and the buffers as they then are. What an opening and an ingestion are handed.
+-- What a call answered and left: a verdict and a number, with the state in the answer and the buffers as they then are. What an opening is handed.
 abbrev pub outcomeOf : Verdict → ℕ → State → (spt sptDir tsp tspDir : List ℕ) → Outcome Store
 outcomeOf v n s spt sptDir tsp tspDir = record { verdict = v; number = n; store = storeOf s spt sptDir tsp tspDir }
 
 abbrev pub openingOf : (namespace : List ℕ) → (limit : ℕ) → (spt sptDir tsp tspDir : List ℕ) → Opening
 openingOf namespace limit spt sptDir tsp tspDir = record { namespace = namespace; limit = limit; spt = spt; sptDir = sptDir; tsp = tsp; tspDir = tspDir }
-
-abbrev pub ingestionOf : (prune : List ℕ) → EntryValue → (token : List ℕ) → (prevent : Bool) → Ingestion
-ingestionOf prune e token prevent = record { prune = prune; entry = e; token = token; prevent = prevent }
 
 -- Each call on any store: the verdict is right. Done, the number counts what it says it counts. Not done, the store is the one that was handed in, and the number 0.
 pub record CallRight (f : Figures) (s : Store) (c : Call) (r : Outcome Store) : Type 0 where
@@ -72,9 +68,9 @@ pub record OpeningRight (f : Figures) (o : Opening) (r : Outcome Store) : Type 0
 
 -- What else an ingestion answers. Done: the pairs of what it removes stand in the prune list, which nothing else writes to. Obsolete: a stored entry that is
 -- newer, of the subspace, at a prefix of the path or the path itself. Zeros where none is shown.
-pub record AnswerRight (f : Figures) (s : Store) (i : Ingestion) (r : IngestOutcome) : Type 0 where
-  pub pairs : ingestVerdict (r .answer .verdict) ≡ done → r .prune ≡ put (prunedPairs f s (entryOf (i .entry))) (i .prune)
+pub record AnswerRight (f : Figures) (s : Store) (i : IngestCall) (r : IngestOutcome) : Type 0 where
+  pub pairs : ingestVerdict (r .answer .verdict) ≡ done → r .prune ≡ put (prunedPairs f s (entryOf (i .handed .entry))) (i .prune)
   pub unwritten : (ingestVerdict (r .answer .verdict) ≡ done → ⊥) → r .prune ≡ i .prune
   pub shown : ingestVerdict (r .answer .verdict) ≡ obsolete
-      → (x : Stored) × x ∈ held f Spt s × (prunes (x .entry) (entryOf (i .entry)) ≡ true) × (r .answer .newer ≡ lengthy x .entry) × (r .answer .token ≡ x .token)
+      → (x : Stored) × x ∈ held f Spt s × (prunes (x .entry) (entryOf (i .handed .entry)) ≡ true) × (r .answer .newer ≡ lengthy x .entry) × (r .answer .token ≡ x .token)
   pub none-shown : (ingestVerdict (r .answer .verdict) ≡ obsolete → ⊥) → (r .answer .newer ≡ noEntry) × (r .answer .token ≡ replicate 64 0)

@@ -1,6 +1,7 @@
 -- "Bytes past its total and ends past its count are never looked at ..; nor is the path of an open end or of an absent protected area looked at": each call that
 -- takes a path answers values that agree up to there (`PathsAgree` and those after it) the same, and leaves the same in every buffer. Theorem `unseen`.
 use Prim.Native.Nat.{ℕ}
+use mathlib.Core.Path.{_≡_}
 use mathlib.Core.List.{List}
 use mathlib.Core.Bool.{Bool, _&&_}
 use Rattle.data_model.specs.Path.{Figures, components, legal, samePath, byComponents, isPrefix}
@@ -17,12 +18,19 @@ use Rattle.data_model.specs.declared.«query_ignore_params».QueryIgnoreParams.
 use Rattle.store.specs.Store.{Store}
 use Rattle.store.specs.Ingest.{ingested}
 use Rattle.store.specs.Forget.{entryForgotten, areaForgotten}
+use Rattle.store.specs.declared.ingest.Ingestion.{Ingestion}
 use Rattle.pairs.specs.Pairs.{pairsIngested}
 use Rattle.pairs.specs.declared.Pair.{Pair}
 use Rattle.query.specs.Lookup.{entryFound}
 use Rattle.query.specs.Listing.{areaListed, rangeListed, areaPart, rangePart, areaOffset, rangeOffset}
 use Rattle.query.specs.Count.{areaCounted, summarised}
 use Rattle.query.specs.Interest.{interestRange}
+
+-- Two ingestions agree if their entries do and all else is the same.
+pub record IngestionsAgree (a b : Ingestion) : Type 0 where
+  pub entry : EntriesAgree (a .entry) (b .entry)
+  pub token : a .token ≡ b .token
+  pub prevents : a .«prevent_pruning» ≡ b .«prevent_pruning»
 
 -- A clause for each public entry that takes a path, by its name: what its contract has on the right-hand side, the answer and all that is left in a buffer.
 pub record Unseen (f : Figures) : Type 0 where
@@ -52,8 +60,8 @@ pub record Unseen (f : Figures) : Type 0 where
   pub encode-tsp : (s : Subspace) (t : ℕ) (out : List ℕ) → SameFor PathsAgree (λ p. encoded (roomy f out) (legal f p) (tspKey (triple s (components p) t)))
   pub encode-tsp-in : (s : Subspace) (t : ℕ) (out : List ℕ) → SameFor PathsAgree (λ p. encodedIn (roomy f out) (legal f p) (tspKey (triple s (components p) t)) out)
   -- Changes of a store: the answer, the store's buffers and the prune list. `ingest_entry_by_value` answers as `ingest_entry` does
-  pub ingest-entry-numbers : (s : Store) (prune token : List ℕ) (prevent : Bool) → SameFor EntriesAgree (λ e. ingested f s prune e token prevent)
-  pub ingest-entry : (s : Store) (prune : List Pair) (token : List ℕ) (prevent : Bool) → SameFor EntriesAgree (λ e. pairsIngested f s prune e token prevent)
+  pub ingest-entry-numbers : (s : Store) (prune : List ℕ) → SameFor IngestionsAgree (ingested f s prune)
+  pub ingest-entry : (s : Store) (prune : List Pair) → SameFor IngestionsAgree (pairsIngested f s prune)
   pub forget-entry : (s : Store) (subspace : Subspace) (expects : Bool) (digest : List ℕ) → SameFor PathsAgree (λ p. entryForgotten f s subspace p expects digest)
   pub forget-area : (s : Store) (protects : Bool) → SameForBoth AreasAgree (ProtectedAgree protects) (λ a protected. areaForgotten f s a protects protected)
   -- Readings of a store

@@ -18,7 +18,7 @@ use Rattle.store.specs.Store.{Store, treeRoom, dirRoom, treeOf, dirOf, held, he
 use Rattle.store.specs.Refusal.{limitOk}
 use Rattle.store.specs.Open.{nothing}
 use Rattle.store.specs.Ingest.{filed}
-use Rattle.call_laws.specs.Calls.{Ingestion, ingest, filedAs, input, Verdict, obsolete, done}
+use Rattle.call_laws.specs.Calls.{IngestCall, ingest, filedAs, input, Verdict, obsolete, done}
 use Rattle.call_laws.specs.Checks.{asked}
 use Rattle.call_laws.specs.Outcomes.{Outcome, outcome, opens}
 use Rattle.call_laws.proofs.Did.{so, Did, was-refused, was-obsolete, has-filed, has-forgotten, did}
@@ -50,11 +50,11 @@ abbrev next : Store
 next = holding field (record { spt = filedAs one ∷ []; tsp = filedAs one ∷ [] }) begun
 
 -- The verdicts of ours.
-pub first-done : (x : Ingestion) → map verdictIn (history (ours field) t0 (ingest x ∷ [])) ≡ done ∷ [] → outcome field t0 (ingest x) .verdict ≡ done
+pub first-done : (x : IngestCall) → map verdictIn (history (ours field) t0 (ingest x ∷ [])) ≡ done ∷ [] → outcome field t0 (ingest x) .verdict ≡ done
 unfolding history
 first-done x e = ap (λ (l : List Verdict). getD l 0 obsolete) e
 
-second-done : (x : Ingestion) → map verdictIn (history (ours field) t0 (ingest one ∷ ingest x ∷ [])) ≡ done ∷ done ∷ [] → outcome field (outcome field t0 (ingest one) .store) (ingest x) .verdict ≡ done
+second-done : (x : IngestCall) → map verdictIn (history (ours field) t0 (ingest one ∷ ingest x ∷ [])) ≡ done ∷ done ∷ [] → outcome field (outcome field t0 (ingest one) .store) (ingest x) .verdict ≡ done
 unfolding history
 second-done x e = ap (λ (l : List Verdict). getD l 1 obsolete) e
 
@@ -67,19 +67,19 @@ unfolding computing
 done-token = first-done other-token (computed 2 refl (other-token ∷ []) refl .says-all)
 
 -- What ours files is what it leaves.
-pub ours-files : (s : Store) (i : Ingestion) → outcome field s (ingest i) .verdict ≡ done → outcome field s (ingest i) .store ≡ makes filed i s
+pub ours-files : (s : Store) (i : IngestCall) → outcome field s (ingest i) .verdict ≡ done → outcome field s (ingest i) .store ≡ makes filed i s
 ours-files s i d = go (did field s (ingest i))
   where
     told : {a : Verdict} {n : ℕ} {t : Store} → outcome field s (ingest i) ≡ so a n t → a ≡ done
     told e = sym (ap (λ (o : Outcome Store). o .verdict) e) ∙ d
 
-    same : {j : Ingestion} → ingest i ≡ ingest j → j ≡ i
+    same : {j : IngestCall} → ingest i ≡ ingest j → j ≡ i
     same q = cc
 
     go : Did field s (ingest i) → outcome field s (ingest i) .store ≡ makes filed i s
     go (was-refused n e) = refused-done (told e)
     go (was-obsolete j q y m o e) = obsolete-done (told e)
-    go (has-filed j q t e) = ap (λ (o : Outcome Store). o .store) e ∙ ap (λ (k : Ingestion). makes filed k s) (same q)
+    go (has-filed j q t e) = ap (λ (o : Outcome Store). o .store) e ∙ ap (λ (k : IngestCall). makes filed k s) (same q)
     go (has-forgotten p q e) = not-forgets i p q
 
 makes-next : makes filed one begun ≡ next
@@ -98,21 +98,21 @@ unfolding computing
 done-two = subst (λ (s : Store). outcome field s (ingest two) .verdict ≡ done) ours-next (second-done two (computed 2 refl (one ∷ two ∷ []) refl .says-all))
 
 -- What a store with a flaw leaves after one entry, and after `one` and another where the flaw does not show on the first.
-step : (w : Flaw) (s : Store) (i : Ingestion) → outcome field s (ingest i) .verdict ≡ done → with-flaw w .call s (ingest i) .store ≡ flawed w i s
+step : (w : Flaw) (s : Store) (i : IngestCall) → outcome field s (ingest i) .verdict ≡ done → with-flaw w .call s (ingest i) .store ≡ flawed w i s
 unfolding instead ifDone
 step w s i d = rw d refl
 
-after-one : (w : Flaw) (x : Ingestion) → outcome field t0 (ingest x) .verdict ≡ done → leaves w (x ∷ []) ≡ flawed w x begun
+after-one : (w : Flaw) (x : IngestCall) → outcome field t0 (ingest x) .verdict ≡ done → leaves w (x ∷ []) ≡ flawed w x begun
 unfolding afterAll
 after-one w x d = step w t0 x d ∙ ap (flawed w x) begins
 
-after-two : (w : Flaw) (x : Ingestion) → flawed w one begun ≡ next → outcome field next (ingest x) .verdict ≡ done → leaves w (one ∷ x ∷ []) ≡ flawed w x next
+after-two : (w : Flaw) (x : IngestCall) → flawed w one begun ≡ next → outcome field next (ingest x) .verdict ≡ done → leaves w (one ∷ x ∷ []) ≡ flawed w x next
 unfolding afterAll
 after-two w x q d = ap (λ (s : Store). with-flaw w .call s (ingest x) .store) (step w t0 one done-one ∙ ap (flawed w one) begins ∙ q) ∙ step w next x d
 
 -- The flaws.
-alone : (x : Ingestion) → Current (receiptOf x ∷ []) (receiptOf x)
-alone x = record { among = here refl; unpruned = λ q n. rw (only n) (prunes-irrefl (entryOf (x .entry))) }
+alone : (x : IngestCall) → Current (receiptOf x ∷ []) (receiptOf x)
+alone x = record { among = here refl; unpruned = λ q n. rw (only n) (prunes-irrefl (entryOf (x .handed .entry))) }
 
 only-counted : Exactly (held field Spt (leaves counts-only (one ∷ []))) (map receiptOf (one ∷ [])) → ⊥
 unfolding flawed computing reading
@@ -139,7 +139,7 @@ available-one : ((x : Stored) → x ∈ held field Spt (leaves available-1 (one 
 unfolding flawed computing reading heldBy
 available-one h =
     let k = subst (λ (s : Store). (x : Stored) → x ∈ held field Spt s → x .available ≡ 0) (after-one available-1 one done-one) h in
-    let z : _≡_ {A = ℕ} 1 0 = k (record { entry = entryOf (one .entry); token = one .token; available = 1 }) (here refl) in
+    let z : _≡_ {A = ℕ} 1 0 = k (record { entry = entryOf (one .handed .entry); token = one .handed .token; available = 1 }) (here refl) in
     omega arith
 
 next-nothing : flawed prunes-nothing one begun ≡ next
@@ -185,18 +185,18 @@ broken = record {
 }
 
 -- All that is handed in is received, and the premises hold of it.
-got-one : (w : Flaw) (x : Ingestion) → outcome field t0 (ingest x) .verdict ≡ done → received (history (with-flaw w) t0 (map ingest (x ∷ []))) ≡ map receiptOf (x ∷ [])
+got-one : (w : Flaw) (x : IngestCall) → outcome field t0 (ingest x) .verdict ≡ done → received (history (with-flaw w) t0 (map ingest (x ∷ []))) ≡ map receiptOf (x ∷ [])
 unfolding history received receipts notRefused input
 got-one w x d = rw d refl
 
-got-two : (w : Flaw) (x : Ingestion) → flawed w one begun ≡ next → outcome field next (ingest x) .verdict ≡ done → received (history (with-flaw w) t0 (map ingest (one ∷ x ∷ []))) ≡ map receiptOf (one ∷ x ∷ [])
+got-two : (w : Flaw) (x : IngestCall) → flawed w one begun ≡ next → outcome field next (ingest x) .verdict ≡ done → received (history (with-flaw w) t0 (map ingest (one ∷ x ∷ []))) ≡ map receiptOf (one ∷ x ∷ [])
 unfolding history received receipts notRefused input
 got-two w x q d =
     let e : with-flaw w .call t0 (ingest one) .store ≡ next = step w t0 one done-one ∙ ap (flawed w one) begins ∙ q in
     let f : outcome field (with-flaw w .call t0 (ingest one) .store) (ingest x) .verdict ≡ done = ap (λ (s : Store). outcome field s (ingest x) .verdict) e ∙ d in
     rw (f, done-one) refl
 
-plain-1 : (x : Ingestion) → Plain (map receiptOf (x ∷ []))
+plain-1 : (x : IngestCall) → Plain (map receiptOf (x ∷ []))
 plain-1 x = record { one-token = λ a b n k e. ap (λ (r : Receipt). r .token) (only n ∙ sym (only k)); no-tie = λ a b n k t. t .properly (ap (λ (r : Receipt). r .entry .path) (only n ∙ sym (only k))) }
 
 plain-two : Plain (map receiptOf (one ∷ two ∷ []))
@@ -208,7 +208,7 @@ unfolding computing mayTie noneMayTie
 plain-later = record { one-token = tokens-one (replicate 64 0) _ refl; no-tie = ties-none _ refl }
 
 -- So demand 3 says of these what each of them breaks.
-module _ (w : Flaw) (v : Demand3 (throughout field) (with-flaw w)) (xs : List Ingestion) (h : all (fine 2) xs ≡ true)
+module _ (w : Flaw) (v : Demand3 (throughout field) (with-flaw w)) (xs : List IngestCall) (h : all (fine 2) xs ≡ true)
     (got : received (history (with-flaw w) t0 (map ingest xs)) ≡ map receiptOf xs) (p : Plain (map receiptOf xs)) where
   abbrev run : Run (throughout field) (with-flaw w)
   run = record { opening = atLimit 2; accepted = opens-fine 2 ok-2; calls = map ingest xs; values = lines-values 2 xs h }

@@ -18,7 +18,7 @@ use Rattle.tree.specs.declared.stored.KeyOrder.the-variants.{Spt, Tsp}
 use Rattle.store.specs.Store.{stateWith, Store, storeOf, treeRoom, dirRoom, treeOf, dirOf, held, Held, heldBy, holding}
 use Rattle.store.specs.Open.{nothing}
 use Rattle.store.specs.Ingest.{filing, sptLess, tspLess, stays, filedIn, filed}
-use Rattle.call_laws.specs.Calls.{Opening, Ingestion, AreaForgetting, Call, ingest, forget-entry, forget-area, filedAs, forgets, Verdict, refused, obsolete, done}
+use Rattle.call_laws.specs.Calls.{Opening, IngestCall, AreaForgetting, Call, ingest, forget-entry, forget-area, filedAs, forgets, Verdict, refused, obsolete, done}
 use Rattle.call_laws.specs.Checks.{OpeningVerdictRight}
 use Rattle.call_laws.specs.Outcomes.{Outcome, outcome, opens}
 use Rattle.convergence.specs.Demand.{Machine, Event, afterAll, receiptOf, notRefused, Run, throughout, events, end, receiptIn, Exactly, Demand3}
@@ -41,23 +41,23 @@ Happens m P = (r : Run (throughout field) m) × (e : Event Store) × e ∈ event
 
 -- Kinds of stores. What an ingestion that is done was handed stands in neither tree afterwards.
 abbrev pub FilesNothing : AStore → Type 0
-FilesNothing m = (s : Store) → Reached m s → (i : Ingestion) (k : KeyOrder) → m .call s (ingest i) .verdict ≡ done → receiptOf i ∈ map receiptIn (held field k (m .call s (ingest i) .store)) → ⊥
+FilesNothing m = (s : Store) → Reached m s → (i : IngestCall) (k : KeyOrder) → m .call s (ingest i) .verdict ≡ done → receiptOf i ∈ map receiptIn (held field k (m .call s (ingest i) .store)) → ⊥
 
 -- Once its count is not 0 it calls obsolete all that would not be refused.
 abbrev pub FirstOnly : AStore → Type 0
-FirstOnly m = (s : Store) → Reached m s → (i : Ingestion) → (s .state .count ≡ 0 → ⊥) → notRefused (outcome field s (ingest i) .verdict) ≡ true → m .call s (ingest i) .verdict ≡ obsolete
+FirstOnly m = (s : Store) → Reached m s → (i : IngestCall) → (s .state .count ≡ 0 → ⊥) → notRefused (outcome field s (ingest i) .verdict) ≡ true → m .call s (ingest i) .verdict ≡ obsolete
 
 -- It says 8 although fewer than the limit are left after pruning.
 abbrev pub FullBelow : AStore → Type 0
-FullBelow m = (i : Ingestion)
-    × Happens m λ e. (e .call ≡ ingest i) × (e .outcome .verdict ≡ refused 8) × (length (keep (stays (entryOf (i .entry))) (held field Spt (e .before))) < e .before .state .limit)
+FullBelow m = (i : IngestCall)
+    × Happens m λ e. (e .call ≡ ingest i) × (e .outcome .verdict ≡ refused 8) × (length (keep (stays (entryOf (i .handed .entry))) (held field Spt (e .before))) < e .before .state .limit)
 
 -- It refuses every call; it has one verdict for all ingestions.
 abbrev pub RefusesAll : AStore → Type 0
 RefusesAll m = (s : Store) → Reached m s → (c : Call) → notRefused (m .call s c .verdict) ≡ false
 
 abbrev pub OneVerdict : AStore → Type 0
-OneVerdict m = (v : Verdict) × ((s : Store) → Reached m s → (i : Ingestion) → m .call s (ingest i) .verdict ≡ v)
+OneVerdict m = (v : Verdict) × ((s : Store) → Reached m s → (i : IngestCall) → m .call s (ingest i) .verdict ≡ v)
 
 -- It forgets nothing, whatever it says; its forgettings write nothing in the time-first tree.
 abbrev pub ForgetsNothing : AStore → Type 0
@@ -114,7 +114,7 @@ ifDone (refused n) a b = b
 ifDone obsolete a b = b
 ifDone done a b = a
 
-unfoldable pub instead : (Ingestion → Store → Store) → Store → Call → Outcome Store → Store
+unfoldable pub instead : (IngestCall → Store → Store) → Store → Call → Outcome Store → Store
 instead g s (ingest i) o = ifDone (o .verdict) (g i s) s
 instead g s (forget-entry p) o = o .store
 instead g s (forget-area a) o = o .store
@@ -123,10 +123,10 @@ instead g s (forget-area a) o = o .store
 pub data Flaw : Type 0 where
   counts-only leaves-bytes loses-token available-1 prunes-nothing prunes-one-tree in-order-of-arrival : Flaw
 
-abbrev pub makes : (Stored → Held → Held) → Ingestion → Store → Store
+abbrev pub makes : (Stored → Held → Held) → IngestCall → Store → Store
 makes g i s = holding field (g (filedAs i) (heldBy field s)) s
 
-unfoldable pub flawed : Flaw → Ingestion → Store → Store
+unfoldable pub flawed : Flaw → IngestCall → Store → Store
 flawed counts-only i s = storeOf (stateWith (s .state) (suc (s .state .count))) (s .spt) (s .sptDir) (s .tsp) (s .tspDir)
 flawed leaves-bytes i s = let t = makes filed i s in storeOf (t .state) (take 200 (t .spt) ++ 1 ∷ drop 201 (t .spt)) (t .sptDir) (t .tsp) (t .tspDir)
 flawed loses-token i s = makes (λ x h. filed (filing (x .entry) (replicate 64 0)) h) i s
@@ -139,7 +139,7 @@ abbrev pub with-flaw : Flaw → AStore
 with-flaw w = leaving (instead (flawed w))
 
 -- What it leaves of a store of limit 2 after these.
-abbrev pub leaves : Flaw → List Ingestion → Store
+abbrev pub leaves : Flaw → List IngestCall → Store
 leaves w handed = afterAll (with-flaw w) (opens field (atLimit 2) .store) (map ingest handed)
 
 -- The clause of `Contents` that each of them breaks, all of it having been received.

@@ -2,28 +2,26 @@
 use Prim.Native.Nat.{ℕ}
 use mathlib.Core.Path.{_≡_, refl, sym, ap, _∙_}
 use mathlib.Core.List.{List}
-use mathlib.Core.Bool.{false}
-use lib.ListN.{replicate}
 use Rattle.data_model.specs.Path.{field}
-use Rattle.data_model.specs.declared.entry.Entry.{Entry}
 use Rattle.store.specs.Store.{Store}
 use Rattle.store.specs.Ingest.{IngestOutcome, ingested}
+use Rattle.store.specs.declared.ingest.Ingestion.{Ingestion}
 use Rattle.text.specs.EntryLine.{lineRead}
 use Rattle.text.specs.declared.path.Outcome.{Outcome}
 use Rattle.text.specs.declared.path.Outcome.the-variants as outcome
 use Rattle.text.specs.declared.entry_line.EntryLine.{EntryLine}
-use Rattle.listing.specs.Carry.{entryOfLine, answerWithout, afterIngest, carriedBy, lineCarried}
+use Rattle.listing.specs.Carry.{ingestionOfLine, answerWithout, afterIngest, carriedBy, lineCarried}
 
 module _ (s : Store) (prune line : List ℕ) (e : EntryLine) (read : e ≡ lineRead line) where
   line-is : carriedBy field s prune e (e .outcome) ≡ lineCarried field s prune line
   unfolding lineCarried
   line-is = ap (λ (x : EntryLine). carriedBy field s prune x (x .outcome)) read
 
-  pub line-taken : e .outcome ≡ outcome.Good → (x : Entry) → x ≡ entryOfLine e → (o : IngestOutcome) → o ≡ ingested field s prune x (replicate 64 0) false
+  pub line-taken : e .outcome ≡ outcome.Good → (x : Ingestion) → x ≡ ingestionOfLine e → (o : IngestOutcome) → o ≡ ingested field s prune x
       → afterIngest o ≡ lineCarried field s prune line
   unfolding carriedBy
   line-taken g x ex o eo =
-      ap afterIngest (eo ∙ ap (λ (y : Entry). ingested field s prune y (replicate 64 0) false) ex)
+      ap afterIngest (eo ∙ ap (ingested field s prune) ex)
       ∙ sym (ap (carriedBy field s prune e) g)
       ∙ line-is
 

@@ -10,6 +10,7 @@ use Rattle.data_model.specs.declared.entry.Entry.{Entry as EntryValue}
 use Rattle.store.specs.Store.{Store, storeOf}
 use Rattle.store.specs.Ingest.{Verdict, succeeds, is-obsolete, IngestOutcome, ingested}
 use Rattle.store.specs.declared.state.State.{State}
+use Rattle.store.specs.declared.ingest.Ingestion.{Ingestion}
 use Rattle.text.specs.EntryLine.{lineRead}
 use Rattle.text.specs.declared.path.Outcome.{Outcome}
 use Rattle.text.specs.declared.path.Outcome.the-variants as outcome
@@ -28,6 +29,10 @@ entryOfLine e = record {
   «payload_length» = e .«payload_length»;
   «payload_digest» = replicate 32 (e .digest);
 }
+
+-- What is ingested of a line: its entry with token 0, and pruning is not prevented.
+abbrev pub ingestionOfLine : EntryLine → Ingestion
+ingestionOfLine e = record { entry = entryOfLine e; token = replicate 64 0; «prevent_pruning» = false }
 
 -- `ok`, `obsolete`, or `refused` and the number.
 unfoldable pub answerOf : Said Verdict → Answer
@@ -52,9 +57,9 @@ lineOutcome r a b c d prune = record { answer = r .answer; store = storeOf (r .s
 abbrev pub afterIngest : IngestOutcome → LineOutcome
 afterIngest o = record { answer = answerOf (o .answer .verdict); store = o .store; prune = o .prune }
 
--- `bad` and `refused 4` leave all as it is. Tokens are 0, and pruning is never prevented.
+-- A line that says an entry is ingested; `bad` and `refused 4` leave all as it is.
 unfoldable pub carriedBy : Figures → Store → (prune : List ℕ) → EntryLine → Outcome → LineOutcome
-carriedBy f s prune e outcome.Good = afterIngest (ingested f s prune (entryOfLine e) (replicate 64 0) false)
+carriedBy f s prune e outcome.Good = afterIngest (ingested f s prune (ingestionOfLine e))
 carriedBy f s prune e outcome.Illegal = record { answer = answerWithout outcome.Illegal; store = s; prune = prune }
 carriedBy f s prune e outcome.Bad = record { answer = answerWithout outcome.Bad; store = s; prune = prune }
 

@@ -3,6 +3,7 @@ use data_model::answer::ILLEGAL_PATH;
 use data_model::entry::Entry;
 use data_model::parameters::Subspace;
 use store::ingest::IngestVerdict;
+use store::ingest::Ingestion;
 use store::ingest::ingest_entry_numbers;
 use store::state::State;
 use text::entry_line::EntryLine;
@@ -12,7 +13,7 @@ ghost use mathlib.Core.Path.{_≡_};
 ghost use Rattle.data_model.specs.Path.{field};
 ghost use Rattle.store.specs.Store.{storeOf};
 ghost use Rattle.store.specs.Ingest.{verdictSays};
-ghost use Rattle.listing.specs.Carry.{entryOfLine, answerOf, answerWithout, lineOutcome, lineCarried};
+ghost use Rattle.listing.specs.Carry.{entryOfLine, ingestionOfLine, answerOf, answerWithout, lineOutcome, lineCarried};
 
 pub enum Answer {
     Ok,
@@ -48,6 +49,18 @@ fn entry_of(e: EntryLine) -> Entry
         timestamp: e.timestamp,
         payload_length: e.payload_length,
         payload_digest: [digest; 32],
+    }
+}
+
+// What is ingested of a line: its entry with token 0, and pruning is not prevented.
+fn ingestion_of(e: EntryLine) -> Ingestion
+    ensures { λ r. ⌜ r ≡ ingestionOfLine e ⌝ }
+{
+    let entry = entry_of(e);
+    Ingestion {
+        entry,
+        token: [0; 64],
+        prevent_pruning: false,
     }
 }
 
@@ -87,17 +100,7 @@ pub fn carry_out(
     let e = read_line(line);
     let outcome = e.outcome;
     if let Outcome::Good = outcome {
-        let given = ingest_entry_numbers(
-            state,
-            spt,
-            spt_dir,
-            tsp,
-            tsp_dir,
-            prune,
-            entry_of(e),
-            [0; 64],
-            false,
-        );
+        let given = ingest_entry_numbers(state, spt, spt_dir, tsp, tsp_dir, prune, ingestion_of(e));
         let verdict = given.verdict;
         let after = given.state;
         return Carried {

@@ -24,6 +24,7 @@ use Rattle.tree.proofs.FormedContents.{formed-many}
 use Rattle.store.specs.Store.{Store, limitMost, dirRoom, dirOf, held}
 use Rattle.store.specs.Refusal.{unless, _orElse_, limitOk, storeRefusal}
 use Rattle.store.specs.Ingest.{succeeds, IngestSaid, Decision, refuse, obsolete, take-it, ingestRefusal, judged, MayFile, IngestOutcome, ingestOutcome, prunedPairs, carried, ingested}
+use Rattle.store.specs.declared.ingest.Ingestion.{Ingestion}
 use Rattle.store.proofs.CheckLaws.{limit-most}
 use Rattle.store.proofs.IngestLaws.{Ready}
 use Rattle.store.proofs.FileLaws.{may-ready, success-may}
@@ -40,16 +41,16 @@ zeros-front (suc i) zero g = absurd (let y : suc i ≤ 0 = g in omega arith)
 zeros-front (suc i) (suc j) g = ap (0 ∷_) (zeros-front i j (omega arith))
 
 -- The front of an array of zeros that the core was lent, and is back.
-pub with-front : (r : IngestSaid) (a b c d part : List ℕ) (n m : ℕ) (s : Store) (e : EntryValue) (token : List ℕ) (prevent : Bool)
+pub with-front : (r : IngestSaid) (a b c d part : List ℕ) (n m : ℕ) (s : Store) (i : Ingestion)
     → n ≡ m → n ≤ 2 * limitMost → length part ≡ length (take n (zeros 2048))
-    → ingestOutcome r a b c d part ≡ ingested field s (take n (zeros 2048)) e token prevent
-    → ingestOutcome r a b c d (take m (part ++ drop n (zeros 2048))) ≡ ingested field s (zeros m) e token prevent
-with-front r a b c d part n m s e token prevent q h l eq =
+    → ingestOutcome r a b c d part ≡ ingested field s (take n (zeros 2048)) i
+    → ingestOutcome r a b c d (take m (part ++ drop n (zeros 2048))) ≡ ingested field s (zeros m) i
+with-front r a b c d part n m s i q h l eq =
     let z : length (zeros 2048) ≡ 2048 = length-replicate {A = ℕ} 2048 0 in
     let k : length part ≡ m = l ∙ length-take-le n (zeros 2048) (omega arith) ∙ q in
     ap (ingestOutcome r a b c d) (take-at part (drop n (zeros 2048)) m k)
     ∙ eq
-    ∙ ap (λ (p : List ℕ). ingested field s p e token prevent) (ap (λ (j : ℕ). take j (zeros 2048)) q ∙ zeros-front m 2048 (omega arith))
+    ∙ ap (λ (p : List ℕ). ingested field s p i) (ap (λ (j : ℕ). take j (zeros 2048)) q ∙ zeros-front m 2048 (omega arith))
 
 -- Of a prune list the refusals look at its room alone.
 module _ (s : Store) (p p′ : List ℕ) (e : EntryValue) (prevent : Bool) where
@@ -104,18 +105,18 @@ module _ (s : Store) (prune : List ℕ) (e : EntryValue) (may : MayFile field s 
       omega (arith, holds)
 
 -- The outcome with pairs, and that the pairs have room for what is counted.
-pub record Layered (s : Store) (ps : List Pair) (e : EntryValue) (token : List ℕ) (prevent : Bool) (r : IngestSaid) (a b c d ns : List ℕ) (n : ℕ) : Type 0 where
+pub record Layered (s : Store) (ps : List Pair) (i : Ingestion) (r : IngestSaid) (a b c d ns : List ℕ) (n : ℕ) : Type 0 where
   pub few : 2 * n ≤ numbersUsed (length ps)
-  pub done : (w : List Pair) → w ≡ put (pairsOf (take (2 * n) ns)) ps → pairsOutcome r a b c d w ≡ pairsIngested field s ps e token prevent
+  pub done : (w : List Pair) → w ≡ put (pairsOf (take (2 * n) ns)) ps → pairsOutcome r a b c d w ≡ pairsIngested field s ps i
 
-module _ (s : Store) (ps : List Pair) (e : EntryValue) (token : List ℕ) (prevent : Bool) (r : IngestSaid) (a b c d ns : List ℕ) (n : ℕ)
-    (eq : ingestOutcome r a b c d (take (numbersUsed (length ps)) ns) ≡ ingested field s (zeros (numbersUsed (length ps))) e token prevent) (en : n ≡ prunedCount (r .verdict)) where
+module _ (s : Store) (ps : List Pair) (i : Ingestion) (r : IngestSaid) (a b c d ns : List ℕ) (n : ℕ)
+    (eq : ingestOutcome r a b c d (take (numbersUsed (length ps)) ns) ≡ ingested field s (zeros (numbersUsed (length ps))) i) (en : n ≡ prunedCount (r .verdict)) where
   abbrev own : List ℕ
   own = zeros (numbersUsed (length ps))
 
   -- Both prune lists lead to one decision.
-  decides : judged field s own e prevent ≡ judged field s (numbersOf ps) e prevent
-  decides = same-judged s own (numbersOf ps) e prevent (same-refusal s own (numbersOf ps) e prevent (same-room (s .state .limit) ps))
+  decides : judged field s own (i .entry) (i .«prevent_pruning») ≡ judged field s (numbersOf ps) (i .entry) (i .«prevent_pruning»)
+  decides = same-judged s own (numbersOf ps) (i .entry) (i .«prevent_pruning») (same-refusal s own (numbersOf ps) (i .entry) (i .«prevent_pruning») (same-room (s .state .limit) ps))
 
   -- Nothing is pruned: the pairs are as they were.
   nothing-put : (w : List Pair) → n ≡ 0 → w ≡ put (pairsOf (take (2 * n) ns)) ps → w ≡ pairsOf (numbersOf ps)
@@ -128,35 +129,35 @@ module _ (s : Store) (ps : List Pair) (e : EntryValue) (token : List ℕ) (preve
   front xs old m l f q =
       sym (take-take (2 * m) (numbersUsed (length ps)) ns f) ∙ ap (take (2 * m)) q ∙ take-at xs (drop (length xs) old) (2 * m) l
 
-  by-decision : (x : Decision) → judged field s own e prevent ≡ x → Layered s ps e token prevent r a b c d ns n
+  by-decision : (x : Decision) → judged field s own (i .entry) (i .«prevent_pruning») ≡ x → Layered s ps i r a b c d ns n
   unfolding ingested carried pairsIngested
   by-decision (refuse k) j =
-      let q : ingestOutcome r a b c d (take (numbersUsed (length ps)) ns) ≡ carried field s own (entryOf e) token (refuse k) = eq ∙ ap (carried field s own (entryOf e) token) j in
+      let q : ingestOutcome r a b c d (take (numbersUsed (length ps)) ns) ≡ carried field s own (entryOf (i .entry)) (i .token) (refuse k) = eq ∙ ap (carried field s own (entryOf (i .entry)) (i .token)) j in
       let z : n ≡ 0 = en ∙ ap (λ (x : IngestOutcome). prunedCount (x .answer .verdict)) q in
       record {
         few = omega arith;
         done = λ w h.
-            (λ i. record { answer = q i .answer; store = q i .store; pairs = nothing-put w z h i })
-            ∙ sym (ap (λ (x : Decision). inPairs (carried field s (numbersOf ps) (entryOf e) token x)) (sym decides ∙ j));
+            (λ k. record { answer = q k .answer; store = q k .store; pairs = nothing-put w z h k })
+            ∙ sym (ap (λ (x : Decision). inPairs (carried field s (numbersOf ps) (entryOf (i .entry)) (i .token) x)) (sym decides ∙ j));
       }
   by-decision (obsolete x) j =
-      let q : ingestOutcome r a b c d (take (numbersUsed (length ps)) ns) ≡ carried field s own (entryOf e) token (obsolete x) = eq ∙ ap (carried field s own (entryOf e) token) j in
+      let q : ingestOutcome r a b c d (take (numbersUsed (length ps)) ns) ≡ carried field s own (entryOf (i .entry)) (i .token) (obsolete x) = eq ∙ ap (carried field s own (entryOf (i .entry)) (i .token)) j in
       let z : n ≡ 0 = en ∙ ap (λ (x : IngestOutcome). prunedCount (x .answer .verdict)) q in
       record {
         few = omega arith;
         done = λ w h.
-            (λ i. record { answer = q i .answer; store = q i .store; pairs = nothing-put w z h i })
-            ∙ sym (ap (λ (x : Decision). inPairs (carried field s (numbersOf ps) (entryOf e) token x)) (sym decides ∙ j));
+            (λ k. record { answer = q k .answer; store = q k .store; pairs = nothing-put w z h k })
+            ∙ sym (ap (λ (x : Decision). inPairs (carried field s (numbersOf ps) (entryOf (i .entry)) (i .token) x)) (sym decides ∙ j));
       }
   by-decision take-it j =
-      let m = removedBy s e in
-      let pruned = prunedPairs field s (entryOf e) in
-      let q : ingestOutcome r a b c d (take (numbersUsed (length ps)) ns) ≡ carried field s own (entryOf e) token take-it = eq ∙ ap (carried field s own (entryOf e) token) j in
+      let m = removedBy s (i .entry) in
+      let pruned = prunedPairs field s (entryOf (i .entry)) in
+      let q : ingestOutcome r a b c d (take (numbersUsed (length ps)) ns) ≡ carried field s own (entryOf (i .entry)) (i .token) take-it = eq ∙ ap (carried field s own (entryOf (i .entry)) (i .token)) j in
       let v : r .verdict ≡ says (succeeds m) = ap (λ (x : IngestOutcome). x .answer .verdict) q in
       let z : n ≡ m = en ∙ ap prunedCount v in
-      let may = success-may s own e token prevent r (ap (λ (x : IngestOutcome). x .answer) eq) m v in
-      let l = pruned-length s own e may in
-      let f : 2 * m ≤ numbersUsed (length ps) = omega (arith, pruned-fits s own e may, length-replicate {A = ℕ} (numbersUsed (length ps)) 0) in
+      let may = success-may s own i r (ap (λ (x : IngestOutcome). x .answer) eq) m v in
+      let l = pruned-length s own (i .entry) may in
+      let f : 2 * m ≤ numbersUsed (length ps) = omega (arith, pruned-fits s own (i .entry) may, length-replicate {A = ℕ} (numbersUsed (length ps)) 0) in
       let g : (w : List Pair) → w ≡ put (pairsOf (take (2 * n) ns)) ps → w ≡ pairsOf (put pruned (numbersOf ps)) =
       λ w h. h ∙ ap (λ (k : ℕ). put (pairsOf (take (2 * k) ns)) ps) z
       ∙ ap (λ (x : List ℕ). put (pairsOf x) ps) (front pruned own m l f (ap (λ (x : IngestOutcome). x .prune) q))
@@ -164,12 +165,12 @@ module _ (s : Store) (ps : List Pair) (e : EntryValue) (token : List ℕ) (preve
       record {
         few = omega arith;
         done = λ w h.
-            (λ i. record { answer = q i .answer; store = q i .store; pairs = g w h i })
-            ∙ sym (ap (λ (x : Decision). inPairs (carried field s (numbersOf ps) (entryOf e) token x)) (sym decides ∙ j));
+            (λ k. record { answer = q k .answer; store = q k .store; pairs = g w h k })
+            ∙ sym (ap (λ (x : Decision). inPairs (carried field s (numbersOf ps) (entryOf (i .entry)) (i .token) x)) (sym decides ∙ j));
       }
 
-  pub layered : Layered s ps e token prevent r a b c d ns n
-  layered = by-decision (judged field s own e prevent) refl
+  pub layered : Layered s ps i r a b c d ns n
+  layered = by-decision (judged field s own (i .entry) (i .«prevent_pruning»)) refl
 
   pub in-room : (n ≤ limitMost) × (n ≤ length ps)
   unfolding numbersUsed

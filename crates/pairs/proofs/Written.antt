@@ -17,13 +17,13 @@ use Rattle.data_model.specs.Said.{refuses, says, numberOf}
 use Rattle.data_model.specs.Path.{field, legal}
 use Rattle.data_model.specs.Entry.{Entry, entryOf}
 use Rattle.data_model.specs.Refusal.{shortBuffer, illegalPath}
-use Rattle.data_model.specs.declared.entry.Entry.{Entry as EntryValue}
 use Rattle.tree.specs.Stored.{Stored}
 use Rattle.tree.specs.Matching.{outdates, removes}
 use Rattle.tree.specs.declared.stored.KeyOrder.the-variants.{Spt}
 use Rattle.store.specs.Store.{Store, dirRoom, held, wellFormedStore}
 use Rattle.store.specs.Refusal.{badLimit, notWellFormed, otherNamespace, pruningPrevented, full, unless, _orElse_, limitOk, roomy, storeRefusal}
 use Rattle.store.specs.Ingest.{succeeds, Decision, refuse, obsolete, take-it, stays, firstThat, decidedOf, decided, ingestRefusal, judged, MayFile, prunedPairs, plainAnswer, carried, ingested}
+use Rattle.store.specs.declared.ingest.Ingestion.{Ingestion}
 use Rattle.store.proofs.FileLaws.{success-may}
 use Rattle.pairs.specs.Pairs.{pairsOf, numbersOf, pairsIngested}
 use Rattle.pairs.specs.declared.Pair.{Pair}
@@ -57,73 +57,73 @@ tests-not-2 true true false name h = let z : _≡_ {A = ℕ} 4 2 = h in omega ar
 tests-not-2 true true true false h = let z : _≡_ {A = ℕ} 6 2 = h in omega arith
 tests-not-2 true true true true h = let z : _≡_ {A = ℕ} 0 2 = h in omega arith
 
-module _ (s : Store) (ps : List Pair) (e : EntryValue) (token : List ℕ) (prevent : Bool) where
+module _ (s : Store) (ps : List Pair) (i : Ingestion) where
   -- The pairs of what the entry removes, as they stand in the subspace-first tree, in key order.
   abbrev pruned : List Pair
-  pruned = pairsOf (prunedPairs field s (entryOf e))
+  pruned = pairsOf (prunedPairs field s (entryOf (i .entry)))
 
-  pub success-writes : (n : ℕ) → pairsIngested field s ps e token prevent .answer .verdict ≡ says (succeeds n)
-      → (pairsIngested field s ps e token prevent .pairs ≡ put pruned ps) × (length pruned ≡ n)
+  pub success-writes : (n : ℕ) → pairsIngested field s ps i .answer .verdict ≡ says (succeeds n)
+      → (pairsIngested field s ps i .pairs ≡ put pruned ps) × (length pruned ≡ n)
   unfolding pairsIngested ingested
-  success-writes n q = go (judged field s (numbersOf ps) e prevent) q (success-may s (numbersOf ps) e token prevent (ingested field s (numbersOf ps) e token prevent .answer) refl n q)
+  success-writes n q = go (judged field s (numbersOf ps) (i .entry) (i .«prevent_pruning»)) q (success-may s (numbersOf ps) i (ingested field s (numbersOf ps) i .answer) refl n q)
     where
-      go : (d : Decision) → carried field s (numbersOf ps) (entryOf e) token d .answer .verdict ≡ says (succeeds n) → MayFile field s (numbersOf ps) e
-          → (pairsOf (carried field s (numbersOf ps) (entryOf e) token d .prune) ≡ put pruned ps) × (length pruned ≡ n)
+      go : (d : Decision) → carried field s (numbersOf ps) (entryOf (i .entry)) (i .token) d .answer .verdict ≡ says (succeeds n) → MayFile field s (numbersOf ps) (i .entry)
+          → (pairsOf (carried field s (numbersOf ps) (entryOf (i .entry)) (i .token) d .prune) ≡ put pruned ps) × (length pruned ≡ n)
       go (refuse k) h may = unfold carried in absurd (let z : _≡_ {A = ℕ} 0 1 = cc in omega arith)
       go (obsolete x) h may = unfold carried in absurd (let z : _≡_ {A = ℕ} 0 1 = cc in omega arith)
       go take-it h may = unfold carried in (
-        pairs-put (removedBy s e) (prunedPairs field s (entryOf e)) ps (pruned-length s (numbersOf ps) e may),
-        length-pairs (removedBy s e) (prunedPairs field s (entryOf e)) (pruned-length s (numbersOf ps) e may) ∙ cc,
+        pairs-put (removedBy s (i .entry)) (prunedPairs field s (entryOf (i .entry))) ps (pruned-length s (numbersOf ps) (i .entry) may),
+        length-pairs (removedBy s (i .entry)) (prunedPairs field s (entryOf (i .entry))) (pruned-length s (numbersOf ps) (i .entry) may) ∙ cc,
       )
 
-  pub others-write-none : ((n : ℕ) → pairsIngested field s ps e token prevent .answer .verdict ≡ says (succeeds n) → ⊥) → pairsIngested field s ps e token prevent .pairs ≡ ps
+  pub others-write-none : ((n : ℕ) → pairsIngested field s ps i .answer .verdict ≡ says (succeeds n) → ⊥) → pairsIngested field s ps i .pairs ≡ ps
   unfolding pairsIngested ingested
-  others-write-none h = go (judged field s (numbersOf ps) e prevent) h
+  others-write-none h = go (judged field s (numbersOf ps) (i .entry) (i .«prevent_pruning»)) h
     where
-      go : (d : Decision) → ((n : ℕ) → carried field s (numbersOf ps) (entryOf e) token d .answer .verdict ≡ says (succeeds n) → ⊥) → pairsOf (carried field s (numbersOf ps) (entryOf e) token d .prune) ≡ ps
+      go : (d : Decision) → ((n : ℕ) → carried field s (numbersOf ps) (entryOf (i .entry)) (i .token) d .answer .verdict ≡ says (succeeds n) → ⊥) → pairsOf (carried field s (numbersOf ps) (entryOf (i .entry)) (i .token) d .prune) ≡ ps
       go (refuse k) g = unfold carried in pairs-again ps
       go (obsolete x) g = unfold carried in pairs-again ps
-      go take-it g = unfold carried in absurd (g (removedBy s e) refl)
+      go take-it g = unfold carried in absurd (g (removedBy s (i .entry)) refl)
 
   -- Answer and store are the core's, handed the pairs' numbers.
-  pub same-answer : pairsIngested field s ps e token prevent .answer ≡ ingested field s (numbersOf ps) e token prevent .answer
+  pub same-answer : pairsIngested field s ps i .answer ≡ ingested field s (numbersOf ps) i .answer
   unfolding pairsIngested
   same-answer = refl
 
-  pub same-store : pairsIngested field s ps e token prevent .store ≡ ingested field s (numbersOf ps) e token prevent .store
+  pub same-store : pairsIngested field s ps i .store ≡ ingested field s (numbersOf ps) i .store
   unfolding pairsIngested
   same-store = refl
 
   -- 2 comes behind 1: the limit is one of 1 to 1,024.
-  pub short-refused : limitOk (s .state .limit) ≡ true → length ps < s .state .limit → pairsIngested field s ps e token prevent .answer ≡ plainAnswer (refuses shortBuffer) (s .state)
+  pub short-refused : limitOk (s .state .limit) ≡ true → length ps < s .state .limit → pairsIngested field s ps i .answer ≡ plainAnswer (refuses shortBuffer) (s .state)
   unfolding pairsIngested ingested judged carried ingestRefusal storeRefusal unless _orElse_
   short-refused l h =
       let z = lt-leb (dirRoom (s .state .limit)) (length (numbersOf ps)) (omega (arith, length-numbers ps)) in
       split (roomy field (s .state .limit) s) (λ q. rw (l, z, q)) (λ q. rw (l, z, q))
 
   module _ (room : roomy field (s .state .limit) s ≡ true) (h : s .state .limit ≤ length ps) where
-    refusal-not-2 : ingestRefusal field s (numbersOf ps) e ≡ shortBuffer → ⊥
+    refusal-not-2 : ingestRefusal field s (numbersOf ps) (i .entry) ≡ shortBuffer → ⊥
     unfolding ingestRefusal storeRefusal
     refusal-not-2 z =
         let l = le-leb (dirRoom (s .state .limit)) (length (numbersOf ps)) (omega (arith, length-numbers ps)) in
         let limit = limitOk (s .state .limit) in
         let well = wellFormedStore field s in
-        let path = legal field (e .path) in
-        let name = sameList sameNumber (e .«namespace_id») (s .state .«namespace_id») in
+        let path = legal field (i .entry .path) in
+        let name = sameList sameNumber (i .entry .«namespace_id») (s .state .«namespace_id») in
         tests-not-2 limit well path name
-        ((λ i. (unless limit badLimit orElse unless (sym room i && sym l i) shortBuffer orElse unless well notWellFormed) orElse unless path illegalPath orElse unless name otherNamespace) ∙ z)
+        ((λ k. (unless limit badLimit orElse unless (sym room k && sym l k) shortBuffer orElse unless well notWellFormed) orElse unless path illegalPath orElse unless name otherNamespace) ∙ z)
 
-    judged-not-2 : refusalIn (judged field s (numbersOf ps) e prevent) ≡ shortBuffer → ⊥
+    judged-not-2 : refusalIn (judged field s (numbersOf ps) (i .entry) (i .«prevent_pruning»)) ≡ shortBuffer → ⊥
     unfolding judged decided
     judged-not-2 z =
-        let r = ingestRefusal field s (numbersOf ps) e in
-        let d = decided (s .state .limit) (held field Spt s) (entryOf e) prevent in
+        let r = ingestRefusal field s (numbersOf ps) (i .entry) in
+        let d = decided (s .state .limit) (held field Spt s) (entryOf (i .entry)) (i .«prevent_pruning») in
         split (eqb r 0)
-        (λ t. decision-not-2 (firstThat (outdates (entryOf e)) (held field Spt s)) (prevent && any (removes (entryOf e)) (held field Spt s)) (leb (s .state .limit) (length (keep (stays (entryOf e)) (held field Spt s))))
+        (λ t. decision-not-2 (firstThat (outdates (entryOf (i .entry))) (held field Spt s)) (i .«prevent_pruning» && any (removes (entryOf (i .entry))) (held field Spt s)) (leb (s .state .limit) (length (keep (stays (entryOf (i .entry))) (held field Spt s))))
         (ap (λ (b : Bool). refusalIn (cond b d (refuse r))) (sym t) ∙ z))
         (λ t. refusal-not-2 (ap (λ (b : Bool). refusalIn (cond b d (refuse r))) (sym t) ∙ z))
 
     -- And 2 is no answer where the store's own buffers have room and the pairs number the limit at least.
-    pub room-not-refused : pairsIngested field s ps e token prevent .answer .verdict ≡ refuses shortBuffer → ⊥
+    pub room-not-refused : pairsIngested field s ps i .answer .verdict ≡ refuses shortBuffer → ⊥
     unfolding numberOf pairsIngested ingested
-    room-not-refused v = judged-not-2 (sym (carried-number s (numbersOf ps) (entryOf e) token (judged field s (numbersOf ps) e prevent)) ∙ ap numberOf v)
+    room-not-refused v = judged-not-2 (sym (carried-number s (numbersOf ps) (entryOf (i .entry)) (i .token) (judged field s (numbersOf ps) (i .entry) (i .«prevent_pruning»))) ∙ ap numberOf v)

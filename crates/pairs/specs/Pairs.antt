@@ -2,12 +2,11 @@
 -- are those of the subspace-first tree before the call, in key order; the success verdict says how many, no other outcome writes any.
 use Prim.Native.Nat.{ℕ, _*_, min}
 use mathlib.Core.List.{List, [], _∷_}
-use mathlib.Core.Bool.{Bool}
 use Rattle.data_model.specs.Said.{Said, refuses, says}
 use Rattle.data_model.specs.Path.{Figures}
-use Rattle.data_model.specs.declared.entry.Entry.{Entry as EntryValue}
 use Rattle.store.specs.Store.{Store, storeOf, limitMost}
 use Rattle.store.specs.Ingest.{Verdict, succeeds, is-obsolete, IngestSaid, IngestOutcome, ingested}
+use Rattle.store.specs.declared.ingest.Ingestion.{Ingestion}
 use Rattle.pairs.specs.declared.Pair.{Pair}
 
 abbrev pub pair : ℕ → ℕ → Pair
@@ -47,5 +46,5 @@ abbrev pub inPairs : IngestOutcome → PairsOutcome
 inPairs c = record { answer = c .answer; store = c .store; pairs = pairsOf (c .prune) }
 
 -- The pairs lent are the prune list: with a right limit, 2 if they are fewer than it; and nothing past the new pairs is touched.
-unfoldable pub pairsIngested : Figures → Store → List Pair → EntryValue → (token : List ℕ) → (prevent : Bool) → PairsOutcome
-pairsIngested f s pairs e token prevent = inPairs (ingested f s (numbersOf pairs) e token prevent)
+unfoldable pub pairsIngested : Figures → Store → List Pair → Ingestion → PairsOutcome
+pairsIngested f s pairs i = inPairs (ingested f s (numbersOf pairs) i)

@@ -1,8 +1,8 @@
 // The thin ingest layer: the pruned pairs go to a lent slice of pair records, over the store's core on numbers. Only the pairs are lent.
 // The borrow checker covers no function over a slice of structs: those that touch one are proved by a walk.
-use data_model::entry::Entry;
 use store::ingest::IngestVerdict;
 use store::ingest::Ingested;
+use store::ingest::Ingestion;
 use store::ingest::ingest_entry_numbers;
 use store::state::LIMIT_MOST;
 use store::state::State;
@@ -60,11 +60,9 @@ pub fn ingest_with_room(
     tsp: &mut [u8],
     tsp_dir: &mut [u32],
     room: usize,
-    entry: Entry,
-    token: [u8; 64],
-    prevent_pruning: bool,
+    ingestion: Ingestion,
 ) -> NumbersIngested
-    ensures { λ r. ⌜ (ingestOutcome (ingestedSays (r .ingested)) (now (spt .exit)) (now («spt_dir» .exit)) (now (tsp .exit)) (now («tsp_dir» .exit)) (take (numbersUsed room) (r .numbers)) ≡ ingested field (storeOf state (now (spt .entry)) (now («spt_dir» .entry)) (now (tsp .entry)) (now («tsp_dir» .entry))) (replicate (numbersUsed room) 0) entry token «prevent_pruning») × (r .count ≡ prunedCount (verdictSays (r .ingested .verdict))) ⌝ }
+    ensures { λ r. ⌜ (ingestOutcome (ingestedSays (r .ingested)) (now (spt .exit)) (now («spt_dir» .exit)) (now (tsp .exit)) (now («tsp_dir» .exit)) (take (numbersUsed room) (r .numbers)) ≡ ingested field (storeOf state (now (spt .entry)) (now («spt_dir» .entry)) (now (tsp .entry)) (now («tsp_dir» .entry))) (replicate (numbersUsed room) 0) ingestion) × (r .count ≡ prunedCount (verdictSays (r .ingested .verdict))) ⌝ }
 {
     let mut numbers = [0u32; NUMBERS_MOST];
     let n = numbers_used(room);
@@ -75,9 +73,7 @@ pub fn ingest_with_room(
         tsp,
         tsp_dir,
         &mut numbers[..n],
-        entry,
-        token,
-        prevent_pruning,
+        ingestion,
     );
     let verdict = ingested.verdict;
     let count = pruned_count(verdict);
@@ -124,6 +120,7 @@ fn write_pairs(numbers: [u32; NUMBERS_MOST], pairs: &mut [Pair], n: usize)
     }
 }
 
+// Ingests an entry: offset and length of each record that it removed stand in the lent pairs.
 pub fn ingest_entry(
     state: State,
     spt: &mut [u8],
@@ -131,23 +128,11 @@ pub fn ingest_entry(
     tsp: &mut [u8],
     tsp_dir: &mut [u32],
     pairs: &mut [Pair],
-    entry: Entry,
-    token: [u8; 64],
-    prevent_pruning: bool,
+    ingestion: Ingestion,
 ) -> Ingested
-    ensures { λ r. ⌜ pairsOutcome (ingestedSays r) (now (spt .exit)) (now («spt_dir» .exit)) (now (tsp .exit)) (now («tsp_dir» .exit)) (now (pairs .exit)) ≡ pairsIngested field (storeOf state (now (spt .entry)) (now («spt_dir» .entry)) (now (tsp .entry)) (now («tsp_dir» .entry))) (now (pairs .entry)) entry token «prevent_pruning» ⌝ }
+    ensures { λ r. ⌜ pairsOutcome (ingestedSays r) (now (spt .exit)) (now («spt_dir» .exit)) (now (tsp .exit)) (now («tsp_dir» .exit)) (now (pairs .exit)) ≡ pairsIngested field (storeOf state (now (spt .entry)) (now («spt_dir» .entry)) (now (tsp .entry)) (now («tsp_dir» .entry))) (now (pairs .entry)) ingestion ⌝ }
 {
-    let r = ingest_with_room(
-        state,
-        spt,
-        spt_dir,
-        tsp,
-        tsp_dir,
-        pairs.len(),
-        entry,
-        token,
-        prevent_pruning,
-    );
+    let r = ingest_with_room(state, spt, spt_dir, tsp, tsp_dir, pairs.len(), ingestion);
     write_pairs(r.numbers, pairs, r.count);
     r.ingested
 }
@@ -160,23 +145,11 @@ pub fn ingest_entry_by_value(
     tsp: &mut [u8],
     tsp_dir: &mut [u32],
     pairs: [Pair; LIMIT_MOST],
-    entry: Entry,
-    token: [u8; 64],
-    prevent_pruning: bool,
+    ingestion: Ingestion,
 ) -> NumbersIngested
-    ensures { λ r. ⌜ (pairsOutcome (ingestedSays (r .ingested)) (now (spt .exit)) (now («spt_dir» .exit)) (now (tsp .exit)) (now («tsp_dir» .exit)) (pairsOf (r .numbers)) ≡ pairsIngested field (storeOf state (now (spt .entry)) (now («spt_dir» .entry)) (now (tsp .entry)) (now («tsp_dir» .entry))) pairs entry token «prevent_pruning») × (r .count ≡ prunedCount (verdictSays (r .ingested .verdict))) ⌝ }
+    ensures { λ r. ⌜ (pairsOutcome (ingestedSays (r .ingested)) (now (spt .exit)) (now («spt_dir» .exit)) (now (tsp .exit)) (now («tsp_dir» .exit)) (pairsOf (r .numbers)) ≡ pairsIngested field (storeOf state (now (spt .entry)) (now («spt_dir» .entry)) (now (tsp .entry)) (now («tsp_dir» .entry))) pairs ingestion) × (r .count ≡ prunedCount (verdictSays (r .ingested .verdict))) ⌝ }
 {
     let mut lent = pairs;
-    let ingested = ingest_entry(
-        state,
-        spt,
-        spt_dir,
-        tsp,
-        tsp_dir,
-        &mut lent,
-        entry,
-        token,
-        prevent_pruning,
-    );
+    let ingested = ingest_entry(state, spt, spt_dir, tsp, tsp_dir, &mut lent, ingestion);
     in_numbers(ingested, lent)
 }

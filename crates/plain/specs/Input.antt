@@ -1,5 +1,6 @@
 -- What the plain values that a caller hands in stand for. No value is left without a meaning: every byte but 0 means yes.
 use Prim.Native.Nat.{ℕ}
+use mathlib.Core.List.{List}
 use mathlib.Core.Bool.{Bool, not, cond}
 use lib.Dec.{eqb}
 use Rattle.data_model.specs.declared.parameters.Subspace.{Subspace}
@@ -7,6 +8,7 @@ use Rattle.data_model.specs.declared.area.Area.{Area}
 use Rattle.data_model.specs.declared.area.AreaSubspace.{AreaSubspace}
 use Rattle.data_model.specs.declared.area.AreaSubspace.the-variants.{Any, Id}
 use Rattle.data_model.specs.declared.«area_of_interest».AreaOfInterest.{AreaOfInterest}
+use Rattle.data_model.specs.declared.entry.Entry.{Entry}
 use Rattle.data_model.specs.declared.range.TimesRange.{TimesRange}
 use Rattle.data_model.specs.declared.range.RangeEnd.the-variants as times
 use Rattle.data_model.specs.declared.range.SubspaceRange.{SubspaceRange}
@@ -14,6 +16,7 @@ use Rattle.data_model.specs.declared.range.SubspaceEnd.the-variants as ends
 use Rattle.data_model.specs.declared.range.PathRange.{PathRange}
 use Rattle.data_model.specs.declared.«range_3d».Range3d.{Range3d}
 use Rattle.data_model.specs.declared.«query_ignore_params».QueryIgnoreParams.{QueryIgnoreParams}
+use Rattle.store.specs.declared.ingest.Ingestion.{Ingestion}
 use Rattle.plain.specs.declared.input.PlainTimes.{PlainTimes}
 use Rattle.plain.specs.declared.input.PlainSubspaces.{PlainSubspaces}
 use Rattle.plain.specs.declared.input.PlainPaths.{PlainPaths}
@@ -60,3 +63,7 @@ ignoreOf i = record {
   «ignore_incomplete_payloads» = isYes (i .«incomplete_payloads»);
   «ignore_empty_payloads» = isYes (i .«empty_payloads»);
 }
+
+-- What an ingestion is handed: the entry and its token as they are, and whether pruning is prevented.
+abbrev pub ingestionOf : Entry → (token : List ℕ) → ℕ → Ingestion
+ingestionOf e token prevents = record { entry = e; token = token; «prevent_pruning» = isYes prevents }

@@ -2,6 +2,7 @@
 use data_model::area::Area;
 use data_model::area::AreaSubspace;
 use data_model::area_of_interest::AreaOfInterest;
+use data_model::entry::Entry;
 use data_model::parameters::Subspace;
 use data_model::path::Path;
 use data_model::query_ignore_params::QueryIgnoreParams;
@@ -12,9 +13,10 @@ use data_model::range::SubspaceRange;
 use data_model::range::TimesRange;
 use data_model::range_3d::Range3d;
 use pairs::Pair;
+use store::ingest::Ingestion;
 use store::state::LIMIT_MOST;
 ghost use mathlib.Core.Path.{_≡_};
-ghost use Rattle.plain.specs.Input.{isYes, areaSubspaceOf, timesOf, subspacesOf, pathsOf, areaOf, rangeOf, interestOf, ignoreOf};
+ghost use Rattle.plain.specs.Input.{isYes, areaSubspaceOf, timesOf, subspacesOf, pathsOf, areaOf, rangeOf, interestOf, ignoreOf, ingestionOf};
 
 // From `start` up to `end`, which is outside; if `open` is yes there is no end and `end` is not looked at.
 #[repr(C)]
@@ -194,5 +196,16 @@ pub fn ignore_of(i: PlainIgnore) -> QueryIgnoreParams
     QueryIgnoreParams {
         ignore_incomplete_payloads: is_yes(i.incomplete_payloads),
         ignore_empty_payloads: is_yes(i.empty_payloads),
+    }
+}
+
+// What an ingestion is handed: an entry, its token and the byte that prevents pruning.
+pub fn ingestion_of(entry: Entry, token: [u8; 64], prevent_pruning: u8) -> Ingestion
+    ensures { λ r. ⌜ r ≡ ingestionOf entry token «prevent_pruning» ⌝ }
+{
+    Ingestion {
+        entry,
+        token,
+        prevent_pruning: is_yes(prevent_pruning),
     }
 }

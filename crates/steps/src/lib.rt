@@ -1,7 +1,6 @@
 // Each public call that opens or changes a store is a step of demand 3's lists, and whatever a program can hand to it is a value there. The functions here call
 // the real ones, or are handed what these are handed; they have no `requires`, and ensure it. Nothing calls them.
 use data_model::area::Area;
-use data_model::entry::Entry;
 use data_model::parameters::Subspace;
 use data_model::path::Path;
 use pairs::NumbersIngested;
@@ -12,13 +11,13 @@ use store::forget::EntryForgotten;
 use store::forget::forget_area;
 use store::forget::forget_entry;
 use store::ingest::Ingested;
+use store::ingest::Ingestion;
 use store::ingest::ingest_entry_numbers;
 use store::open::open;
 use store::state::LIMIT_MOST;
 use store::state::Opened;
 use store::state::State;
 ghost use Prim.Native.Nat.{ℕ};
-ghost use mathlib.Core.Bool.{Bool};
 ghost use mathlib.Core.List.{List};
 ghost use mathlib.Core.Path.{_≡_};
 ghost use Rattle.data_model.specs.Path.{field};
@@ -27,7 +26,7 @@ ghost use Rattle.store.specs.Store.{storeOf};
 ghost use Rattle.store.specs.Ingest.{verdictSays};
 ghost use Rattle.pairs.specs.Pairs.{numbersOf, prunedCount};
 ghost use Rattle.call_laws.specs.Calls.{IsValue, ingest, forget-entry, forget-area, ingestVerdict, numberVerdict};
-ghost use Rattle.call_laws.specs.Outcomes.{outcome, opens, outcomeOf, openingOf, ingestionOf};
+ghost use Rattle.call_laws.specs.Outcomes.{outcome, opens, outcomeOf, openingOf};
 
 // `open` is what opens a list.
 pub fn open_listed(
@@ -51,23 +50,11 @@ pub fn numbers_listed(
     tsp: &mut [u8],
     tsp_dir: &mut [u32],
     prune: &mut [u32],
-    entry: Entry,
-    token: [u8; 64],
-    prevent_pruning: bool,
+    ingestion: Ingestion,
 ) -> Ingested
-    ensures { λ r. ⌜ outcomeOf (ingestVerdict (verdictSays (r .verdict))) (prunedCount (verdictSays (r .verdict))) (r .state) (now (spt .exit)) (now («spt_dir» .exit)) (now (tsp .exit)) (now («tsp_dir» .exit)) ≡ outcome field (storeOf state (now (spt .entry)) (now («spt_dir» .entry)) (now (tsp .entry)) (now («tsp_dir» .entry))) (ingest (ingestionOf (now (prune .entry)) entry token «prevent_pruning»)) ⌝ }
+    ensures { λ r. ⌜ outcomeOf (ingestVerdict (verdictSays (r .verdict))) (prunedCount (verdictSays (r .verdict))) (r .state) (now (spt .exit)) (now («spt_dir» .exit)) (now (tsp .exit)) (now («tsp_dir» .exit)) ≡ outcome field (storeOf state (now (spt .entry)) (now («spt_dir» .entry)) (now (tsp .entry)) (now («tsp_dir» .entry))) (ingest (record { prune = now (prune .entry); handed = ingestion })) ⌝ }
 {
-    ingest_entry_numbers(
-        state,
-        spt,
-        spt_dir,
-        tsp,
-        tsp_dir,
-        prune,
-        entry,
-        token,
-        prevent_pruning,
-    )
+    ingest_entry_numbers(state, spt, spt_dir, tsp, tsp_dir, prune, ingestion)
 }
 
 // `pairs::ingest_entry`, as `ingest_entry_by_value` calls it, is an ingestion of a list: the prune list is the pairs' numbers.
@@ -78,23 +65,11 @@ pub fn pairs_listed(
     tsp: &mut [u8],
     tsp_dir: &mut [u32],
     pairs: [Pair; LIMIT_MOST],
-    entry: Entry,
-    token: [u8; 64],
-    prevent_pruning: bool,
+    ingestion: Ingestion,
 ) -> NumbersIngested
-    ensures { λ r. ⌜ outcomeOf (ingestVerdict (verdictSays (r .ingested .verdict))) (prunedCount (verdictSays (r .ingested .verdict))) (r .ingested .state) (now (spt .exit)) (now («spt_dir» .exit)) (now (tsp .exit)) (now («tsp_dir» .exit)) ≡ outcome field (storeOf state (now (spt .entry)) (now («spt_dir» .entry)) (now (tsp .entry)) (now («tsp_dir» .entry))) (ingest (ingestionOf (numbersOf pairs) entry token «prevent_pruning»)) ⌝ }
+    ensures { λ r. ⌜ outcomeOf (ingestVerdict (verdictSays (r .ingested .verdict))) (prunedCount (verdictSays (r .ingested .verdict))) (r .ingested .state) (now (spt .exit)) (now («spt_dir» .exit)) (now (tsp .exit)) (now («tsp_dir» .exit)) ≡ outcome field (storeOf state (now (spt .entry)) (now («spt_dir» .entry)) (now (tsp .entry)) (now («tsp_dir» .entry))) (ingest (record { prune = numbersOf pairs; handed = ingestion })) ⌝ }
 {
-    ingest_entry_by_value(
-        state,
-        spt,
-        spt_dir,
-        tsp,
-        tsp_dir,
-        pairs,
-        entry,
-        token,
-        prevent_pruning,
-    )
+    ingest_entry_by_value(state, spt, spt_dir, tsp, tsp_dir, pairs, ingestion)
 }
 
 // `forget_entry` is a forgetting of a list.
@@ -151,10 +126,12 @@ fn is_bytes(s: &[u8]) -> bool
     yes()
 }
 
-// Whether what an ingestion is handed is a value: it is, whatever the prune list and the flag that prevents pruning.
-pub fn ingestion_is_value(entry: Entry, token: [u8; 64]) -> bool
-    ensures { λ r. ⌜ ((prune : List ℕ) → (prevent : Bool) → IsValue field (ingest (record { prune = prune; entry = entry; token = token; prevent = prevent }))) ⌝ }
+// Whether what an ingestion is handed is a value: it is, whatever the prune list.
+pub fn ingestion_is_value(ingestion: Ingestion) -> bool
+    ensures { λ r. ⌜ ((prune : List ℕ) → IsValue field (ingest (record { prune = prune; handed = ingestion }))) ⌝ }
 {
+    let entry = ingestion.entry;
+    let token = ingestion.token;
     let path = entry.path;
     let bytes = path.bytes;
     let digest = entry.payload_digest;

@@ -30,6 +30,7 @@ use Rattle.store.specs.Store.{Store, storeOf, limitMost, treeRoom, dirRo
 use Rattle.store.specs.Ingest.{succeeds, IngestSaid, stays, filing, filedIn, filed, Decision, refuse, obsolete, take-it, decidedOf, decided, ingestRefusal, judged, MayFile, storeFiled, ingestOutcome, prunedPairs, carried, ingested}
 use Rattle.store.specs.Forget.{without}
 use Rattle.store.specs.Change.{inTree, Marked, Changed, FilesIn}
+use Rattle.store.specs.declared.ingest.Ingestion.{Ingestion}
 use Rattle.tree.proofs.FormedContents.{formed-many}
 use Rattle.store.proofs.DecideLaws.{marks-front}
 use Rattle.store.proofs.Meaning.{SoundHeld, sound-without, sound-length}
@@ -185,50 +186,50 @@ module _ (limit : ℕ) (l : List Stored) (e : Entry) (prevent : Bool) (d : decid
       (λ r. refuse-taken (rw (n, r, q) at d))
 
 -- The public call, by its answer: filed if it is a success, and nothing changed if not.
-module _ (s : Store) (prune : List ℕ) (e : EntryValue) (token : List ℕ) (prevent : Bool) (r : IngestSaid) (er : r ≡ ingested field s prune e token prevent .answer) where
-  judged-may : judged field s prune e prevent ≡ take-it → MayFile field s prune e
+module _ (s : Store) (prune : List ℕ) (i : Ingestion) (r : IngestSaid) (er : r ≡ ingested field s prune i .answer) where
+  judged-may : judged field s prune (i .entry) (i .«prevent_pruning») ≡ take-it → MayFile field s prune (i .entry)
   unfolding judged
-  judged-may j = split (eqb (ingestRefusal field s prune e) 0)
+  judged-may j = split (eqb (ingestRefusal field s prune (i .entry)) 0)
       (λ q.
-      let d : decided (s .state .limit) (held field Spt s) (entryOf e) prevent ≡ take-it = rw q at j in
+      let d : decided (s .state .limit) (held field Spt s) (entryOf (i .entry)) (i .«prevent_pruning») ≡ take-it = rw q at j in
       record {
-        tested = eqb-true (ingestRefusal field s prune e) 0 q;
-        current = taken-current (s .state .limit) (held field Spt s) (entryOf e) prevent d;
-        room = leb-false (s .state .limit) (length (keep (stays (entryOf e)) (held field Spt s))) (taken-room (s .state .limit) (held field Spt s) (entryOf e) prevent d);
+        tested = eqb-true (ingestRefusal field s prune (i .entry)) 0 q;
+        current = taken-current (s .state .limit) (held field Spt s) (entryOf (i .entry)) (i .«prevent_pruning») d;
+        room = leb-false (s .state .limit) (length (keep (stays (entryOf (i .entry))) (held field Spt s))) (taken-room (s .state .limit) (held field Spt s) (entryOf (i .entry)) (i .«prevent_pruning») d);
       })
       (λ q. refuse-taken (rw q at j))
 
-  success-taken : (n : ℕ) → r .verdict ≡ says (succeeds n) → judged field s prune e prevent ≡ take-it
+  success-taken : (n : ℕ) → r .verdict ≡ says (succeeds n) → judged field s prune (i .entry) (i .«prevent_pruning») ≡ take-it
   unfolding ingested
-  success-taken n q = go (judged field s prune e prevent) (ap (λ (a : IngestSaid). a .verdict) (sym er) ∙ q)
+  success-taken n q = go (judged field s prune (i .entry) (i .«prevent_pruning»)) (ap (λ (a : IngestSaid). a .verdict) (sym er) ∙ q)
     where
-      go : (d : Decision) → carried field s prune (entryOf e) token d .answer .verdict ≡ says (succeeds n) → d ≡ take-it
+      go : (d : Decision) → carried field s prune (entryOf (i .entry)) (i .token) d .answer .verdict ≡ says (succeeds n) → d ≡ take-it
       go (refuse k) h = unfold carried in absurd (let z : _≡_ {A = ℕ} 0 1 = cc in omega arith)
       go (obsolete x) h = unfold carried in absurd (let z : _≡_ {A = ℕ} 0 1 = cc in omega arith)
       go take-it h = refl
 
-  pub success-may : (n : ℕ) → r .verdict ≡ says (succeeds n) → MayFile field s prune e
+  pub success-may : (n : ℕ) → r .verdict ≡ says (succeeds n) → MayFile field s prune (i .entry)
   success-may n q = judged-may (success-taken n q)
 
   pub outcome-filed : (n : ℕ) → r .verdict ≡ says (succeeds n) → (spt sptDir tsp tspDir out : List ℕ)
-      → storeOf (storeFiled field s (entryOf e) token .state) spt sptDir tsp tspDir ≡ storeFiled field s (entryOf e) token → out ≡ put (prunedPairs field s (entryOf e)) prune
-      → ingestOutcome r spt sptDir tsp tspDir out ≡ ingested field s prune e token prevent
+      → storeOf (storeFiled field s (entryOf (i .entry)) (i .token) .state) spt sptDir tsp tspDir ≡ storeFiled field s (entryOf (i .entry)) (i .token) → out ≡ put (prunedPairs field s (entryOf (i .entry))) prune
+      → ingestOutcome r spt sptDir tsp tspDir out ≡ ingested field s prune i
   unfolding ingested carried
   outcome-filed n q spt sptDir tsp tspDir out es eo =
       let j = success-taken n q in
-      let a : r ≡ carried field s prune (entryOf e) token take-it .answer = er ∙ ap (λ (d : Decision). carried field s prune (entryOf e) token d .answer) j in
+      let a : r ≡ carried field s prune (entryOf (i .entry)) (i .token) take-it .answer = er ∙ ap (λ (d : Decision). carried field s prune (entryOf (i .entry)) (i .token) d .answer) j in
       ap (λ (x : IngestSaid). ingestOutcome x spt sptDir tsp tspDir out) a
-      ∙ (λ i. record { answer = carried field s prune (entryOf e) token take-it .answer; store = es i; prune = eo i })
-      ∙ sym (ap (carried field s prune (entryOf e) token) j)
+      ∙ (λ k. record { answer = carried field s prune (entryOf (i .entry)) (i .token) take-it .answer; store = es k; prune = eo k })
+      ∙ sym (ap (carried field s prune (entryOf (i .entry)) (i .token)) j)
 
-  pub outcome-same : ((n : ℕ) → r .verdict ≡ says (succeeds n) → ⊥) → ingestOutcome r (s .spt) (s .sptDir) (s .tsp) (s .tspDir) prune ≡ ingested field s prune e token prevent
+  pub outcome-same : ((n : ℕ) → r .verdict ≡ says (succeeds n) → ⊥) → ingestOutcome r (s .spt) (s .sptDir) (s .tsp) (s .tspDir) prune ≡ ingested field s prune i
   unfolding ingested
   outcome-same h =
       ap (λ (x : IngestSaid). ingestOutcome x (s .spt) (s .sptDir) (s .tsp) (s .tspDir) prune) er
-      ∙ go (judged field s prune e prevent) λ n q. h n (ap (λ (a : IngestSaid). a .verdict) er ∙ q)
+      ∙ go (judged field s prune (i .entry) (i .«prevent_pruning»)) λ n q. h n (ap (λ (a : IngestSaid). a .verdict) er ∙ q)
     where
-      go : (d : Decision) → ((n : ℕ) → carried field s prune (entryOf e) token d .answer .verdict ≡ says (succeeds n) → ⊥)
-          → ingestOutcome (carried field s prune (entryOf e) token d .answer) (s .spt) (s .sptDir) (s .tsp) (s .tspDir) prune ≡ carried field s prune (entryOf e) token d
+      go : (d : Decision) → ((n : ℕ) → carried field s prune (entryOf (i .entry)) (i .token) d .answer .verdict ≡ says (succeeds n) → ⊥)
+          → ingestOutcome (carried field s prune (entryOf (i .entry)) (i .token) d .answer) (s .spt) (s .sptDir) (s .tsp) (s .tspDir) prune ≡ carried field s prune (entryOf (i .entry)) (i .token) d
       go (refuse k) g = unfold carried in refl
       go (obsolete x) g = unfold carried in refl
-      go take-it g = unfold carried in absurd (g (length (keep (removes (entryOf e)) (held field Spt s))) refl)
+      go take-it g = unfold carried in absurd (g (length (keep (removes (entryOf (i .entry))) (held field Spt s))) refl)

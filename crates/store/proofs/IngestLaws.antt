@@ -32,6 +32,7 @@ use Rattle.store.specs.Refusal.{unless, _orElse_, storeRefusal}
 use Rattle.store.specs.Ingest.{succeeds, is-obsolete, IngestSaid, Decision, refuse, obsolete, take-it, firstThat, decidedOf, decided, stays, outdatedAt, removedFrom, placeDecided, ingestRefusal, judged, plainAnswer, obsoleteAnswer, filed, filedIn, filing, carried, ingested}
 use Rattle.store.specs.Change.{Marked}
 use Rattle.store.specs.declared.state.State.{State}
+use Rattle.store.specs.declared.ingest.Ingestion.{Ingestion}
 use Rattle.store.specs.declared.ingest.PlaceDecision.{PlaceDecision}
 use Rattle.store.specs.declared.ingest.PlaceDecision.the-variants as place
 use Rattle.store.proofs.CheckLaws.{or-none, unless-none, Passed, passed}
@@ -205,63 +206,63 @@ module _ {G : Type 0} {n : ℕ} where
   obsolete-unlike {s} x {a} e q = absurd (let w : says is-obsolete ≡ says (succeeds n) = sym (ap (λ (b : IngestSaid). b .verdict) e) ∙ q in let z : _≡_ {A = ℕ} 0 1 = cc in omega arith)
 
 -- The answers.
-module _ (s : Store) (prune : List ℕ) (e : EntryValue) (token : List ℕ) (prevent : Bool) where
-  pub answers-refused : (n : ℕ) → n ≡ ingestRefusal field s prune e → (n ≡ 0 → ⊥) → (r : IngestSaid) → r ≡ plainAnswer (refuses n) (s .state) → r ≡ ingested field s prune e token prevent .answer
+module _ (s : Store) (prune : List ℕ) (i : Ingestion) where
+  pub answers-refused : (n : ℕ) → n ≡ ingestRefusal field s prune (i .entry) → (n ≡ 0 → ⊥) → (r : IngestSaid) → r ≡ plainAnswer (refuses n) (s .state) → r ≡ ingested field s prune i .answer
   unfolding ingested judged carried
   answers-refused n q h r er = rw (er, ← q, ne-eqb n 0 h)
 
-  module _ (z : ingestRefusal field s prune e ≡ 0) (d : PlaceDecision) (ed : d ≡ placeDecided (s .state .limit) (inSpt s) (entryOf e) prevent) where
+  module _ (z : ingestRefusal field s prune (i .entry) ≡ 0) (d : PlaceDecision) (ed : d ≡ placeDecided (s .state .limit) (inSpt s) (entryOf (i .entry)) (i .«prevent_pruning»)) where
     formed : Formed Spt (s .state .count) (sptDirIn s) (sptIn s)
-    formed = ready-formed s prune e (ready s prune e z)
+    formed = ready-formed s prune (i .entry) (ready s prune (i .entry) z)
 
-    judged-place : (x : Stored) → judged field s prune e prevent ≡ meant (inSpt s) x d
+    judged-place : (x : Stored) → judged field s prune (i .entry) (i .«prevent_pruning») ≡ meant (inSpt s) x d
     unfolding judged held treeOf dirOf
-    judged-place x = rw (eq-eqb (ingestRefusal field s prune e) 0 z) (sym (place-meant (s .state .limit) (inSpt s) (entryOf e) prevent x) ∙ ap (meant (inSpt s) x) (sym ed))
+    judged-place x = rw (eq-eqb (ingestRefusal field s prune (i .entry)) 0 z) (sym (place-meant (s .state .limit) (inSpt s) (entryOf (i .entry)) (i .«prevent_pruning») x) ∙ ap (meant (inSpt s) x) (sym ed))
 
-    answers : (x : Stored) → ingested field s prune e token prevent .answer ≡ carried field s prune (entryOf e) token (meant (inSpt s) x d) .answer
+    answers : (x : Stored) → ingested field s prune i .answer ≡ carried field s prune (entryOf (i .entry)) (i .token) (meant (inSpt s) x d) .answer
     unfolding ingested
-    answers x = ap (λ (j : Decision). carried field s prune (entryOf e) token j .answer) (judged-place x)
+    answers x = ap (λ (j : Decision). carried field s prune (entryOf (i .entry)) (i .token) j .answer) (judged-place x)
 
-    pub answers-late : (k : ℕ) → d ≡ place.Refuse k → (r : IngestSaid) → r ≡ plainAnswer (refuses k) (s .state) → r ≡ ingested field s prune e token prevent .answer
+    pub answers-late : (k : ℕ) → d ≡ place.Refuse k → (r : IngestSaid) → r ≡ plainAnswer (refuses k) (s .state) → r ≡ ingested field s prune i .answer
     unfolding meant carried
     answers-late k q r er =
         let x = stored Spt field (s .state .«namespace_id») [] in
-        er ∙ sym (answers x ∙ ap (λ (j : PlaceDecision). carried field s prune (entryOf e) token (meant (inSpt s) x j) .answer) q)
+        er ∙ sym (answers x ∙ ap (λ (j : PlaceDecision). carried field s prune (entryOf (i .entry)) (i .token) (meant (inSpt s) x j) .answer) q)
 
     pub old-bounds : (k : ℕ) → d ≡ place.Old k → InBounds k (sptDirIn s) (sptIn s)
-    old-bounds k q = formed-bounds formed k (omega (arith, place-old (s .state .limit) (inSpt s) (entryOf e) prevent k (sym ed ∙ q), formed-many formed (s .state .«namespace_id»)))
+    old-bounds k q = formed-bounds formed k (omega (arith, place-old (s .state .limit) (inSpt s) (entryOf (i .entry)) (i .«prevent_pruning») k (sym ed ∙ q), formed-many formed (s .state .«namespace_id»)))
 
     pub answers-old : (k : ℕ) → d ≡ place.Old k → (r : IngestSaid) → r ≡ obsoleteAnswer (s .state) (stored Spt field (s .state .«namespace_id») (recordAt k (sptDirIn s) (sptIn s)))
-        → r ≡ ingested field s prune e token prevent .answer
+        → r ≡ ingested field s prune i .answer
     unfolding meant carried
     answers-old k q r er =
         let x = stored Spt field (s .state .«namespace_id») (recordAt k (sptDirIn s) (sptIn s)) in
-        let h = place-old (s .state .limit) (inSpt s) (entryOf e) prevent k (sym ed ∙ q) in
+        let h = place-old (s .state .limit) (inSpt s) (entryOf (i .entry)) (i .«prevent_pruning») k (sym ed ∙ q) in
         let g = stands-at formed (s .state .«namespace_id») k (omega (arith, formed-many formed (s .state .«namespace_id»))) x in
-        er ∙ ap (obsoleteAnswer (s .state)) (sym g) ∙ sym (answers x ∙ ap (λ (j : PlaceDecision). carried field s prune (entryOf e) token (meant (inSpt s) x j) .answer) q)
+        er ∙ ap (obsoleteAnswer (s .state)) (sym g) ∙ sym (answers x ∙ ap (λ (j : PlaceDecision). carried field s prune (entryOf (i .entry)) (i .token) (meant (inSpt s) x j) .answer) q)
 
     pub take-fits : (n : ℕ) → d ≡ place.Take n → (n ≤ s .state .count) × (s .state .count - n < s .state .limit)
     take-fits n q =
-        let k = place-take (s .state .limit) (inSpt s) (entryOf e) prevent n (sym ed ∙ q) in
+        let k = place-take (s .state .limit) (inSpt s) (entryOf (i .entry)) (i .«prevent_pruning») n (sym ed ∙ q) in
         let a = k .0 in
         let b = k .1 in
         let m = formed-many formed (s .state .«namespace_id») in
-        (omega (arith, left-number (removes (entryOf e)) (inSpt s)), omega arith)
+        (omega (arith, left-number (removes (entryOf (i .entry))) (inSpt s)), omega arith)
 
     pub answers-take : (n : ℕ) → d ≡ place.Take n → (r : IngestSaid) → r ≡ plainAnswer (says (succeeds n)) (stateWith (s .state) (s .state .count - n + 1))
-        → r ≡ ingested field s prune e token prevent .answer
+        → r ≡ ingested field s prune i .answer
     unfolding meant carried holding filed filedIn heldBy held treeOf dirOf
     answers-take n q r er =
         let x = stored Spt field (s .state .«namespace_id») [] in
-        let k = place-take (s .state .limit) (inSpt s) (entryOf e) prevent n (sym ed ∙ q) in
+        let k = place-take (s .state .limit) (inSpt s) (entryOf (i .entry)) (i .«prevent_pruning») n (sym ed ∙ q) in
         let a = k .0 in
         let m = formed-many formed (s .state .«namespace_id») in
-        let c : s .state .count - n + 1 ≡ length (filedIn Spt (filing (entryOf e) token) (inSpt s)) =
-        omega (arith, stay-number (s .state .limit) (inSpt s) (entryOf e) prevent, files-length (filing (entryOf e) token) (inSpt s)) in
+        let c : s .state .count - n + 1 ≡ length (filedIn Spt (filing (entryOf (i .entry)) (i .token)) (inSpt s)) =
+        omega (arith, stay-number (s .state .limit) (inSpt s) (entryOf (i .entry)) (i .«prevent_pruning»), files-length (filing (entryOf (i .entry)) (i .token)) (inSpt s)) in
         er
-        ∙ ap (λ (i : ℕ). plainAnswer (says (succeeds n)) (stateWith (s .state) i)) c
-        ∙ ap (λ (i : ℕ). plainAnswer (says (succeeds i)) (stateWith (s .state) (length (filedIn Spt (filing (entryOf e) token) (inSpt s))))) (sym a)
-        ∙ sym (answers x ∙ ap (λ (j : PlaceDecision). carried field s prune (entryOf e) token (meant (inSpt s) x j) .answer) q)
+        ∙ ap (λ (j : ℕ). plainAnswer (says (succeeds n)) (stateWith (s .state) j)) c
+        ∙ ap (λ (j : ℕ). plainAnswer (says (succeeds j)) (stateWith (s .state) (length (filedIn Spt (filing (entryOf (i .entry)) (i .token)) (inSpt s))))) (sym a)
+        ∙ sym (answers x ∙ ap (λ (j : PlaceDecision). carried field s prune (entryOf (i .entry)) (i .token) (meant (inSpt s) x j) .answer) q)
       where
         files-length : (y : Stored) (l : List Stored) → length (filedIn Spt y l) ≡ suc (length (keep (stays (y .entry)) l))
         files-length y l = unfold filedIn in insert-length _ y (keep (stays (y .entry)) l)

@@ -29,6 +29,7 @@ use Rattle.store.specs.declared.state.State.{State}
 use Rattle.store.specs.declared.ingest.IngestVerdict.{IngestVerdict}
 use Rattle.store.specs.declared.ingest.IngestVerdict.the-variants as verdict
 use Rattle.store.specs.declared.ingest.Ingested.{Ingested}
+use Rattle.store.specs.declared.ingest.Ingestion.{Ingestion}
 use Rattle.store.specs.declared.ingest.PlaceDecision.{PlaceDecision}
 use Rattle.store.specs.declared.ingest.PlaceDecision.the-variants as place
 
@@ -180,5 +181,6 @@ carried f s prune e token take-it = record {
   prune = put (prunedPairs f s e) prune;
 }
 
-unfoldable pub ingested : Figures → Store → (prune : List ℕ) → EntryValue → (token : List ℕ) → (prevent : Bool) → IngestOutcome
-ingested f s prune e token prevent = carried f s prune (entryOf e) token (judged f s prune e prevent)
+-- What an ingestion answers and leaves, of whatever it is handed.
+unfoldable pub ingested : Figures → Store → (prune : List ℕ) → Ingestion → IngestOutcome
+ingested f s prune i = carried f s prune (entryOf (i .entry)) (i .token) (judged f s prune (i .entry) (i .«prevent_pruning»))

@@ -61,6 +61,13 @@ pub struct Ingested {
     pub token: [u8; 64],
 }
 
+// What an ingestion is handed: the entry, its authorisation token, and whether pruning is prevented.
+pub struct Ingestion {
+    pub entry: Entry,
+    pub token: [u8; 64],
+    pub prevent_pruning: bool,
+}
+
 // What is decided: refused, outdated by the entry at a place, or taken with so many removed.
 pub enum PlaceDecision {
     Refuse(u8),
@@ -207,7 +214,7 @@ fn ingest_answer(
     removed: &mut [u8],
 ) -> Ingested
     requires { ⌜ limitMost ≤ length (now removed) ⌝ }
-    ensures answer { λ r. ⌜ ((token : List ℕ) → ingestedSays r ≡ ingested field (storeOf state (now (spt .entry)) (now («spt_dir» .entry)) (now (tsp .entry)) (now («tsp_dir» .entry))) (now (prune .entry)) entry token «prevent_pruning» .answer) ⌝ }
+    ensures answer { λ r. ⌜ ((token : List ℕ) → ingestedSays r ≡ ingested field (storeOf state (now (spt .entry)) (now («spt_dir» .entry)) (now (tsp .entry)) (now («tsp_dir» .entry))) (now (prune .entry)) (record { entry = entry; token = token; «prevent_pruning» = «prevent_pruning» }) .answer) ⌝ }
     ensures marks { λ r. ⌜ ((n : ℕ) → verdictSays (r .verdict) ≡ says (succeeds n) → Marked (removes (entryOf entry)) (held field Spt (storeOf state (now (spt .entry)) (now («spt_dir» .entry)) (now (tsp .entry)) (now («tsp_dir» .entry)))) (now (removed .exit))) ⌝ }
 {
     let refusal = ingest_refusal(state, spt, spt_dir, tsp, tsp_dir, prune, entry);
@@ -271,6 +278,7 @@ fn file(
     file_in(KeyOrder::Tsp, count, &mut tsp[..n], &mut tsp_dir[..m], a);
 }
 
+// Ingests an entry: the pairs of what it removed stand in the prune list, offset and length by turns.
 pub fn ingest_entry_numbers(
     state: State,
     spt: &mut [u8],
@@ -278,12 +286,13 @@ pub fn ingest_entry_numbers(
     tsp: &mut [u8],
     tsp_dir: &mut [u32],
     prune: &mut [u32],
-    entry: Entry,
-    token: [u8; 64],
-    prevent_pruning: bool,
+    ingestion: Ingestion,
 ) -> Ingested
-    ensures { λ r. ⌜ ingestOutcome (ingestedSays r) (now (spt .exit)) (now («spt_dir» .exit)) (now (tsp .exit)) (now («tsp_dir» .exit)) (now (prune .exit)) ≡ ingested field (storeOf state (now (spt .entry)) (now («spt_dir» .entry)) (now (tsp .entry)) (now («tsp_dir» .entry))) (now (prune .entry)) entry token «prevent_pruning» ⌝ }
+    ensures { λ r. ⌜ ingestOutcome (ingestedSays r) (now (spt .exit)) (now («spt_dir» .exit)) (now (tsp .exit)) (now («tsp_dir» .exit)) (now (prune .exit)) ≡ ingested field (storeOf state (now (spt .entry)) (now («spt_dir» .entry)) (now (tsp .entry)) (now («tsp_dir» .entry))) (now (prune .entry)) ingestion ⌝ }
 {
+    let entry = ingestion.entry;
+    let token = ingestion.token;
+    let prevent_pruning = ingestion.prevent_pruning;
     let mut removed = [0u8; LIMIT_MOST];
     let given = ingest_answer(
         state,

@@ -11,13 +11,13 @@ use Rattle.data_model.specs.Range.{legalRange}
 use Rattle.data_model.specs.Range3d.{rangeIncludes}
 use Rattle.data_model.specs.Refusal.{answered}
 use Rattle.data_model.specs.declared.area.Area.{Area}
-use Rattle.data_model.specs.declared.entry.Entry.{Entry}
 use Rattle.data_model.specs.declared.parameters.Subspace.{Subspace}
 use Rattle.data_model.specs.declared.path.Path.{Path}
 use Rattle.data_model.specs.declared.«range_3d».Range3d.{Range3d}
 use Rattle.data_model.specs.declared.«query_ignore_params».QueryIgnoreParams.{QueryIgnoreParams}
 use Rattle.store.specs.Store.{Store}
 use Rattle.store.specs.Ingest.{IngestSaid, ingestedSays, ingestOutcome, ingested}
+use Rattle.store.specs.declared.ingest.Ingestion.{Ingestion}
 use Rattle.store.specs.Forget.{areaForgotten, ForgetAreaOutcome}
 use Rattle.pairs.specs.Pairs.{pairsOf, pairsOutcome, pairsIngested}
 use Rattle.pairs.specs.declared.Pair.{Pair}
@@ -33,15 +33,15 @@ use Rattle.plain.specs.declared.answer.PlainNumbersIngested.{PlainNumbersIngest
 use Rattle.plain.specs.declared.part.PlainPart.{PlainPart}
 use Rattle.virebony.specs.Outcome.{numbersLeft, toldNumbers, pairsLeft, toldPairs}
 
--- An ingestion over numbers: its outcome, the answer plain and the flag read.
-pub told : (s : Store) (prune : List ℕ) (e : Entry) (token : List ℕ) (flag prevent : Bool) → flag ≡ prevent → (g : IngestSaid) (a b c d p : List ℕ) → ingestOutcome g a b c d p ≡ ingested field s prune e token flag → (r : PlainIngested) → r ≡ plainIngested g → numbersLeft r a b c d p ≡ toldNumbers (ingested field s prune e token prevent)
-told s prune e token flag prevent ef g a b c d p eg r er =
-    ap (λ (x : PlainIngested). numbersLeft x a b c d p) er ∙ ap toldNumbers (eg ∙ ap (ingested field s prune e token) ef)
+-- An ingestion over numbers: its outcome, the answer plain and what is handed read.
+pub told : (s : Store) (prune : List ℕ) (i j : Ingestion) → i ≡ j → (g : IngestSaid) (a b c d p : List ℕ) → ingestOutcome g a b c d p ≡ ingested field s prune i → (r : PlainIngested) → r ≡ plainIngested g → numbersLeft r a b c d p ≡ toldNumbers (ingested field s prune j)
+told s prune i j ei g a b c d p eg r er =
+    ap (λ (x : PlainIngested). numbersLeft x a b c d p) er ∙ ap toldNumbers (eg ∙ ap (ingested field s prune) ei)
 
 -- An ingestion over pairs by value: likewise, with the pairs that the numbers spell.
-pub told-by-value : (s : Store) (prune : List Pair) (e : Entry) (token : List ℕ) (flag prevent : Bool) → flag ≡ prevent → (g : NumbersIngested) (a b c d : List ℕ) → pairsOutcome (ingestedSays (g .ingested)) a b c d (pairsOf (g .numbers)) ≡ pairsIngested field s prune e token flag → (r : PlainNumbersIngested) → r ≡ plainNumbers g → pairsLeft (r .ingested) a b c d (pairsOf (r .numbers)) ≡ toldPairs (pairsIngested field s prune e token prevent)
-told-by-value s prune e token flag prevent ef g a b c d eg r er =
-    ap (λ (x : PlainNumbersIngested). pairsLeft (x .ingested) a b c d (pairsOf (x .numbers))) er ∙ ap toldPairs (eg ∙ ap (pairsIngested field s prune e token) ef)
+pub told-by-value : (s : Store) (prune : List Pair) (i j : Ingestion) → i ≡ j → (g : NumbersIngested) (a b c d : List ℕ) → pairsOutcome (ingestedSays (g .ingested)) a b c d (pairsOf (g .numbers)) ≡ pairsIngested field s prune i → (r : PlainNumbersIngested) → r ≡ plainNumbers g → pairsLeft (r .ingested) a b c d (pairsOf (r .numbers)) ≡ toldPairs (pairsIngested field s prune j)
+told-by-value s prune i j ei g a b c d eg r er =
+    ap (λ (x : PlainNumbersIngested). pairsLeft (x .ingested) a b c d (pairsOf (x .numbers))) er ∙ ap toldPairs (eg ∙ ap (pairsIngested field s prune) ei)
 
 -- A forgotten area: both areas and the flag read.
 pub forgotten : (s : Store) (a a′ : Area) → a ≡ a′ → (b b′ : Bool) → b ≡ b′ → (k k′ : Area) → k ≡ k′ → (o : ForgetAreaOutcome) → o ≡ areaForgotten field s a b k → o ≡ areaForgotten field s a′ b′ k′

@@ -10,6 +10,7 @@ use plain::answer::plain_numbers;
 use plain::input::PlainArea;
 use plain::input::PlainPairs;
 use plain::input::area_of;
+use plain::input::ingestion_of;
 use plain::input::is_yes;
 use store::forget::AreaForgotten;
 use store::forget::EntryForgotten;
@@ -26,7 +27,7 @@ ghost use Rattle.store.specs.Open.{openOutcome, opening};
 ghost use Rattle.store.specs.Ingest.{ingested};
 ghost use Rattle.store.specs.Forget.{forgetEntryOutcome, entryForgotten, forgetAreaOutcome, areaForgotten};
 ghost use Rattle.pairs.specs.Pairs.{pairsOf, pairsIngested};
-ghost use Rattle.plain.specs.Input.{isYes, areaOf};
+ghost use Rattle.plain.specs.Input.{isYes, areaOf, ingestionOf};
 ghost use Rattle.virebony.specs.Outcome.{numbersLeft, toldNumbers, pairsLeft, toldPairs};
 
 // `store::open::open`: a store of no entries, for at most `limit` of them.
@@ -57,20 +58,10 @@ pub extern "C" fn vb_ingest_entry_numbers(
     token: &[u8; 64],
     prevent_pruning: u8,
 ) -> PlainIngested
-    ensures { λ r. ⌜ numbersLeft r (now (spt .exit)) (now («spt_dir» .exit)) (now (tsp .exit)) (now («tsp_dir» .exit)) (now (prune .exit)) ≡ toldNumbers (ingested field (storeOf state (now (spt .entry)) (now («spt_dir» .entry)) (now (tsp .entry)) (now («tsp_dir» .entry))) (now (prune .entry)) entry (now (token .entry)) (isYes «prevent_pruning»)) ⌝ }
+    ensures { λ r. ⌜ numbersLeft r (now (spt .exit)) (now («spt_dir» .exit)) (now (tsp .exit)) (now («tsp_dir» .exit)) (now (prune .exit)) ≡ toldNumbers (ingested field (storeOf state (now (spt .entry)) (now («spt_dir» .entry)) (now (tsp .entry)) (now («tsp_dir» .entry))) (now (prune .entry)) (ingestionOf entry (now (token .entry)) «prevent_pruning»)) ⌝ }
 {
-    let prevent = is_yes(prevent_pruning);
-    let given = ingest_entry_numbers(
-        state,
-        spt,
-        spt_dir,
-        tsp,
-        tsp_dir,
-        prune,
-        entry,
-        *token,
-        prevent,
-    );
+    let ingestion = ingestion_of(entry, *token, prevent_pruning);
+    let given = ingest_entry_numbers(state, spt, spt_dir, tsp, tsp_dir, prune, ingestion);
     plain_ingested(given)
 }
 
@@ -87,21 +78,11 @@ pub extern "C" fn vb_ingest_entry_by_value(
     token: &[u8; 64],
     prevent_pruning: u8,
 ) -> PlainNumbersIngested
-    ensures { λ r. ⌜ pairsLeft (r .ingested) (now (spt .exit)) (now («spt_dir» .exit)) (now (tsp .exit)) (now («tsp_dir» .exit)) (pairsOf (r .numbers)) ≡ toldPairs (pairsIngested field (storeOf state (now (spt .entry)) (now («spt_dir» .entry)) (now (tsp .entry)) (now («tsp_dir» .entry))) (prune .pairs) entry (now (token .entry)) (isYes «prevent_pruning»)) ⌝ }
+    ensures { λ r. ⌜ pairsLeft (r .ingested) (now (spt .exit)) (now («spt_dir» .exit)) (now (tsp .exit)) (now («tsp_dir» .exit)) (pairsOf (r .numbers)) ≡ toldPairs (pairsIngested field (storeOf state (now (spt .entry)) (now («spt_dir» .entry)) (now (tsp .entry)) (now («tsp_dir» .entry))) (prune .pairs) (ingestionOf entry (now (token .entry)) «prevent_pruning»)) ⌝ }
 {
-    let prevent = is_yes(prevent_pruning);
+    let ingestion = ingestion_of(entry, *token, prevent_pruning);
     let pairs = prune.pairs;
-    let given = ingest_entry_by_value(
-        state,
-        spt,
-        spt_dir,
-        tsp,
-        tsp_dir,
-        pairs,
-        entry,
-        *token,
-        prevent,
-    );
+    let given = ingest_entry_by_value(state, spt, spt_dir, tsp, tsp_dir, pairs, ingestion);
     plain_numbers(given)
 }
 

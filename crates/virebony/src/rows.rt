@@ -3,7 +3,7 @@ use data_model::entry::Entry;
 use pairs::ingest_with_room;
 use plain::answer::PlainIngested;
 use plain::answer::plain_ingested;
-use plain::input::is_yes;
+use plain::input::ingestion_of;
 use plain::rows::write_rows;
 use store::state::State;
 ghost use mathlib.Core.Path.{_≡_};
@@ -11,7 +11,7 @@ ghost use mathlib.Core.List.{map};
 ghost use Rattle.data_model.specs.Path.{field};
 ghost use Rattle.store.specs.Store.{storeOf};
 ghost use Rattle.pairs.specs.Pairs.{pairsIngested};
-ghost use Rattle.plain.specs.Input.{isYes};
+ghost use Rattle.plain.specs.Input.{ingestionOf};
 ghost use Rattle.plain.specs.Rows.{pairOf};
 ghost use Rattle.virebony.specs.Outcome.{pairsLeft, toldPairs};
 
@@ -28,20 +28,10 @@ pub extern "C" fn vb_ingest_entry(
     token: &[u8; 64],
     prevent_pruning: u8,
 ) -> PlainIngested
-    ensures { λ r. ⌜ pairsLeft r (now (spt .exit)) (now («spt_dir» .exit)) (now (tsp .exit)) (now («tsp_dir» .exit)) (map pairOf (now (prune .exit))) ≡ toldPairs (pairsIngested field (storeOf state (now (spt .entry)) (now («spt_dir» .entry)) (now (tsp .entry)) (now («tsp_dir» .entry))) (map pairOf (now (prune .entry))) entry (now (token .entry)) (isYes «prevent_pruning»)) ⌝ }
+    ensures { λ r. ⌜ pairsLeft r (now (spt .exit)) (now («spt_dir» .exit)) (now (tsp .exit)) (now («tsp_dir» .exit)) (map pairOf (now (prune .exit))) ≡ toldPairs (pairsIngested field (storeOf state (now (spt .entry)) (now («spt_dir» .entry)) (now (tsp .entry)) (now («tsp_dir» .entry))) (map pairOf (now (prune .entry))) (ingestionOf entry (now (token .entry)) «prevent_pruning»)) ⌝ }
 {
-    let prevent = is_yes(prevent_pruning);
-    let r = ingest_with_room(
-        state,
-        spt,
-        spt_dir,
-        tsp,
-        tsp_dir,
-        prune.len(),
-        entry,
-        *token,
-        prevent,
-    );
+    let ingestion = ingestion_of(entry, *token, prevent_pruning);
+    let r = ingest_with_room(state, spt, spt_dir, tsp, tsp_dir, prune.len(), ingestion);
     let numbers = r.numbers;
     let ingested = r.ingested;
     write_rows(numbers, prune, r.count);

@@ -37,7 +37,7 @@ same-length-4 : tie.Need-same-length-4
 same-length-4 c = search needs
 
 returns : tie.Need-returns
-returns c = (with-front _ _ _ _ _ _ _ _ _ _ _ _ (c .before .before .before .before .before .before .before .before .before .before .before .before .before .before .before .before .numbers-used .ensures .0) (c .before .before .before .before .before .before .before .before .before .before .before .before .before .before .before .before .numbers-used .ensures .1) (c .before .numbers2 .given) (c .before .before .before .before .before .before .before .before .before .before .ingest-entry-numbers .ensures), c .pruned-count .ensures)
+returns c = (with-front _ _ _ _ _ _ _ _ _ _ (c .before .before .before .before .before .before .before .before .before .before .before .before .before .before .before .before .numbers-used .ensures .0) (c .before .before .before .before .before .before .before .before .before .before .before .before .before .before .before .before .numbers-used .ensures .1) (c .before .numbers2 .given) (c .before .before .before .before .before .before .before .before .before .before .ingest-entry-numbers .ensures), c .pruned-count .ensures)
 
 pub ingest-with-room-spec : {M : Type 1} → statement M
 ingest-with-room-spec =

@@ -28,9 +28,9 @@ is-bytes-requires-3 c κs = search needs
 
 returns : tie.Need-returns
 returns c =
-    let p = c .before .before .before .before .before .before .before .before .before in
-    let n : length (p .args .entry .path .bytes) ≡ 128 = search needs in
-    λ prune prevent. ingestion-value field _ (record {
+    let p = c .before .before .before .before .before .before .before .before .before .before .before in
+    let n : length (p .args .ingestion .entry .path .bytes) ≡ 128 = search needs in
+    λ prune. ingestion-value field _ (record {
       path-room = omega (arith, n);
       path-bytes = c .before .before .before .before .is-bytes .ensures;
       high = search needs;

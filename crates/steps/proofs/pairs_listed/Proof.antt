@@ -20,7 +20,7 @@ same-length-4 : tie.Need-same-length-4
 same-length-4 c = search needs
 
 returns : tie.Need-returns
-returns c = pairs-listed _ _ _ _ _ _ _ _ _ _ _ _ _ _ _ (c .before .before .before .before .before .before .before .before .ingest-entry-by-value .ensures .0)
+returns c = pairs-listed _ _ _ _ _ _ _ _ _ _ _ _ _ (c .before .before .before .before .before .before .before .before .ingest-entry-by-value .ensures .0)
 
 pub pairs-listed-spec : {M : Type 1} → statement M
 pairs-listed-spec = tie.close (tie.spec ingest-entry-by-value-requires same-length same-length-2 same-length-3 same-length-4 returns)

@@ -1,13 +1,14 @@
 -- `ingest_answer` meets its contract: each way's answer is the definition's. Assumes nothing.
-use Prim.Native.Nat.{_*_}
+use Prim.Native.Nat.{ℕ, _*_}
 use mathlib.Core.Path.{_≡_, sym, _∙_}
-use mathlib.Core.List.{[]}
+use mathlib.Core.List.{List, []}
 use native.Mathlib.Omega.{arith}
 use lib.Seq.{length-take-le}
 use Rattle.data_model.specs.Path.{field}
 use Rattle.data_model.specs.Entry.{entryOf}
 use Rattle.store.specs.Store.{Store, storeOf}
 use Rattle.store.specs.Ingest.{verdictSays, ingestRefusal, placeDecided}
+use Rattle.store.specs.declared.ingest.Ingestion.{Ingestion}
 use Rattle.store.proofs.IngestLaws.{Ready, inSpt, decided-own, ready, ready-formed, answers-refused, answers-late, old-bounds, answers-old, take-fits, answers-take, marked-own, refused-unlike, obsolete-unlike}
 use borrow.Author.Needs.{needs}
 use Rattle.store.proofs.ingest.ingest_answer.Statement.{statement}
@@ -25,6 +26,10 @@ zero c = sym (c .before .ingest-refusal .ensures) ∙ c .if1 .left
 
 known : (c : tie.Else1) → Ready (lent (start c)) (start c .args .prune .now) (start c .args .entry)
 known c = ready (lent (start c)) (start c .args .prune .now) (start c .args .entry) (zero c)
+
+-- What was handed in, with whatever token.
+abbrev handed : tie.Start → List ℕ → Ingestion
+handed p token = record { entry = p .args .entry; token = token; «prevent_pruning» = p .args .«prevent-pruning» }
 
 -- What is decided, in the store's namespace.
 abbrev tested : tie.After-decide → tie.Else1
@@ -46,7 +51,7 @@ unfolding verdictSays
 returns c =
     let p = (c .before .before .before .before .before .before .before .before .before) in
     let f = (c .before .before) .ingest-refusal in
-    ((λ token. answers-refused (lent p) (p .args .prune .now) (p .args .entry) token (p .args .«prevent-pruning») (f .result) (f .ensures) ((c .before) .if1 .taken) _ (c .plain-answer .ensures)), λ n q. refused-unlike (c .plain-answer .ensures) q)
+    ((λ token. answers-refused (lent p) (p .args .prune .now) (handed p token) (f .result) (f .ensures) ((c .before) .if1 .taken) _ (c .plain-answer .ensures)), λ n q. refused-unlike (c .plain-answer .ensures) q)
 
 mul-n : tie.Need-mul-n
 mul-n c =
@@ -102,7 +107,7 @@ obsolete-answer-requires : tie.Need-obsolete-answer-requires
 obsolete-answer-requires c κs =
     let e = (c .before .before .before .before .before .before .before .before .before .before .before) in
     let p = start e in
-    old-bounds (lent p) (p .args .prune .now) (p .args .entry) [] (p .args .«prevent-pruning») (zero e) ((c .before .before .before .before .before .before .before) .decide .result) (own (c .before .before .before .before .before .before .before))
+    old-bounds (lent p) (p .args .prune .now) (handed p []) (zero e) ((c .before .before .before .before .before .before .before) .decide .result) (own (c .before .before .before .before .before .before .before))
     _ ((c .before .before .before) .d2 .given .1)
 
 enum-known-d-3 : tie.Need-enum-known-d-3
@@ -112,7 +117,7 @@ taken-answer-requires : tie.Need-taken-answer-requires
 taken-answer-requires c κs =
     let e = (c .before .before .before .before .before .before .before .before .before) in
     let p = start e in
-    take-fits (lent p) (p .args .prune .now) (p .args .entry) [] (p .args .«prevent-pruning») (zero e) ((c .before .before .before .before .before) .decide .result) (own (c .before .before .before .before .before))
+    take-fits (lent p) (p .args .prune .now) (handed p []) (zero e) ((c .before .before .before .before .before) .decide .result) (own (c .before .before .before .before .before))
     _ ((c .before) .d3 .given .1)
 
 same-length : tie.Need-same-length
@@ -123,7 +128,7 @@ unfolding verdictSays
 returns-2 c =
     let e = (c .before .before .before .before .before .before .before .before .before .before) in
     let p = start e in (
-      (λ token. answers-late (lent p) (p .args .prune .now) (p .args .entry) token (p .args .«prevent-pruning») (zero e) ((c .before .before .before .before .before .before) .decide .result) (own (c .before .before .before .before .before .before))
+      (λ token. answers-late (lent p) (p .args .prune .now) (handed p token) (zero e) ((c .before .before .before .before .before .before) .decide .result) (own (c .before .before .before .before .before .before))
           _ ((c .before .before) .d .given .1) _ (c .plain-answer2 .ensures)),
       λ n q. refused-unlike (c .plain-answer2 .ensures) q,
     )
@@ -135,7 +140,7 @@ returns-3 : tie.Need-returns-3
 returns-3 c =
     let e = (c .before .before .before .before .before .before .before .before .before .before .before .before) in
     let p = start e in (
-      (λ token. answers-old (lent p) (p .args .prune .now) (p .args .entry) token (p .args .«prevent-pruning») (zero e) ((c .before .before .before .before .before .before .before .before) .decide .result) (own (c .before .before .before .before .before .before .before .before))
+      (λ token. answers-old (lent p) (p .args .prune .now) (handed p token) (zero e) ((c .before .before .before .before .before .before .before .before) .decide .result) (own (c .before .before .before .before .before .before .before .before))
           _ ((c .before .before .before .before) .d2 .given .1) _ (c .obsolete-answer .ensures)),
       λ n q. obsolete-unlike _ (c .obsolete-answer .ensures) q,
     )
@@ -148,7 +153,7 @@ unfolding verdictSays
 returns-4 c =
     let e = (c .before .before .before .before .before .before .before .before .before .before) in
     let p = start e in (
-      (λ token. answers-take (lent p) (p .args .prune .now) (p .args .entry) token (p .args .«prevent-pruning») (zero e) ((c .before .before .before .before .before .before) .decide .result) (own (c .before .before .before .before .before .before))
+      (λ token. answers-take (lent p) (p .args .prune .now) (handed p token) (zero e) ((c .before .before .before .before .before .before) .decide .result) (own (c .before .before .before .before .before .before))
           _ ((c .before .before) .d3 .given .1) _ (c .taken-answer .ensures)),
       λ n q. marked-own (lent p) (p .args .prune .now) (p .args .entry) (known e) _ ((c .before .before .before .before .before .before) .decide .ensures .1 _ ((c .before .before) .d3 .given .1)),
     )

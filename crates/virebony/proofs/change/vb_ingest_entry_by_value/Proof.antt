@@ -5,8 +5,8 @@ use borrow.Author.Needs.{needs}
 use Rattle.virebony.proofs.change.vb_ingest_entry_by_value.Statement.{statement}
 use Rattle.virebony.proofs.change.vb_ingest_entry_by_value.Tie as tie
 
-is-yes-requires : tie.Need-is-yes-requires
-is-yes-requires c κs = search needs
+ingestion-of-requires : tie.Need-ingestion-of-requires
+ingestion-of-requires c κs = search needs
 
 ingest-entry-by-value-requires : tie.Need-ingest-entry-by-value-requires
 ingest-entry-by-value-requires c κs = search needs
@@ -29,7 +29,7 @@ same-length-4 c = search needs
 returns : tie.Need-returns
 returns c =
     let p = c .before .before .before .before .before .before .before .before .before .before .before .before .before .before .before .before .before .before .before .before .before in
-    told-by-value (storeOf (p .args .state) (p .args .spt .now) (p .args .«spt-dir» .now) (p .args .tsp .now) (p .args .«tsp-dir» .now)) (p .args .prune .pairs) (p .args .entry) (p .args .token .now) _ _ (c .before .before .before .before .before .before .before .before .before .before .before .before .before .before .before .before .is-yes .ensures) (c .before .before .before .before .before .before .before .before .before .ingest-entry-by-value .result) _ _ _ _ (c .before .before .before .before .before .before .before .before .before .ingest-entry-by-value .ensures .0) _ (c .plain-numbers .ensures)
+    told-by-value (storeOf (p .args .state) (p .args .spt .now) (p .args .«spt-dir» .now) (p .args .tsp .now) (p .args .«tsp-dir» .now)) (p .args .prune .pairs) _ _ (c .before .before .before .before .before .before .before .before .before .before .before .before .before .before .before .ingestion-of .ensures) (c .before .before .before .before .before .before .before .before .before .ingest-entry-by-value .result) _ _ _ _ (c .before .before .before .before .before .before .before .before .before .ingest-entry-by-value .ensures .0) _ (c .plain-numbers .ensures)
 
 pub vb-ingest-entry-by-value-spec : {M : Type 1} → statement M
-vb-ingest-entry-by-value-spec = tie.close (tie.spec is-yes-requires ingest-entry-by-value-requires plain-numbers-requires same-length same-length-2 same-length-3 same-length-4 returns)
+vb-ingest-entry-by-value-spec = tie.close (tie.spec ingestion-of-requires ingest-entry-by-value-requires plain-numbers-requires same-length same-length-2 same-length-3 same-length-4 returns)

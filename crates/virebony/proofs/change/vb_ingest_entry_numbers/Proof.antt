@@ -5,8 +5,8 @@ use borrow.Author.Needs.{needs}
 use Rattle.virebony.proofs.change.vb_ingest_entry_numbers.Statement.{statement}
 use Rattle.virebony.proofs.change.vb_ingest_entry_numbers.Tie as tie
 
-is-yes-requires : tie.Need-is-yes-requires
-is-yes-requires c κs = search needs
+ingestion-of-requires : tie.Need-ingestion-of-requires
+ingestion-of-requires c κs = search needs
 
 ingest-entry-numbers-requires : tie.Need-ingest-entry-numbers-requires
 ingest-entry-numbers-requires c κs = search needs
@@ -32,7 +32,7 @@ same-length-5 c = search needs
 returns : tie.Need-returns
 returns c =
     let p = c .before .before .before .before .before .before .before .before .before .before .before .before .before .before .before .before .before .before .before .before .before .before .before .before in
-    told (storeOf (p .args .state) (p .args .spt .now) (p .args .«spt-dir» .now) (p .args .tsp .now) (p .args .«tsp-dir» .now)) (p .args .prune .now) (p .args .entry) (p .args .token .now) _ _ (c .before .before .before .before .before .before .before .before .before .before .before .before .before .before .before .before .before .before .is-yes .ensures) _ _ _ _ _ _ (c .before .before .before .before .before .before .before .before .before .before .before .ingest-entry-numbers .ensures) _ (c .plain-ingested .ensures)
+    told (storeOf (p .args .state) (p .args .spt .now) (p .args .«spt-dir» .now) (p .args .tsp .now) (p .args .«tsp-dir» .now)) (p .args .prune .now) _ _ (c .before .before .before .before .before .before .before .before .before .before .before .before .before .before .before .before .before .ingestion-of .ensures) _ _ _ _ _ _ (c .before .before .before .before .before .before .before .before .before .before .before .ingest-entry-numbers .ensures) _ (c .plain-ingested .ensures)
 
 pub vb-ingest-entry-numbers-spec : {M : Type 1} → statement M
-vb-ingest-entry-numbers-spec = tie.close (tie.spec is-yes-requires ingest-entry-numbers-requires plain-ingested-requires same-length same-length-2 same-length-3 same-length-4 same-length-5 returns)
+vb-ingest-entry-numbers-spec = tie.close (tie.spec ingestion-of-requires ingest-entry-numbers-requires plain-ingested-requires same-length same-length-2 same-length-3 same-length-4 same-length-5 returns)

@@ -6,8 +6,8 @@ use borrow.Author.Needs.{needs}
 use Rattle.virebony.proofs.rows.vb_ingest_entry.Statement.{statement}
 use Rattle.virebony.proofs.rows.vb_ingest_entry.Tie as tie
 
-is-yes-requires : tie.Need-is-yes-requires
-is-yes-requires c κs = search needs
+ingestion-of-requires : tie.Need-ingestion-of-requires
+ingestion-of-requires c κs = search needs
 
 ingest-with-room-requires : tie.Need-ingest-with-room-requires
 ingest-with-room-requires c κs = search needs
@@ -15,7 +15,7 @@ ingest-with-room-requires c κs = search needs
 write-rows-requires : tie.Need-write-rows-requires
 write-rows-requires c κs =
     let p = c .before .before .before .before .before .before .before .before .before .before .before .before .before .before .before .before .before .before .before .before .before .before in
-    rows-fit (storeOf (p .args .state) (p .args .spt .now) (p .args .«spt-dir» .now) (p .args .tsp .now) (p .args .«tsp-dir» .now)) (p .args .prune .now) (p .args .entry) (p .args .token .now) _ _ (c .before .before .before .before .before .before .before .before .before .before .before .before .before .before .before .before .before .is-yes .ensures) (ingestedSays (c .before .before .before .before .before .before .before .before .before .before .before .ingest-with-room .result .ingested)) _ _ _ _ (c .before .before .before .before .before .before .before .before .before .before .before .ingest-with-room .result .numbers) (c .before .before .before .before .before .before .before .before .before .before .before .ingest-with-room .result .count) (c .before .before .before .before .before .before .before .before .before .before .before .ingest-with-room .ensures .0) (c .before .before .before .before .before .before .before .before .before .before .before .ingest-with-room .ensures .1)
+    rows-fit (storeOf (p .args .state) (p .args .spt .now) (p .args .«spt-dir» .now) (p .args .tsp .now) (p .args .«tsp-dir» .now)) (p .args .prune .now) _ _ (c .before .before .before .before .before .before .before .before .before .before .before .before .before .before .before .before .ingestion-of .ensures) (ingestedSays (c .before .before .before .before .before .before .before .before .before .before .before .ingest-with-room .result .ingested)) _ _ _ _ (c .before .before .before .before .before .before .before .before .before .before .before .ingest-with-room .result .numbers) (c .before .before .before .before .before .before .before .before .before .before .before .ingest-with-room .result .count) (c .before .before .before .before .before .before .before .before .before .before .before .ingest-with-room .ensures .0) (c .before .before .before .before .before .before .before .before .before .before .before .ingest-with-room .ensures .1)
 
 plain-ingested-requires : tie.Need-plain-ingested-requires
 plain-ingested-requires c κs = search needs
@@ -38,7 +38,7 @@ same-length-5 c = search needs
 returns : tie.Need-returns
 returns c =
     let p = c .before .before .before .before .before .before .before .before .before .before .before .before .before .before .before .before .before .before .before .before .before .before .before .before .before in
-    rows-told (storeOf (p .args .state) (p .args .spt .now) (p .args .«spt-dir» .now) (p .args .tsp .now) (p .args .«tsp-dir» .now)) (p .args .prune .now) (p .args .entry) (p .args .token .now) _ _ (c .before .before .before .before .before .before .before .before .before .before .before .before .before .before .before .before .before .before .before .before .is-yes .ensures) (ingestedSays (c .before .before .before .before .before .before .before .before .before .before .before .before .before .before .ingest-with-room .result .ingested)) _ _ _ _ (c .before .before .before .before .before .before .before .before .before .before .before .before .before .before .ingest-with-room .result .numbers) (c .before .before .before .before .before .before .before .before .before .before .before .before .before .before .ingest-with-room .result .count) (c .before .before .before .before .before .before .before .before .before .before .before .before .before .before .ingest-with-room .ensures .0) (c .before .before .before .before .before .before .before .before .before .before .before .before .before .before .ingest-with-room .ensures .1) _ (c .before .before .write-rows .ensures) _ (c .plain-ingested .ensures)
+    rows-told (storeOf (p .args .state) (p .args .spt .now) (p .args .«spt-dir» .now) (p .args .tsp .now) (p .args .«tsp-dir» .now)) (p .args .prune .now) _ _ (c .before .before .before .before .before .before .before .before .before .before .before .before .before .before .before .before .before .before .before .ingestion-of .ensures) (ingestedSays (c .before .before .before .before .before .before .before .before .before .before .before .before .before .before .ingest-with-room .result .ingested)) _ _ _ _ (c .before .before .before .before .before .before .before .before .before .before .before .before .before .before .ingest-with-room .result .numbers) (c .before .before .before .before .before .before .before .before .before .before .before .before .before .before .ingest-with-room .result .count) (c .before .before .before .before .before .before .before .before .before .before .before .before .before .before .ingest-with-room .ensures .0) (c .before .before .before .before .before .before .before .before .before .before .before .before .before .before .ingest-with-room .ensures .1) _ (c .before .before .write-rows .ensures) _ (c .plain-ingested .ensures)
 
 pub vb-ingest-entry-spec : {M : Type 1} → statement M
-vb-ingest-entry-spec = tie.close (tie.spec is-yes-requires ingest-with-room-requires write-rows-requires plain-ingested-requires same-length same-length-2 same-length-3 same-length-4 same-length-5 returns)
+vb-ingest-entry-spec = tie.close (tie.spec ingestion-of-requires ingest-with-room-requires write-rows-requires plain-ingested-requires same-length same-length-2 same-length-3 same-length-4 same-length-5 returns)

@@ -1,0 +1,13 @@
+-- `ingestion_of` meets its contract: the byte that prevents pruning is read. Assumes nothing.
+use borrow.Author.Needs.{needs}
+use Rattle.plain.proofs.input.ingestion_of.Statement.{statement}
+use Rattle.plain.proofs.input.ingestion_of.Tie as tie
+
+is-yes-requires : tie.Need-is-yes-requires
+is-yes-requires c κs = search needs
+
+returns : tie.Need-returns
+returns c = cc
+
+pub ingestion-of-spec : {M : Type 1} → statement M
+ingestion-of-spec = tie.close (tie.spec is-yes-requires returns)
