@@ -2,7 +2,6 @@
 use crate::answer::Answer;
 use crate::answer::ILLEGAL_PATH;
 use crate::answer::Ordering;
-use crate::answer::compare_numbers;
 use crate::answer::yes_or_no;
 use crate::checked;
 use crate::parameters::Subspace;
@@ -36,21 +35,16 @@ impl Rank {
     pub fn cmp(self, other: Rank) -> Ordering
         ensures { λ r. ⌜ orderingSays r ≡ byRank self other ⌝ }
     {
-        let times = compare_numbers(self.timestamp, other.timestamp);
-        match times {
-            Ordering::Less => Ordering::Less,
-            Ordering::Equal => {
-                let a = self.payload_digest;
-                let b = other.payload_digest;
-                let digests = checked::compare_bytes(&a, &b);
-                match digests {
-                    Ordering::Less => Ordering::Less,
-                    Ordering::Equal => compare_numbers(self.payload_length, other.payload_length),
-                    Ordering::Greater => Ordering::Greater,
-                }
-            }
-            Ordering::Greater => Ordering::Greater,
-        }
+        let a = self.payload_digest;
+        let b = other.payload_digest;
+        checked::compare_ranks(
+            self.timestamp,
+            &a,
+            self.payload_length,
+            other.timestamp,
+            &b,
+            other.payload_length,
+        )
     }
 }
 
