@@ -10,7 +10,7 @@ use crate::path::both_legal;
 ghost use mathlib.Core.Path.{_≡_};
 ghost use mathlib.Core.Bool.{_&&_};
 ghost use Rattle.data_model.specs.Path.{field, legal};
-ghost use Rattle.data_model.specs.Entry.{entryOf, rankOf, byRank, newer, prunes};
+ghost use Rattle.data_model.specs.Entry.{noEntry, entryOf, rankOf, byRank, newer, prunes};
 ghost use Rattle.data_model.specs.Refusal.{answerSays, answered, orderingSays};
 
 // What decides which of two entries is newer.
@@ -49,6 +49,21 @@ impl Rank {
 }
 
 impl Entry {
+    // The entry of an answer that shows none: every field 0.
+    pub fn zero() -> Entry
+        ensures { λ r. ⌜ r ≡ noEntry ⌝ }
+    {
+        let path = Path::new_empty();
+        Entry {
+            namespace_id: [0; 16],
+            subspace_id: Subspace { high: 0, low: 0 },
+            path,
+            timestamp: 0,
+            payload_length: 0,
+            payload_digest: [0; 32],
+        }
+    }
+
     pub fn rank(self) -> Rank
         ensures { λ r. ⌜ r ≡ rankOf self ⌝ }
     {

@@ -10,10 +10,6 @@ use crate::state::RECORD_MOST;
 use crate::state::State;
 use data_model::answer::ILLEGAL_PATH;
 use data_model::entry::Entry;
-use data_model::parameters::Subspace;
-use data_model::path::MCC;
-use data_model::path::MPL;
-use data_model::path::Path;
 use tree::by_value::is_legal;
 use tree::by_value::same_bytes;
 use tree::entries::mark_outdating;
@@ -40,7 +36,7 @@ ghost use Rattle.tree.specs.Matching.{removes};
 ghost use Rattle.tree.specs.Tree.{Formed, InBounds};
 ghost use Rattle.tree.specs.declared.stored.KeyOrder.the-variants.{Spt};
 ghost use Rattle.store.specs.Store.{limitMost, storeOf};
-ghost use Rattle.store.specs.Ingest.{verdictSays, ingestedSays, MayFile, noEntry, plainAnswer, obsoleteAnswer, stateWith, storeFiled, placeDecided, prunedPairs, ingestRefusal, ingestOutcome, ingested};
+ghost use Rattle.store.specs.Ingest.{verdictSays, ingestedSays, MayFile, plainAnswer, obsoleteAnswer, stateWith, storeFiled, placeDecided, prunedPairs, ingestRefusal, ingestOutcome, ingested};
 ghost use Rattle.store.specs.declared.ingest.IngestVerdict.the-variants as verdict;
 
 // Success says how many entries were pruned.
@@ -134,28 +130,11 @@ fn decide(
     PlaceDecision::Take(n)
 }
 
-pub fn zero_entry() -> Entry
-    ensures { λ r. ⌜ r ≡ noEntry ⌝ }
-{
-    let path = Path {
-        bytes: [0; MPL],
-        ends: [0; MCC],
-        count: 0,
-    };
-    Entry {
-        namespace_id: [0; 16],
-        subspace_id: Subspace { high: 0, low: 0 },
-        path,
-        timestamp: 0,
-        payload_length: 0,
-        payload_digest: [0; 32],
-    }
-}
-
+// The answer that shows no entry.
 fn plain_answer(verdict: IngestVerdict, state: State) -> Ingested
     ensures { λ r. ⌜ ingestedSays r ≡ plainAnswer (verdictSays verdict) state ⌝ }
 {
-    let newer = zero_entry();
+    let newer = Entry::zero();
     Ingested {
         verdict,
         state,
