@@ -1,11 +1,12 @@
 -- Entries: which is newer, which prunes which.
 use Prim.Native.Nat.{ℕ}
-use mathlib.Core.List.{List}
+use mathlib.Core.List.{List, []}
 use mathlib.Core.Bool.{Bool, _&&_}
+use lib.ListN.{replicate}
 use Rattle.laws.specs.Order.{Order, _then_, byNumber, isGreater}
 use Rattle.laws.specs.Prefix.{sameNumber, sameList}
-use Rattle.data_model.specs.Path.{Components, components, byBytes, isPrefix}
-use Rattle.data_model.specs.Subspace.{sameSubspace}
+use Rattle.data_model.specs.Path.{Components, components, pathOf, byBytes, isPrefix}
+use Rattle.data_model.specs.Subspace.{firstSubspace, sameSubspace}
 use Rattle.data_model.specs.declared.parameters.Subspace.{Subspace}
 use Rattle.data_model.specs.declared.entry.Rank.{Rank}
 use Rattle.data_model.specs.declared.entry.Entry.{Entry as EntryValue}
@@ -16,6 +17,17 @@ pub record Entry : Type 0 where
   pub subspace : Subspace
   pub path : Components
   pub rank : Rank
+
+-- The entry of an answer that shows none: every field 0.
+abbrev pub noEntry : EntryValue
+noEntry = record {
+  «namespace_id» = replicate 16 0;
+  «subspace_id» = firstSubspace;
+  path = pathOf [];
+  timestamp = 0;
+  «payload_length» = 0;
+  «payload_digest» = replicate 32 0;
+}
 
 unfoldable pub rankOf : EntryValue → Rank
 rankOf e = record { timestamp = e .timestamp; «payload_digest» = e .«payload_digest»; «payload_length» = e .«payload_length» }

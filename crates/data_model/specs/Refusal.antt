@@ -1,4 +1,4 @@
--- The refusals that this layer gives, by 01's numbers, and what its answers say.
+-- The refusals of every layer, by 01's numbers, and what the data model's answers say.
 use Prim.Native.Nat.{ℕ}
 use mathlib.Core.Bool.{Bool, true, false}
 use Rattle.laws.specs.Order.{Order, less, same, greater}
@@ -10,15 +10,41 @@ use Rattle.data_model.specs.declared.answer.Compared.the-variants as com
 use Rattle.data_model.specs.declared.answer.Ordering.{Ordering}
 use Rattle.data_model.specs.declared.answer.Ordering.the-variants as ordering
 
--- 2: a lent buffer is too short. 4: a path handed in is illegal. 5: a key handed in is none that an encoder writes.
+-- The limit is outside 1 to 1,024.
+abbrev pub badLimit : ℕ
+badLimit = 1
+
+-- A lent buffer is too short.
 abbrev pub shortBuffer : ℕ
 shortBuffer = 2
 
+-- The store handed in is not well-formed.
+abbrev pub notWellFormed : ℕ
+notWellFormed = 3
+
+-- A path handed in is illegal.
 abbrev pub illegalPath : ℕ
 illegalPath = 4
 
+-- A key handed in is none that an encoder writes.
 abbrev pub noKey : ℕ
 noKey = 5
+
+-- An entry names another namespace than the store's.
+abbrev pub otherNamespace : ℕ
+otherNamespace = 6
+
+-- Pruning is prevented, and an entry would be removed.
+abbrev pub pruningPrevented : ℕ
+pruningPrevented = 7
+
+-- The entries left after pruning already number the limit.
+abbrev pub full : ℕ
+full = 8
+
+-- The stored entry's digest is not the one expected.
+abbrev pub otherDigest : ℕ
+otherDigest = 9
 
 -- What each case of an answer says: its number and its values. A question: yes or no.
 unfoldable pub answerSays : Answer → Said Bool

@@ -1,5 +1,6 @@
 // For the layers above, and below the public entries: questions about paths that are legal already.
 use crate::answer::Ordering;
+use crate::answer::compare_numbers;
 use crate::answer::is_equal;
 use crate::answer::is_greater;
 use crate::answer::is_less;
@@ -123,6 +124,32 @@ pub fn same_bytes(a: &[u8], b: &[u8]) -> bool
     ensures { λ r. ⌜ r ≡ sameList sameNumber (now (a .entry)) (now (b .entry)) ⌝ }
 {
     is_equal(compare_bytes(a, b))
+}
+
+// How a rank stands to another one, both given by timestamp, digest and payload length: by the first of these that differs.
+pub fn compare_ranks(
+    time: u64,
+    digest: &[u8],
+    length: u64,
+    other_time: u64,
+    other_digest: &[u8],
+    other_length: u64,
+) -> Ordering
+    ensures { λ r. ⌜ orderingSays r ≡ byRank (record { timestamp = time; «payload_digest» = now (digest .entry); «payload_length» = length }) (record { timestamp = «other_time»; «payload_digest» = now («other_digest» .entry); «payload_length» = «other_length» }) ⌝ }
+{
+    let times = compare_numbers(time, other_time);
+    match times {
+        Ordering::Less => Ordering::Less,
+        Ordering::Equal => {
+            let digests = compare_bytes(digest, other_digest);
+            match digests {
+                Ordering::Less => Ordering::Less,
+                Ordering::Equal => compare_numbers(length, other_length),
+                Ordering::Greater => Ordering::Greater,
+            }
+        }
+        Ordering::Greater => Ordering::Greater,
+    }
 }
 
 // Whether the first rank is the newer one.

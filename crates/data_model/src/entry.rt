@@ -2,7 +2,6 @@
 use crate::answer::Answer;
 use crate::answer::ILLEGAL_PATH;
 use crate::answer::Ordering;
-use crate::answer::compare_numbers;
 use crate::answer::yes_or_no;
 use crate::checked;
 use crate::parameters::Subspace;
@@ -11,7 +10,7 @@ use crate::path::both_legal;
 ghost use mathlib.Core.Path.{_≡_};
 ghost use mathlib.Core.Bool.{_&&_};
 ghost use Rattle.data_model.specs.Path.{field, legal};
-ghost use Rattle.data_model.specs.Entry.{entryOf, rankOf, byRank, newer, prunes};
+ghost use Rattle.data_model.specs.Entry.{noEntry, entryOf, rankOf, byRank, newer, prunes};
 ghost use Rattle.data_model.specs.Refusal.{answerSays, answered, orderingSays};
 
 // What decides which of two entries is newer.
@@ -36,25 +35,35 @@ impl Rank {
     pub fn cmp(self, other: Rank) -> Ordering
         ensures { λ r. ⌜ orderingSays r ≡ byRank self other ⌝ }
     {
-        let times = compare_numbers(self.timestamp, other.timestamp);
-        match times {
-            Ordering::Less => Ordering::Less,
-            Ordering::Equal => {
-                let a = self.payload_digest;
-                let b = other.payload_digest;
-                let digests = checked::compare_bytes(&a, &b);
-                match digests {
-                    Ordering::Less => Ordering::Less,
-                    Ordering::Equal => compare_numbers(self.payload_length, other.payload_length),
-                    Ordering::Greater => Ordering::Greater,
-                }
-            }
-            Ordering::Greater => Ordering::Greater,
-        }
+        let a = self.payload_digest;
+        let b = other.payload_digest;
+        checked::compare_ranks(
+            self.timestamp,
+            &a,
+            self.payload_length,
+            other.timestamp,
+            &b,
+            other.payload_length,
+        )
     }
 }
 
 impl Entry {
+    // The entry of an answer that shows none: every field 0.
+    pub fn zero() -> Entry
+        ensures { λ r. ⌜ r ≡ noEntry ⌝ }
+    {
+        let path = Path::new_empty();
+        Entry {
+            namespace_id: [0; 16],
+            subspace_id: Subspace { high: 0, low: 0 },
+            path,
+            timestamp: 0,
+            payload_length: 0,
+            payload_digest: [0; 32],
+        }
+    }
+
     pub fn rank(self) -> Rank
         ensures { λ r. ⌜ r ≡ rankOf self ⌝ }
     {

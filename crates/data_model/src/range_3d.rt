@@ -22,7 +22,7 @@ ghost use Rattle.data_model.specs.Above.{above};
 ghost use Rattle.data_model.specs.Range.{legalRange};
 ghost use Rattle.data_model.specs.Range3d.{rangeIncludes};
 ghost use Rattle.data_model.specs.Area.{subspacesOf, pathsUpTo, emptyRange, areaRangeAnswer};
-ghost use Rattle.data_model.specs.Refusal.{answerSays, answered, illegalPath};
+ghost use Rattle.data_model.specs.Refusal.{answerSays, answered};
 
 pub struct Range3d {
     pub subspaces: SubspaceRange,
@@ -63,6 +63,30 @@ fn paths_of(path: Path) -> PathRange
 }
 
 impl Range3d {
+    // The range that includes nothing: every field 0.
+    pub fn empty() -> Range3d
+        ensures { λ r. ⌜ r ≡ emptyRange ⌝ }
+    {
+        let start = Path::new_empty();
+        let end = Path::new_empty();
+        let zero = Subspace { high: 0, low: 0 };
+        Range3d {
+            subspaces: SubspaceRange {
+                start: zero,
+                end: SubspaceEnd::Closed(zero),
+            },
+            paths: PathRange {
+                start,
+                end,
+                open: false,
+            },
+            times: TimesRange {
+                start: 0,
+                end: RangeEnd::Closed(0),
+            },
+        }
+    }
+
     pub fn includes_triplet(self, subspace: Subspace, path: Path, timestamp: u64) -> Answer
         ensures { λ r. ⌜ answerSays r ≡ answered (legalRange field (self .paths) && legal field path) (rangeIncludes self subspace (components path) timestamp) ⌝ }
     {
@@ -90,32 +114,10 @@ impl Range3d {
             };
             return AreaRange { refusal: 0, range };
         }
-        refused_range()
-    }
-}
-
-fn refused_range() -> AreaRange
-    ensures { λ r. ⌜ r ≡ record { refusal = illegalPath; range = emptyRange } ⌝ }
-{
-    let start = Path::new_empty();
-    let end = Path::new_empty();
-    let zero = Subspace { high: 0, low: 0 };
-    AreaRange {
-        refusal: ILLEGAL_PATH,
-        range: Range3d {
-            subspaces: SubspaceRange {
-                start: zero,
-                end: SubspaceEnd::Closed(zero),
-            },
-            paths: PathRange {
-                start,
-                end,
-                open: false,
-            },
-            times: TimesRange {
-                start: 0,
-                end: RangeEnd::Closed(0),
-            },
-        },
+        let range = Range3d::empty();
+        AreaRange {
+            refusal: ILLEGAL_PATH,
+            range,
+        }
     }
 }

@@ -1,4 +1,4 @@
-// Numbers as 8 bytes, big-endian, and subspaces, at the front of a slice: for the encoders and decoders here, and for the layers above.
+// Numbers as 8 bytes, big-endian, and subspaces, at the front of a slice, and bytes as numbers: for the encoders and decoders here, and for the layers above.
 use data_model::parameters::Subspace;
 ghost use mathlib.Core.Path.{_≡_};
 ghost use Prim.Native.Nat.{_≤_, _<_, min};
@@ -24,7 +24,7 @@ pub fn write_u64(x: u64, out: &mut [u8]) -> usize
 }
 
 // A byte as a number of 64 bits.
-fn wide(b: u8) -> u64
+pub fn wide(b: u8) -> u64
     ensures { λ r. ⌜ (r ≡ b) × (r < 256) ⌝ }
 {
     b as u64

@@ -2,6 +2,7 @@
 use data_model::answer::ILLEGAL_PATH;
 use data_model::entry::Entry;
 use data_model::parameters::Subspace;
+use keys::number::wide;
 use store::ingest::IngestVerdict;
 use store::ingest::Ingestion;
 use store::ingest::ingest_entry_numbers;
@@ -25,12 +26,6 @@ pub enum Answer {
 pub struct Carried {
     pub answer: Answer,
     pub state: State,
-}
-
-pub fn wide(b: u8) -> u64
-    ensures { λ r. ⌜ r ≡ b ⌝ }
-{
-    b as u64
 }
 
 // The entry of a line, in namespace 0.

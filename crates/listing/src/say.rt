@@ -1,7 +1,7 @@
 // What the program prints: answers, and at the end the list.
 use crate::carry::Answer;
-use crate::carry::wide;
 use data_model::entry::Entry;
+use keys::number::wide;
 use text::decimal::write_number;
 use text::entry_line::write_listed;
 use text::line::write_bytes;

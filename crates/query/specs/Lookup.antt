@@ -6,6 +6,7 @@ use mathlib.Core.Bool.{true, false, cond}
 use lib.ListN.{replicate}
 use lib.Dec.{eqb}
 use Rattle.data_model.specs.Path.{Figures, Components, components, legal}
+use Rattle.data_model.specs.Entry.{noEntry}
 use Rattle.data_model.specs.declared.path.Path.{Path}
 use Rattle.data_model.specs.declared.parameters.Subspace.{Subspace}
 use Rattle.tree.specs.Stored.{Stored, lengthy}
@@ -14,7 +15,7 @@ use Rattle.data_model.specs.declared.«query_ignore_params».QueryIgnoreParams.
 use Rattle.tree.specs.declared.stored.KeyOrder.the-variants.{Spt}
 use Rattle.tree.specs.declared.stored.LengthyAuthorisedEntry.{LengthyAuthorisedEntry}
 use Rattle.store.specs.Store.{Store, held}
-use Rattle.store.specs.Ingest.{noEntry, firstThat}
+use Rattle.store.specs.Ingest.{firstThat}
 use Rattle.query.specs.Reading.{readRefusal}
 use Rattle.query.specs.declared.answer.EntryFound.{EntryFound}
 

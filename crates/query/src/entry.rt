@@ -1,10 +1,10 @@
 // The entry at a subspace and path.
 use crate::answer::EntryFound;
 use crate::check::read_refusal;
+use data_model::entry::Entry;
 use data_model::parameters::Subspace;
 use data_model::path::Path;
 use data_model::query_ignore_params::QueryIgnoreParams;
-use store::ingest::zero_entry;
 use store::state::LIMIT_MOST;
 use store::state::RECORD_MOST;
 use store::state::State;
@@ -28,7 +28,7 @@ ghost use Rattle.query.specs.Lookup.{notFound, foundIn, entryFound};
 fn not_found(refusal: u8) -> EntryFound
     ensures { λ r. ⌜ r ≡ notFound refusal ⌝ }
 {
-    let none = zero_entry();
+    let none = Entry::zero();
     EntryFound {
         refusal,
         found: false,

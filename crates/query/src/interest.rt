@@ -3,15 +3,7 @@ use crate::answer::InterestRange;
 use crate::check::read_refusal;
 use data_model::area::Area;
 use data_model::area_of_interest::AreaOfInterest;
-use data_model::parameters::Subspace;
-use data_model::path::MCC;
-use data_model::path::MPL;
-use data_model::path::Path;
 use data_model::query_ignore_params::QueryIgnoreParams;
-use data_model::range::PathRange;
-use data_model::range::RangeEnd;
-use data_model::range::SubspaceEnd;
-use data_model::range::SubspaceRange;
 use data_model::range::TimesRange;
 use data_model::range_3d::Range3d;
 use store::state::LIMIT_MOST;
@@ -55,34 +47,12 @@ fn interest_time(count: usize, tsp: &[u8], tsp_dir: &[u32], aoi: AreaOfInterest)
     )
 }
 
-// The range that includes nothing.
+// The answer to a refused call: the refusal, and the range that includes nothing.
 fn refused_range(refusal: u8) -> InterestRange
     ensures { λ r. ⌜ r ≡ record { refusal = refusal; range = emptyRange } ⌝ }
 {
-    let path = Path {
-        bytes: [0; MPL],
-        ends: [0; MCC],
-        count: 0,
-    };
-    let zero = Subspace { high: 0, low: 0 };
-    InterestRange {
-        refusal,
-        range: Range3d {
-            subspaces: SubspaceRange {
-                start: zero,
-                end: SubspaceEnd::Closed(zero),
-            },
-            paths: PathRange {
-                start: path,
-                end: path,
-                open: false,
-            },
-            times: TimesRange {
-                start: 0,
-                end: RangeEnd::Closed(0),
-            },
-        },
-    }
+    let range = Range3d::empty();
+    InterestRange { refusal, range }
 }
 
 // An area's range, its times from `start` on.

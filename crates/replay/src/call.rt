@@ -5,6 +5,9 @@ use crate::line::tell_bytes;
 use crate::line::tell_numbers;
 use data_model::entry::Entry;
 use data_model::path::Path;
+use plain::answer::PlainListed;
+use plain::input::PlainIgnore;
+use plain::part::PlainPart;
 use store::state::LIMIT_MOST;
 use store::state::State;
 use virebony::change;
@@ -53,10 +56,13 @@ fn tell_range(r: plain::input::PlainRange) {
     tell(t.open as u64);
 }
 
-// A match: its place, where its record lies, and the record.
-fn tell_match(found: bool, place: usize, from: usize, n: usize, a: &[u8]) {
-    tell(found as u64);
-    tell(place as u64);
+// A listing's answer: the refusal, the match's place, where its record lies, and the record.
+fn tell_match(l: PlainListed, p: PlainPart, a: &[u8]) {
+    let from = p.offset;
+    let n = p.length;
+    tell(l.refusal as u64);
+    tell(l.found as u64);
+    tell(l.place as u64);
     tell(from as u64);
     tell(n as u64);
     if from <= a.len() {
@@ -138,9 +144,27 @@ pub fn act(q: &[u8], s: State, a: &mut [u8], b: &mut [u32], c: &mut [u8], d: &mu
     }
 }
 
+// The next match of an area.
+fn list_area(q: &[u8], s: State, a: &[u8], b: &[u32], c: &[u8], d: &[u32], i: PlainIgnore) {
+    let x = field::area(q);
+    let k = field::number(q, 35) as usize;
+    let l = reading::vb_query_area_place(s, a, b, c, d, x, i, k);
+    let p = reading::vb_query_area(s, a, b, c, d, x, i, k);
+    tell_match(l, p, a);
+}
+
+// The next match of a range.
+fn list_range(q: &[u8], s: State, a: &[u8], b: &[u32], c: &[u8], d: &[u32], i: PlainIgnore) {
+    let x = field::range(q);
+    let k = field::number(q, 35) as usize;
+    let l = reading::vb_query_range_place(s, a, b, c, d, x, i, k);
+    let p = reading::vb_query_range(s, a, b, c, d, x, i, k);
+    tell_match(l, p, a);
+}
+
 // 5 finds an entry, 6 and 7 the next match of an area and of a range, 8 and 9 count them, a is an area of interest, b tells the buffers.
 pub fn look(q: &[u8], s: State, a: &[u8], b: &[u32], c: &[u8], d: &[u32]) {
-    let i = plain::input::PlainIgnore {
+    let i = PlainIgnore {
         incomplete_payloads: field::flag(q, 33),
         empty_payloads: field::flag(q, 34),
     };
@@ -154,20 +178,8 @@ pub fn look(q: &[u8], s: State, a: &[u8], b: &[u32], c: &[u8], d: &[u32]) {
             tell_entry(l.entry, &l.token);
             tell(l.available);
         }
-        6 => {
-            let k = field::number(q, 35) as usize;
-            let l = reading::vb_query_area_place(s, a, b, c, d, field::area(q), i, k);
-            let p = reading::vb_query_area(s, a, b, c, d, field::area(q), i, k);
-            tell(l.refusal as u64);
-            tell_match(l.found, l.place, p.offset, p.length, a);
-        }
-        7 => {
-            let k = field::number(q, 35) as usize;
-            let l = reading::vb_query_range_place(s, a, b, c, d, field::range(q), i, k);
-            let p = reading::vb_query_range(s, a, b, c, d, field::range(q), i, k);
-            tell(l.refusal as u64);
-            tell_match(l.found, l.place, p.offset, p.length, a);
-        }
+        6 => list_area(q, s, a, b, c, d, i),
+        7 => list_range(q, s, a, b, c, d, i),
         8 => tell_count(reading::vb_count_area(s, a, b, c, d, field::area(q))),
         9 => tell_count(reading::vb_summarise(s, a, b, c, d, field::range(q))),
         10 => {

@@ -1,10 +1,7 @@
 // Lines read, and fields told, each behind a space. Numbers are in hex; bytes two digits each, without the zeros at the end, `-` if that is nothing.
+use keys::number::wide;
 ghost use Prim.Native.Nat.{_≤_};
 ghost use lib.ListN.{length};
-
-fn wide(b: u8) -> u64 {
-    b as u64
-}
 
 // The next byte of the input; 256 at its end.
 fn next_char() -> u64 {

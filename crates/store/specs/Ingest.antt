@@ -13,9 +13,9 @@ use Rattle.laws.specs.Sorted.{any, keep, insert}
 use Rattle.layout.specs.Layout.{records}
 use Rattle.layout.specs.Marks.{marksOf, firstMark, markedPairs}
 use Rattle.data_model.specs.Said.{Said, refuses, says}
-use Rattle.data_model.specs.Path.{Figures, legal, pathOf}
-use Rattle.data_model.specs.Subspace.{firstSubspace}
+use Rattle.data_model.specs.Path.{Figures, legal}
 use Rattle.data_model.specs.Entry.{Entry, entryOf}
+pub use Rattle.data_model.specs.Entry.{noEntry}
 use Rattle.data_model.specs.Refusal.{illegalPath}
 use Rattle.data_model.specs.declared.entry.Entry.{Entry as EntryValue}
 use Rattle.key_laws.specs.KeyOrder.{sptOrder, tspOrder}
@@ -131,16 +131,6 @@ pub record MayFile (f : Figures) (s : Store) (prune : List ℕ) (e : EntryValue)
   pub room : length (keep (stays (entryOf e)) (held f Spt s)) < s .state .limit
 
 -- The answers.
-abbrev pub noEntry : EntryValue
-noEntry = record {
-  «namespace_id» = replicate 16 0;
-  «subspace_id» = firstSubspace;
-  path = pathOf [];
-  timestamp = 0;
-  «payload_length» = 0;
-  «payload_digest» = replicate 32 0;
-}
-
 abbrev pub plainAnswer : Said Verdict → State → IngestSaid
 plainAnswer v s = record { verdict = v; state = s; newer = noEntry; token = replicate 64 0 }
 

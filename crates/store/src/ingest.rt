@@ -11,10 +11,6 @@ use crate::state::RECORD_MOST;
 use crate::state::State;
 use data_model::answer::ILLEGAL_PATH;
 use data_model::entry::Entry;
-use data_model::parameters::Subspace;
-use data_model::path::MCC;
-use data_model::path::MPL;
-use data_model::path::Path;
 use tree::by_value::is_legal;
 use tree::by_value::same_bytes;
 use tree::entries::mark_outdating;
@@ -42,7 +38,7 @@ ghost use Rattle.tree.specs.Tree.{Formed, InBounds};
 ghost use Rattle.tree.specs.declared.stored.KeyOrder.the-variants.{Spt};
 ghost use Rattle.store.specs.Store.{limitMost, stateWith, storeOf, held};
 ghost use Rattle.store.specs.Change.{Marked};
-ghost use Rattle.store.specs.Ingest.{succeeds, verdictSays, ingestedSays, MayFile, noEntry, plainAnswer, obsoleteAnswer, storeFiled, placeDecided, prunedPairs, ingestRefusal, ingestOutcome, ingested};
+ghost use Rattle.store.specs.Ingest.{succeeds, verdictSays, ingestedSays, MayFile, plainAnswer, obsoleteAnswer, storeFiled, placeDecided, prunedPairs, ingestRefusal, ingestOutcome, ingested};
 ghost use Rattle.store.specs.declared.ingest.IngestVerdict.the-variants as verdict;
 ghost use Rattle.store.specs.declared.ingest.PlaceDecision.the-variants as place;
 
@@ -146,28 +142,11 @@ fn decide(
     PlaceDecision::Take(n)
 }
 
-pub fn zero_entry() -> Entry
-    ensures { λ r. ⌜ r ≡ noEntry ⌝ }
-{
-    let path = Path {
-        bytes: [0; MPL],
-        ends: [0; MCC],
-        count: 0,
-    };
-    Entry {
-        namespace_id: [0; 16],
-        subspace_id: Subspace { high: 0, low: 0 },
-        path,
-        timestamp: 0,
-        payload_length: 0,
-        payload_digest: [0; 32],
-    }
-}
-
+// The answer that shows no entry.
 fn plain_answer(verdict: IngestVerdict, state: State) -> Ingested
     ensures { λ r. ⌜ ingestedSays r ≡ plainAnswer (verdictSays verdict) state ⌝ }
 {
-    let newer = zero_entry();
+    let newer = Entry::zero();
     Ingested {
         verdict,
         state,

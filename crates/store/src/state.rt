@@ -1,4 +1,10 @@
-// The state of a store, by value; the refusals that this layer gives.
+// The state of a store, by value; the data model's refusals that only a store gives.
+pub use data_model::answer::BAD_LIMIT;
+pub use data_model::answer::FULL;
+pub use data_model::answer::NOT_WELL_FORMED;
+pub use data_model::answer::OTHER_DIGEST;
+pub use data_model::answer::OTHER_NAMESPACE;
+pub use data_model::answer::PRUNING_PREVENTED;
 use keys::encode::KEY_MOST;
 use tree::value::VALUE;
 ghost use mathlib.Core.Path.{_≡_};
@@ -8,20 +14,6 @@ ghost use Rattle.store.specs.Store.{stateWith};
 pub const LIMIT_MOST: usize = 1024;
 
 pub const RECORD_MOST: usize = KEY_MOST + VALUE;
-
-// The limit is outside 1 to 1,024; the store is not well-formed; an entry names another namespace; pruning is prevented; the store is
-// full; the stored entry's digest is not the one expected.
-pub const BAD_LIMIT: u8 = 1;
-
-pub const NOT_WELL_FORMED: u8 = 3;
-
-pub const OTHER_NAMESPACE: u8 = 6;
-
-pub const PRUNING_PREVENTED: u8 = 7;
-
-pub const FULL: u8 = 8;
-
-pub const OTHER_DIGEST: u8 = 9;
 
 #[repr(C)]
 pub struct State {

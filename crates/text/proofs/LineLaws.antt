@@ -19,7 +19,7 @@ use Rattle.text.specs.Decimal.{numberRead, digits, decimalText}
 use Rattle.text.specs.Fields.{fields}
 use Rattle.text.specs.PathField.{pathField}
 use Rattle.text.specs.PathText.{componentText, behindText, pathText, pathTextMost}
-use Rattle.text.specs.EntryLine.{lineMost, space, inWord, noEntry, withByte, withNumber, withPath, entryLine, entryRead, fieldAt, isInLine, lineRead, rankText, listedText}
+use Rattle.text.specs.EntryLine.{lineMost, space, inWord, noEntryLine, withByte, withNumber, withPath, entryLine, entryRead, fieldAt, isInLine, lineRead, rankText, listedText}
 use Rattle.text.specs.declared.hex.ByteRead.{ByteRead}
 use Rattle.text.specs.declared.hex.ByteRead.the-variants as byte
 use Rattle.text.specs.declared.decimal.NumberRead.{NumberRead}
@@ -42,7 +42,7 @@ module _ (s : List ℕ) where
   unfolding isInLine
   in-word h n = rw (le-leb (length s) lineMost h, eq-eqb (length (fields space s)) 6 n)
 
-  pub line-other : isInLine s ≡ false → noEntry outcome.Bad ≡ lineRead s
+  pub line-other : isInLine s ≡ false → noEntryLine outcome.Bad ≡ lineRead s
   unfolding lineRead
   line-other h = rw h
 
@@ -62,22 +62,22 @@ line-cut s n h =
 
 -- What five fields say: the first that is of another form; or what the path is.
 module _ (s d : ByteRead) (p : PathField) (t l : NumberRead) where
-  pub bad-subspace : s ≡ byte.Bad → noEntry outcome.Bad ≡ entryRead s p t l d
+  pub bad-subspace : s ≡ byte.Bad → noEntryLine outcome.Bad ≡ entryRead s p t l d
   unfolding entryRead withByte
   bad-subspace e = rw e
 
   module _ (a : ℕ) (ea : s ≡ byte.Is a) where
-    pub bad-timestamp : t ≡ number.Bad → noEntry outcome.Bad ≡ entryRead s p t l d
+    pub bad-timestamp : t ≡ number.Bad → noEntryLine outcome.Bad ≡ entryRead s p t l d
     unfolding entryRead withByte withNumber
     bad-timestamp e = rw (ea, e)
 
     module _ (b : ℕ) (eb : t ≡ number.Is b) where
-      pub bad-length : l ≡ number.Bad → noEntry outcome.Bad ≡ entryRead s p t l d
+      pub bad-length : l ≡ number.Bad → noEntryLine outcome.Bad ≡ entryRead s p t l d
       unfolding entryRead withByte withNumber
       bad-length e = rw (ea, eb, e)
 
       module _ (n : ℕ) (en : l ≡ number.Is n) where
-        pub bad-digest : d ≡ byte.Bad → noEntry outcome.Bad ≡ entryRead s p t l d
+        pub bad-digest : d ≡ byte.Bad → noEntryLine outcome.Bad ≡ entryRead s p t l d
         unfolding entryRead withByte withNumber
         bad-digest e = rw (ea, eb, en, e)
 
@@ -86,11 +86,11 @@ module _ (s d : ByteRead) (p : PathField) (t l : NumberRead) where
           unfolding entryRead withByte withNumber withPath
           read-good e = rw (ea, eb, en, eg, e)
 
-          pub read-illegal : p .outcome ≡ outcome.Illegal → noEntry outcome.Illegal ≡ entryRead s p t l d
+          pub read-illegal : p .outcome ≡ outcome.Illegal → noEntryLine outcome.Illegal ≡ entryRead s p t l d
           unfolding entryRead withByte withNumber withPath
           read-illegal e = rw (ea, eb, en, eg, e)
 
-          pub bad-path : p .outcome ≡ outcome.Bad → noEntry outcome.Bad ≡ entryRead s p t l d
+          pub bad-path : p .outcome ≡ outcome.Bad → noEntryLine outcome.Bad ≡ entryRead s p t l d
           unfolding entryRead withByte withNumber withPath
           bad-path e = rw (ea, eb, en, eg, e)
 

@@ -12,7 +12,7 @@ use Rattle.data_model.specs.Path.{field, Components, isPath, pathOf}
 use Rattle.text.specs.Hex.{digitValue, isHex, hexOf, byteRead}
 use Rattle.text.specs.Decimal.{isPlain, numberFrom, valueRead, numberRead}
 use Rattle.text.specs.PathField.{isPathField, componentsOf, emptyPath, placed, pathField}
-use Rattle.text.specs.EntryLine.{noEntry, withByte, withNumber, withPath, entryLine, entryRead, fieldAt, isInLine, lineRead}
+use Rattle.text.specs.EntryLine.{noEntryLine, withByte, withNumber, withPath, entryLine, entryRead, fieldAt, isInLine, lineRead}
 use Rattle.text.specs.declared.hex.ByteRead.{ByteRead}
 use Rattle.text.specs.declared.hex.ByteRead.the-variants as byte
 use Rattle.text.specs.declared.decimal.NumberRead.{NumberRead}
@@ -75,8 +75,8 @@ pub record Says (e : EntryLine) : Type 0 where
   pub legal : isPath field cs ≡ true
   pub path-is : e .path ≡ pathOf cs
 
-no-entry : (G : Type 0) → noEntry outcome.Bad .outcome ≡ outcome.Good → G
-unfolding noEntry
+no-entry : (G : Type 0) → noEntryLine outcome.Bad .outcome ≡ outcome.Good → G
+unfolding noEntryLine
 no-entry G h = absurd (let z : _≡_ {A = ℕ} 0 1 = cc in omega arith)
 
 -- By what its fields say.
@@ -100,8 +100,8 @@ read-says (byte.Is a) (byte.Is g) p (number.Is b) (number.Is n) hs ht hl hd hp h
       legal = q .legal;
       path-is = q .path-is;
     }
-    by outcome.Illegal e h = absurd (unfold withPath noEntry in let z : _≡_ {A = ℕ} 0 1 = cc in omega arith)
-    by outcome.Bad e h = absurd (unfold withPath noEntry in let z : _≡_ {A = ℕ} 0 1 = cc in omega arith)
+    by outcome.Illegal e h = absurd (unfold withPath noEntryLine in let z : _≡_ {A = ℕ} 0 1 = cc in omega arith)
+    by outcome.Bad e h = absurd (unfold withPath noEntryLine in let z : _≡_ {A = ℕ} 0 1 = cc in omega arith)
 
 pub line-says : (s : List ℕ) → lineRead s .outcome ≡ outcome.Good → Says (lineRead s)
 unfolding lineRead

@@ -33,22 +33,22 @@ abbrev pub inWord : List ℕ
 inWord = 105 ∷ 110 ∷ []
 
 -- A line that says no entry: of another form (`bad`), or its path is outside the bounds (`refused 4`).
-unfoldable pub noEntry : Outcome → EntryLine
-noEntry o = record { outcome = o; subspace = 0; path = pathOf []; timestamp = 0; «payload_length» = 0; digest = 0 }
+unfoldable pub noEntryLine : Outcome → EntryLine
+noEntryLine o = record { outcome = o; subspace = 0; path = pathOf []; timestamp = 0; «payload_length» = 0; digest = 0 }
 
 -- A field's value goes on into the entry; a field of another form makes the line one.
 unfoldable pub withByte : ByteRead → (ℕ → EntryLine) → EntryLine
 withByte (byte.Is b) go = go b
-withByte byte.Bad go = noEntry outcome.Bad
+withByte byte.Bad go = noEntryLine outcome.Bad
 
 unfoldable pub withNumber : NumberRead → (ℕ → EntryLine) → EntryLine
 withNumber (number.Is n) go = go n
-withNumber number.Bad go = noEntry outcome.Bad
+withNumber number.Bad go = noEntryLine outcome.Bad
 
 unfoldable pub withPath : Outcome → EntryLine → EntryLine
 withPath outcome.Good e = e
-withPath outcome.Illegal e = noEntry outcome.Illegal
-withPath outcome.Bad e = noEntry outcome.Bad
+withPath outcome.Illegal e = noEntryLine outcome.Illegal
+withPath outcome.Bad e = noEntryLine outcome.Bad
 
 abbrev pub entryLine : (subspace : ℕ) → Path → (timestamp payloadLength digest : ℕ) → EntryLine
 entryLine s p t l d = record { outcome = outcome.Good; subspace = s; path = p; timestamp = t; «payload_length» = l; digest = d }
@@ -70,7 +70,7 @@ unfoldable pub lineRead : List ℕ → EntryLine
 lineRead s =
     cond (isInLine s)
     (entryRead (byteRead (fieldAt 1 s)) (pathField (fieldAt 2 s)) (numberRead (fieldAt 3 s)) (numberRead (fieldAt 4 s)) (byteRead (fieldAt 5 s)))
-    (noEntry outcome.Bad)
+    (noEntryLine outcome.Bad)
 
 -- An entry listed: `S P T L D`.
 unfoldable pub rankText : (timestamp payloadLength digest : ℕ) → List ℕ

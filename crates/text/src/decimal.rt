@@ -2,6 +2,7 @@
 use crate::hex::all_digits;
 use crate::hex::digit_value;
 use crate::line::write_bytes;
+use keys::number::wide;
 ghost use mathlib.Core.Path.{_≡_};
 ghost use mathlib.Core.Bool.{true};
 ghost use Prim.Native.Nat.{_≤_, _<_};
@@ -14,12 +15,6 @@ ghost use Rattle.text.specs.Decimal.{isPlain, numberRead, numberFrom, de
 pub enum NumberRead {
     Is(u64),
     Bad,
-}
-
-fn wide(b: u8) -> u64
-    ensures { λ r. ⌜ r ≡ b ⌝ }
-{
-    b as u64
 }
 
 // Digits, at least one, and no 0 before others.

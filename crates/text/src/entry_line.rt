@@ -23,7 +23,7 @@ ghost use Rattle.data_model.specs.Path.{field, legal, components};
 ghost use Rattle.text.specs.Hex.{hexByte};
 ghost use Rattle.text.specs.Decimal.{decimalText};
 ghost use Rattle.text.specs.PathText.{pathText, pathTextMost};
-ghost use Rattle.text.specs.EntryLine.{space, noEntry, entryRead, isInLine, lineRead, rankText, rankTextMost, listedText, listedTextMost};
+ghost use Rattle.text.specs.EntryLine.{space, noEntryLine, entryRead, isInLine, lineRead, rankText, rankTextMost, listedText, listedTextMost};
 
 // The most bytes of a line.
 pub const LINE_MOST: usize = 1024;
@@ -39,7 +39,7 @@ pub struct EntryLine {
 }
 
 fn no_entry(outcome: Outcome) -> EntryLine
-    ensures { λ r. ⌜ r ≡ noEntry outcome ⌝ }
+    ensures { λ r. ⌜ r ≡ noEntryLine outcome ⌝ }
 {
     let path = Path::new_empty();
     EntryLine {

@@ -22,12 +22,6 @@ pub struct DigestRead {
     pub digest: [u8; 32],
 }
 
-fn wide(b: u8) -> u64
-    ensures { λ r. ⌜ r ≡ b ⌝ }
-{
-    b as u64
-}
-
 pub fn read_subspace(s: &[u8]) -> SubspaceRead
     ensures { λ r. ⌜ r ≡ subspaceField (now (s .entry)) ⌝ }
 {
@@ -37,7 +31,7 @@ pub fn read_subspace(s: &[u8]) -> SubspaceRead
     if s.len() == 2 {
         let mut one = [0u8; 1];
         write_bytes_of(s, &mut one);
-        let low = wide(one[0]);
+        let low = number::wide(one[0]);
         return SubspaceRead::Is(Subspace { high: 0, low });
     }
     if s.len() == 32 {

@@ -14,7 +14,6 @@ use Rattle.data_model.specs.Range3d.{rangeIncludes}
 use Rattle.data_model.specs.Area.{areaSubspace, areaIncludes}
 use Rattle.data_model.specs.Subspace.{firstSubspace, bySubspace}
 use Rattle.data_model.specs.declared.parameters.Subspace.{Subspace}
-use Rattle.data_model.specs.declared.area.AreaSubspace.the-variants.{Any}
 use Rattle.data_model.specs.declared.area.Area.{Area}
 use Rattle.data_model.specs.declared.range.SubspaceEnd.the-variants.{Open}
 use Rattle.data_model.specs.declared.range.PathRange.{PathRange}
@@ -26,7 +25,7 @@ use Rattle.tree.specs.Value.{readValue}
 use Rattle.tree.specs.Stored.{valuePart, Stored, stored, storedFrom}
 use Rattle.tree.specs.Address.{openPath, tripleAt}
 use Rattle.tree.specs.Matching.{inArea, inRange, letThrough, listedInArea, listedInRange}
-use Rattle.tree.specs.Selection.{selectsPath, selects, selectsListed}
+use Rattle.tree.specs.Selection.{areaSelection, rangeSelection, selectsPath, selects, selectsListed}
 use Rattle.tree.specs.declared.selection.Selection.{Selection}
 use Rattle.tree.specs.declared.stored.KeyOrder.{KeyOrder}
 use Rattle.data_model.specs.declared.«query_ignore_params».QueryIgnoreParams.{QueryIgnoreParams}
@@ -60,19 +59,9 @@ swap false true c = refl
 swap false false c = refl
 
 -- An area by the bytes of its path is the area.
-abbrev pub areaSelection : Area → QueryIgnoreParams → Selection
-areaSelection a g = record {
-  own = a .subspace;
-  subspaces = record { start = firstSubspace; end = Open };
-  times = a .times;
-  under = true;
-  «open» = true;
-  ignore = g;
-}
-
-pub area-selected : (a : Area) (g : QueryIgnoreParams) (low high : List ℕ) → low ≡ openPath (components (a .path)) → selectsListed (areaSelection a g) low high ≡ listedInArea a g
+pub area-selected : (a : Area) (g : QueryIgnoreParams) (s : Selection) → s ≡ areaSelection a g → (low high : List ℕ) → low ≡ openPath (components (a .path)) → selectsListed s low high ≡ listedInArea a g
 unfolding selectsListed selects selectsPath listedInArea inArea areaIncludes
-area-selected a g low high e = λ i x. one x i && letThrough g x
+area-selected a g s is low high e = ap (λ (y : Selection). selectsListed y low high) is ∙ (λ i x. one x i && letThrough g x)
   where
     one : (x : Stored)
         → (prefixOf sameNumber low (pathKey (x .entry .path))
@@ -103,16 +92,13 @@ paths-bytes r start end es ee p =
     ends true h = unfold beforeEnd in refl
     ends false h = unfold beforeEnd in ap isLess (ap (byBytes (pathKey p)) (h refl) ∙ path-order p (components (r .end)))
 
-abbrev pub rangeSelection : Range3d → QueryIgnoreParams → Selection
-rangeSelection r g = record { own = Any; subspaces = r .subspaces; times = r .times; under = false; «open» = r .paths .«open»; ignore = g }
-
-pub range-selected : (r : Range3d) (g : QueryIgnoreParams) (low high : List ℕ) → low ≡ pathKey (components (r .paths .start)) → (not (r .paths .«open») ≡ true → high ≡ pathKey (components (r .paths .end)))
-    → selectsListed (rangeSelection r g) low high ≡ listedInRange r g
+pub range-selected : (r : Range3d) (g : QueryIgnoreParams) (s : Selection) → s ≡ rangeSelection r g → (low high : List ℕ) → low ≡ pathKey (components (r .paths .start)) → (not (r .paths .«open») ≡ true → high ≡ pathKey (components (r .paths .end)))
+    → selectsListed s low high ≡ listedInRange r g
 unfolding selectsListed selects areaSubspace listedInRange inRange rangeIncludes
-range-selected r g low high es ee = λ i x.
+range-selected r g s is low high es ee = ap (λ (y : Selection). selectsListed y low high) is ∙ (λ i x.
     (ap (λ (b : Bool). b && (subspacesInclude (r .subspaces) (x .entry .subspace) && timesInclude (r .times) (x .entry .rank .timestamp))) (paths-bytes (r .paths) low high es ee (x .entry .path))
     ∙ swap (pathsInclude (r .paths) (x .entry .path)) (subspacesInclude (r .subspaces) (x .entry .subspace)) (timesInclude (r .times) (x .entry .rank .timestamp))) i
-    && letThrough g x
+    && letThrough g x)
 
 -- The end of a range that is open is not looked at.
 pub end-legal : (r : PathRange) → legalRange field r ≡ true → cond (not (r .«open»)) (legal field (r .end)) true ≡ true

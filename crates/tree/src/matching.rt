@@ -7,12 +7,8 @@ use crate::selection::mark_selected;
 use crate::stored::KeyOrder;
 use crate::stored::LengthyAuthorisedEntry;
 use data_model::area::Area;
-use data_model::area::AreaSubspace;
-use data_model::parameters::Subspace;
 use data_model::path::Path;
 use data_model::query_ignore_params::QueryIgnoreParams;
-use data_model::range::SubspaceEnd;
-use data_model::range::SubspaceRange;
 use data_model::range_3d::Range3d;
 use keys::encode::KEY_MOST;
 ghost use mathlib.Core.Path.{_≡_};
@@ -68,19 +64,7 @@ pub fn mark_area(
     let path = area.path;
     let mut key = [0u8; KEY_MOST];
     let n = write_path(path, &mut key) - END;
-    let own = area.subspace;
-    let times = area.times;
-    let selection = Selection {
-        own,
-        subspaces: SubspaceRange {
-            start: Subspace { high: 0, low: 0 },
-            end: SubspaceEnd::Open,
-        },
-        times,
-        under: true,
-        open: true,
-        ignore,
-    };
+    let selection = Selection::of_area(area, ignore);
     mark_selected(
         order,
         count,
@@ -114,16 +98,7 @@ pub fn mark_range(
     let n = write_path(start, &mut low);
     let mut high = [0u8; KEY_MOST];
     let m = write_path(path_if(!open, end), &mut high);
-    let subspaces = range.subspaces;
-    let times = range.times;
-    let selection = Selection {
-        own: AreaSubspace::Any,
-        subspaces,
-        times,
-        under: false,
-        open,
-        ignore,
-    };
+    let selection = Selection::of_range(range, ignore);
     let start_bytes = &low[SUBSPACE..n];
     let end_bytes = &high[SUBSPACE..m];
     mark_selected(

@@ -6,8 +6,7 @@ use crate::stored::value_at;
 use crate::value::payload_digest;
 use crate::value::payload_length;
 use data_model::answer::Ordering;
-use data_model::answer::compare_numbers;
-use data_model::checked::compare_bytes;
+use data_model::checked::compare_ranks;
 use data_model::entry::Entry;
 ghost use mathlib.Core.Path.{_≡_};
 ghost use Rattle.layout.specs.Layout.{recordAt};
@@ -15,32 +14,6 @@ ghost use Rattle.data_model.specs.Entry.{rankOf, byRank};
 ghost use Rattle.data_model.specs.Refusal.{orderingSays};
 ghost use Rattle.tree.specs.Tree.{Readable};
 ghost use Rattle.tree.specs.Address.{rankAt};
-
-// How the rank of the first three stands to that of the others.
-fn compare_ranks(
-    time: u64,
-    digest: &[u8],
-    length: u64,
-    other_time: u64,
-    other_digest: &[u8],
-    other_length: u64,
-) -> Ordering
-    ensures { λ r. ⌜ orderingSays r ≡ byRank (record { timestamp = time; «payload_digest» = now (digest .entry); «payload_length» = length }) (record { timestamp = «other_time»; «payload_digest» = now («other_digest» .entry); «payload_length» = «other_length» }) ⌝ }
-{
-    let times = compare_numbers(time, other_time);
-    match times {
-        Ordering::Less => Ordering::Less,
-        Ordering::Equal => {
-            let digests = compare_bytes(digest, other_digest);
-            match digests {
-                Ordering::Less => Ordering::Less,
-                Ordering::Equal => compare_numbers(length, other_length),
-                Ordering::Greater => Ordering::Greater,
-            }
-        }
-        Ordering::Greater => Ordering::Greater,
-    }
-}
 
 // How the rank of record j stands to that of record k.
 pub fn compare_records(order: KeyOrder, dir: &[u32], tree: &[u8], j: usize, k: usize) -> Ordering

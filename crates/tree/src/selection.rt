@@ -7,10 +7,14 @@ use crate::stored::KeyOrder;
 use crate::stored::value_at;
 use crate::value::available;
 use crate::value::payload_length;
+use data_model::area::Area;
 use data_model::area::AreaSubspace;
+use data_model::parameters::Subspace;
 use data_model::query_ignore_params::QueryIgnoreParams;
+use data_model::range::SubspaceEnd;
 use data_model::range::SubspaceRange;
 use data_model::range::TimesRange;
+use data_model::range_3d::Range3d;
 use layout::bytes::less;
 ghost use mathlib.Core.Path.{_≡_};
 ghost use mathlib.Core.List.{List};
@@ -24,7 +28,7 @@ ghost use Rattle.tree.specs.Stored.{stored, contents};
 ghost use Rattle.tree.specs.Tree.{Formed, InBounds, Readable};
 ghost use Rattle.tree.specs.Matching.{letThrough};
 ghost use Rattle.tree.specs.declared.stored.KeyOrder.{KeyOrder as AnyOrder};
-ghost use Rattle.tree.specs.Selection.{selectsPath, selects, selectsListed};
+ghost use Rattle.tree.specs.Selection.{areaSelection, rangeSelection, selectsPath, selects, selectsListed};
 
 // What is selected, but for the bytes of its paths, `low` and `high` below: subspaces that are both `own` and in `subspaces`, times, and
 // paths. `under`: paths that begin with `low`; else paths from `low` on, up to and without `high` unless the end is open.
@@ -35,6 +39,44 @@ pub struct Selection {
     pub under: bool,
     pub open: bool,
     pub ignore: QueryIgnoreParams,
+}
+
+impl Selection {
+    // What an area and flags select, but for the bytes of the area's path.
+    pub fn of_area(area: Area, ignore: QueryIgnoreParams) -> Selection
+        ensures { λ r. ⌜ r ≡ areaSelection area ignore ⌝ }
+    {
+        let own = area.subspace;
+        let times = area.times;
+        Selection {
+            own,
+            subspaces: SubspaceRange {
+                start: Subspace { high: 0, low: 0 },
+                end: SubspaceEnd::Open,
+            },
+            times,
+            under: true,
+            open: true,
+            ignore,
+        }
+    }
+
+    // What a 3d range and flags select, but for the bytes of the range's paths.
+    pub fn of_range(range: Range3d, ignore: QueryIgnoreParams) -> Selection
+        ensures { λ r. ⌜ r ≡ rangeSelection range ignore ⌝ }
+    {
+        let subspaces = range.subspaces;
+        let paths = range.paths;
+        let times = range.times;
+        Selection {
+            own: AreaSubspace::Any,
+            subspaces,
+            times,
+            under: false,
+            open: paths.open,
+            ignore,
+        }
+    }
 }
 
 // Whether the flags let record k through. Its value is read only if a flag is set.

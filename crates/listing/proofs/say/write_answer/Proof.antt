@@ -86,7 +86,7 @@ returns-4 c =
     let p = (c .before .before .before .before .before .before .before .before .before .before) in
     let w = c .before .before .write-numbered in
     let n = c .before .before .before .before .wide in
-    answer-said (p .args .answer) (numbered refusedWord (n .result)) (p .args .out .now) (w .last .1 .1 .0) (w .result) (ap answerText (c .before .before .before .before .before .before .before .answer .given .1) ∙ ap (numbered refusedWord) (sym (n .ensures))) (w .ensures .1) (w .ensures .0) (w .ensures .2)
+    answer-said (p .args .answer) (numbered refusedWord (n .result)) (p .args .out .now) (w .last .1 .1 .0) (w .result) (ap answerText (c .before .before .before .before .before .before .before .answer .given .1) ∙ ap (numbered refusedWord) (sym (n .ensures .0))) (w .ensures .1) (w .ensures .0) (w .ensures .2)
 
 pub write-answer-spec : {M : Type 1} → statement M
 write-answer-spec =

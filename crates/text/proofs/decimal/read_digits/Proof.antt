@@ -42,7 +42,7 @@ sub-if2 c = search needs
 returns-2 : tie.Need-returns-2 Inv-loop μ-loop
 returns-2 c =
     let l = c .before .before .before .before .before .before .loop in
-    value-past (l .n) _ (c .before .before .before .before .before .before .before .before .args .s .now) (l .i) (l .inv .2) (omega arith) (omega (arith, c .before .before .wide .ensures, c .before .before .before .digit-value .ensures))
+    value-past (l .n) _ (c .before .before .before .before .before .before .before .before .args .s .now) (l .i) (l .inv .2) (omega arith) (omega (arith, c .before .before .wide .ensures .0, c .before .before .before .digit-value .ensures))
 
 mul-n : tie.Need-mul-n Inv-loop μ-loop
 mul-n c = search needs
@@ -59,7 +59,7 @@ loop-less c = search needs
 loop-again : tie.Need-loop-again Inv-loop μ-loop
 loop-again c =
     let l = c .before .before .before .before .before .before .loop in
-    let e : c .before .before .wide .result ≡ digitValue (getD (c .before .before .before .before .before .before .before .before .args .s .now) (l .i) 0) = c .before .before .wide .ensures ∙ c .before .before .before .digit-value .ensures in
+    let e : c .before .before .wide .result ≡ digitValue (getD (c .before .before .before .before .before .before .before .before .args .s .now) (l .i) 0) = c .before .before .wide .ensures .0 ∙ c .before .before .before .digit-value .ensures in
     (omega arith, omega arith, l .inv .2 ∙ number-goes (l .n) (c .before .before .before .before .before .before .before .before .args .s .now) (l .i) (omega arith) ∙ rw e)
 
 returns-3 : tie.Need-returns-3 Inv-loop μ-loop

@@ -1,5 +1,5 @@
 -- `no_entry` meets its contract. Assumes nothing.
-use Rattle.text.specs.EntryLine.{noEntry}
+use Rattle.text.specs.EntryLine.{noEntryLine}
 use borrow.Author.Needs.{needs}
 use Rattle.text.proofs.entry_line.no_entry.Statement.{statement}
 use Rattle.text.proofs.entry_line.no_entry.Tie as tie
@@ -8,7 +8,7 @@ new-empty-requires : tie.Need-new-empty-requires
 new-empty-requires c κs = search needs
 
 returns : tie.Need-returns
-unfolding noEntry
+unfolding noEntryLine
 returns c = rw (c .new-empty .ensures)
 
 pub no-entry-spec : {M : Type 1} → statement M

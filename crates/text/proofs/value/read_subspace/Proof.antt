@@ -34,7 +34,7 @@ returns-2 : tie.Need-returns-2
 returns-2 c =
     let h = sym (c .before .before .before .before .before .before .is-hex .ensures) ∙ not-false _ (c .before .before .before .before .before .if1 .left) in
     let e = filled (c .before .before .before .before .before .before .before .before .args .s .now) h 1 _ (c .before .before .write-bytes-of .last .1 .0) (c .before .before .before .before .if2 .taken) refl (c .before .before .write-bytes-of .ensures .1) in
-    subspace-one (c .before .before .before .before .before .before .before .before .args .s .now) h _ (c .before .before .before .before .if2 .taken) (c .wide .ensures ∙ ap (λ (l : List ℕ). getD l 0 0) e)
+    subspace-one (c .before .before .before .before .before .before .before .before .args .s .now) h _ (c .before .before .before .before .if2 .taken) (c .wide .ensures .0 ∙ ap (λ (l : List ℕ). getD l 0 0) e)
 
 slice-aggregate-write-bytes-of-2 : tie.Need-slice-aggregate-write-bytes-of-2
 slice-aggregate-write-bytes-of-2 c = search needs

@@ -24,6 +24,9 @@ write-path-requires c κs = search needs
 sub-n : tie.Need-sub-n
 sub-n c = search needs
 
+of-area-requires : tie.Need-of-area-requires
+of-area-requires c κs = search needs
+
 sub-mark-selected : tie.Need-sub-mark-selected
 sub-mark-selected c = search needs
 
@@ -46,9 +49,10 @@ returns : tie.Need-returns
 returns c = λ ns.
     let a = c .before .before .before .before .before .before .before .before .before .before .before .before .before .before .before .args in
     let w = c .before .before .before .before .before .before .before .before .before .write-path in
+    let s = c .before .before .before .before .before .before .before .of-area in
     c .before .before .mark-selected .ensures ns
     ∙ ap (λ (p : Stored → Bool). put (marksOf p (contents (a .order) field ns (records (a .count) (a .dir .now) (a .tree .now)))) (a .marks .now))
-    (area-selected (a .area) (a .ignore) _ _ (front-path (components (a .area .path)) (w .last .1 .0) (w .result) (w .result - 2) (w .ensures .2) (omega (arith, w .ensures .1, w .kept .1 .0, length-replicate {A = ℕ} 298 0)) (w .ensures .0) refl))
+    (area-selected (a .area) (a .ignore) _ (s .ensures) _ _ (front-path (components (a .area .path)) (w .last .1 .0) (w .result) (w .result - 2) (w .ensures .2) (omega (arith, w .ensures .1, w .kept .1 .0, length-replicate {A = ℕ} 298 0)) (w .ensures .0) refl))
 
 pub mark-area-spec : {M : Type 1} → statement M
 mark-area-spec =
@@ -57,6 +61,7 @@ mark-area-spec =
     slice-aggregate-write-path
     write-path-requires
     sub-n
+    of-area-requires
     sub-mark-selected
     part-mark-selected-start
     part-mark-selected-end

@@ -28,6 +28,9 @@ slice-aggregate-write-path-2 c = search needs
 write-path-requires-2 : tie.Need-write-path-requires-2
 write-path-requires-2 c κs = search needs
 
+of-range-requires : tie.Need-of-range-requires
+of-range-requires c κs = search needs
+
 sub-start-bytes : tie.Need-sub-start-bytes
 sub-start-bytes c = search needs
 
@@ -47,20 +50,21 @@ part-end-bytes-end : tie.Need-part-end-bytes-end
 part-end-bytes-end c = search needs
 
 mark-selected-requires : tie.Need-mark-selected-requires
-mark-selected-requires c κs = search needs
+mark-selected-requires c κs = let p = c .before .before .before .before .before .before .before .before .before .before .before .before .before .before .before .before .before .before .before .pre in (p .0, p .1)
 
 same-length : tie.Need-same-length
 same-length c = search needs
 
 returns : tie.Need-returns
 returns c = λ ns.
-    let a = c .before .before .before .before .before .before .before .before .before .before .before .before .before .before .before .before .before .before .before .before .before .before .before .args in
-    let w = c .before .before .before .before .before .before .before .before .before .before .before .before .before .before .before .write-path in
-    let q = c .before .before .before .before .before .before .before .before .before .before .before .before .before .path-if in
-    let v = c .before .before .before .before .before .before .before .before .before .before .before .write-path2 in
+    let a = c .before .before .before .before .before .before .before .before .before .before .before .before .before .before .before .before .before .before .before .before .before .before .args in
+    let w = c .before .before .before .before .before .before .before .before .before .before .before .before .before .before .write-path in
+    let q = c .before .before .before .before .before .before .before .before .before .before .before .before .path-if in
+    let v = c .before .before .before .before .before .before .before .before .before .before .write-path2 in
+    let s = c .before .before .before .before .before .before .before .before .of-range in
     c .before .before .mark-selected .ensures ns
     ∙ ap (λ (p : Stored → Bool). put (marksOf p (contents (a .order) field ns (records (a .count) (a .dir .now) (a .tree .now)))) (a .marks .now))
-    (range-selected (a .range) (a .ignore) _ _ (w .ensures .2) (λ e. v .ensures .2 ∙ ap (λ (x : Path). pathKey (components x)) (q .ensures .1 e)))
+    (range-selected (a .range) (a .ignore) _ (s .ensures) _ _ (w .ensures .2) (λ e. v .ensures .2 ∙ ap (λ (x : Path). pathKey (components x)) (q .ensures .1 e)))
 
 pub mark-range-spec : {M : Type 1} → statement M
 mark-range-spec =
@@ -71,6 +75,7 @@ mark-range-spec =
     path-if-requires
     slice-aggregate-write-path-2
     write-path-requires-2
+    of-range-requires
     sub-start-bytes
     part-start-bytes-start
     part-start-bytes-end

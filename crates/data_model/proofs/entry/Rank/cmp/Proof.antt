@@ -1,82 +1,25 @@
 -- `cmp` meets its contract. Assumes nothing.
-use mathlib.Core.Path.{sym, _∙_}
-use Rattle.laws.proofs.Order.{then-less, then-same, then-greater}
-use Rattle.data_model.specs.Entry.{byRank}
-use Rattle.data_model.proofs.Answers.{ordered-less, ordered-same, ordered-greater, answers-less, answers-greater}
 use borrow.Author.Needs.{needs}
 use Rattle.data_model.proofs.entry.Rank.cmp.Statement.{statement}
 use Rattle.data_model.proofs.entry.Rank.cmp.Tie as tie
 
-compare-numbers-requires : tie.Need-compare-numbers-requires
-compare-numbers-requires c κs = search needs
+slice-aggregate-compare-ranks : tie.Need-slice-aggregate-compare-ranks
+slice-aggregate-compare-ranks c = search needs
 
-enum-told : tie.Need-enum-told
-enum-told c = search needs
+slice-aggregate-compare-ranks-2 : tie.Need-slice-aggregate-compare-ranks-2
+slice-aggregate-compare-ranks-2 c = search needs
 
-enum-told-2 : tie.Need-enum-told-2
-enum-told-2 c = search needs
-
-slice-aggregate-compare-bytes : tie.Need-slice-aggregate-compare-bytes
-slice-aggregate-compare-bytes c = search needs
-
-slice-aggregate-compare-bytes-2 : tie.Need-slice-aggregate-compare-bytes-2
-slice-aggregate-compare-bytes-2 c = search needs
-
-compare-bytes-requires : tie.Need-compare-bytes-requires
-compare-bytes-requires c κs = search needs
-
-enum-told-3 : tie.Need-enum-told-3
-enum-told-3 c = search needs
-
-enum-told-4 : tie.Need-enum-told-4
-enum-told-4 c = search needs
-
-compare-numbers-requires-2 : tie.Need-compare-numbers-requires-2
-compare-numbers-requires-2 c κs = search needs
-
-enum-told-5 : tie.Need-enum-told-5
-enum-told-5 c = search needs
-
-enum-told-6 : tie.Need-enum-told-6
-enum-told-6 c = search needs
+compare-ranks-requires : tie.Need-compare-ranks-requires
+compare-ranks-requires c κs = search needs
 
 returns : tie.Need-returns
-unfolding byRank
-returns c = answers-less _ (then-less _ _ (ordered-less _ _ (c .before .before .compare-numbers .ensures) (c .enum-told .given .1)))
-
-returns-2 : tie.Need-returns-2
-unfolding byRank
-returns-2 c = answers-less _ (then-same _ _ (ordered-same _ _ (c .before .before .before .before .before .before .before .before .before .compare-numbers .ensures) (c .before .before .before .before .before .before .before .enum-told2 .given .1)) ∙ then-less _ _ (ordered-less _ _ (c .before .before .compare-bytes .ensures) (c .enum-told3 .given .1)))
-
-returns-3 : tie.Need-returns-3
-unfolding byRank
-returns-3 c = c .compare-numbers2 .ensures ∙ sym (then-same _ _ (ordered-same _ _ (c .before .before .before .before .before .before .before .before .before .before .compare-numbers .ensures) (c .before .before .before .before .before .before .before .before .enum-told2 .given .1)) ∙ then-same _ _ (ordered-same _ _ (c .before .before .before .compare-bytes .ensures) (c .before .enum-told4 .given .1)))
-
-returns-4 : tie.Need-returns-4
-unfolding byRank
-returns-4 c = answers-greater _ (then-same _ _ (ordered-same _ _ (c .before .before .before .before .before .before .before .before .before .compare-numbers .ensures) (c .before .before .before .before .before .before .before .enum-told2 .given .1)) ∙ then-greater _ _ (ordered-greater _ _ (c .before .before .compare-bytes .ensures) (c .enum-told5 .given .1)))
-
-returns-5 : tie.Need-returns-5
-unfolding byRank
-returns-5 c = answers-greater _ (then-greater _ _ (ordered-greater _ _ (c .before .before .compare-numbers .ensures) (c .enum-told6 .given .1)))
+returns c = c .compare-ranks .ensures
 
 pub cmp-spec : {M : Type 1} → statement M
 cmp-spec =
     tie.close
     (tie.spec
-    compare-numbers-requires
-    enum-told
-    enum-told-2
-    slice-aggregate-compare-bytes
-    slice-aggregate-compare-bytes-2
-    compare-bytes-requires
-    enum-told-3
-    enum-told-4
-    compare-numbers-requires-2
-    enum-told-5
-    enum-told-6
-    returns
-    returns-2
-    returns-3
-    returns-4
-    returns-5)
+    slice-aggregate-compare-ranks
+    slice-aggregate-compare-ranks-2
+    compare-ranks-requires
+    returns)

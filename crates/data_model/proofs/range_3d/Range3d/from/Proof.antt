@@ -18,12 +18,12 @@ returns : tie.Need-returns
 unfolding areaRangeAnswer areaRange
 returns c = rw (sym (c .before .before .before .before .is-legal .ensures) ∙ c .before .before .before .if1 .taken, c .before .before .subspaces-of .ensures, c .before .paths-of .ensures)
 
-refused-range-requires : tie.Need-refused-range-requires
-refused-range-requires c κs = search needs
+empty-requires : tie.Need-empty-requires
+empty-requires c κs = search needs
 
 returns-2 : tie.Need-returns-2
 unfolding areaRangeAnswer
-returns-2 c = rw (sym (c .before .before .is-legal .ensures) ∙ c .before .if1 .left) (c .refused-range .ensures)
+returns-2 c = rw (sym (c .before .before .is-legal .ensures) ∙ c .before .if1 .left, c .empty .ensures)
 
 pub from-spec : {M : Type 1} → statement M
 from-spec =
@@ -33,5 +33,5 @@ from-spec =
     subspaces-of-requires
     paths-of-requires
     returns
-    refused-range-requires
+    empty-requires
     returns-2)

@@ -1,11 +1,11 @@
 -- `compare_ranks` meets its contract. Assumes nothing.
-use mathlib.Core.Path.{sym, ap, _∙_}
+use mathlib.Core.Path.{sym, _∙_}
 use Rattle.laws.proofs.Order.{then-less, then-same, then-greater}
 use Rattle.data_model.specs.Entry.{byRank}
 use Rattle.data_model.proofs.Answers.{ordered-less, ordered-same, ordered-greater, answers-less, answers-greater}
 use borrow.Author.Needs.{needs}
-use Rattle.tree.proofs.rank.compare_ranks.Statement.{statement}
-use Rattle.tree.proofs.rank.compare_ranks.Tie as tie
+use Rattle.data_model.proofs.checked.compare_ranks.Statement.{statement}
+use Rattle.data_model.proofs.checked.compare_ranks.Tie as tie
 
 compare-numbers-requires : tie.Need-compare-numbers-requires
 compare-numbers-requires c κs = search needs
