@@ -100,15 +100,7 @@ pub fn carry_out(
     let e = read_line(line);
     let outcome = e.outcome;
     if let Outcome::Good = outcome {
-        let given = ingest_entry_numbers(
-            state,
-            spt,
-            spt_dir,
-            tsp,
-            tsp_dir,
-            prune,
-            ingestion_of(e),
-        );
+        let given = ingest_entry_numbers(state, spt, spt_dir, tsp, tsp_dir, prune, ingestion_of(e));
         let verdict = given.verdict;
         let after = given.state;
         return Carried {

@@ -61,15 +61,7 @@ pub extern "C" fn vb_ingest_entry_numbers(
     ensures { λ r. ⌜ numbersLeft r (now (spt .exit)) (now («spt_dir» .exit)) (now (tsp .exit)) (now («tsp_dir» .exit)) (now (prune .exit)) ≡ toldNumbers (ingested field (storeOf state (now (spt .entry)) (now («spt_dir» .entry)) (now (tsp .entry)) (now («tsp_dir» .entry))) (now (prune .entry)) (ingestionOf entry (now (token .entry)) «prevent_pruning»)) ⌝ }
 {
     let ingestion = ingestion_of(entry, *token, prevent_pruning);
-    let given = ingest_entry_numbers(
-        state,
-        spt,
-        spt_dir,
-        tsp,
-        tsp_dir,
-        prune,
-        ingestion,
-    );
+    let given = ingest_entry_numbers(state, spt, spt_dir, tsp, tsp_dir, prune, ingestion);
     plain_ingested(given)
 }
 
@@ -90,15 +82,7 @@ pub extern "C" fn vb_ingest_entry_by_value(
 {
     let ingestion = ingestion_of(entry, *token, prevent_pruning);
     let pairs = prune.pairs;
-    let given = ingest_entry_by_value(
-        state,
-        spt,
-        spt_dir,
-        tsp,
-        tsp_dir,
-        pairs,
-        ingestion,
-    );
+    let given = ingest_entry_by_value(state, spt, spt_dir, tsp, tsp_dir, pairs, ingestion);
     plain_numbers(given)
 }
 

@@ -31,15 +31,7 @@ pub extern "C" fn vb_ingest_entry(
     ensures { λ r. ⌜ pairsLeft r (now (spt .exit)) (now («spt_dir» .exit)) (now (tsp .exit)) (now («tsp_dir» .exit)) (map pairOf (now (prune .exit))) ≡ toldPairs (pairsIngested field (storeOf state (now (spt .entry)) (now («spt_dir» .entry)) (now (tsp .entry)) (now («tsp_dir» .entry))) (map pairOf (now (prune .entry))) (ingestionOf entry (now (token .entry)) «prevent_pruning»)) ⌝ }
 {
     let ingestion = ingestion_of(entry, *token, prevent_pruning);
-    let r = ingest_with_room(
-        state,
-        spt,
-        spt_dir,
-        tsp,
-        tsp_dir,
-        prune.len(),
-        ingestion,
-    );
+    let r = ingest_with_room(state, spt, spt_dir, tsp, tsp_dir, prune.len(), ingestion);
     let numbers = r.numbers;
     let ingested = r.ingested;
     write_rows(numbers, prune, r.count);
