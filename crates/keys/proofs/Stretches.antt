@@ -155,8 +155,8 @@ module _ (mcl room most end : ℕ) (k : List ℕ) (T : Bool) where
       (walked-ends at m n e (omega arith) (y .0) h)
 
 -- The loop over the stretches.
-pub record Showing (mcl room most : ℕ) (k : List ℕ) (T : Bool) (stop at len n e : ℕ) : Type 0 where
-  pub upto : at ≤ stop
+pub record Showing (mcl room most : ℕ) (k : List ℕ) (T : Bool) (stop at left len n e : ℕ) : Type 0 where
+  pub upto : at + left ≡ stop
   pub few-len : len ≤ at
   pub few-others : n ≤ at
   pub few-ends : e ≤ at
@@ -165,7 +165,7 @@ pub record Showing (mcl room most : ℕ) (k : List ℕ) (T : Bool) (stop at len 
   pub long : m ≤ len
 
 module _ (mcl room most : ℕ) (k : List ℕ) (T : Bool) (stop : ℕ) where
-  pub showing-start : T ≡ takes (stop + 4) (readComponents mcl room most k) → Showing mcl room most k T stop 0 0 0 0
+  pub showing-start : T ≡ takes (stop + 4) (readComponents mcl room most k) → Showing mcl room most k T stop 0 stop 0 0 0
   showing-start q = record {
     upto = omega arith;
     few-len = omega arith;
@@ -177,20 +177,20 @@ module _ (mcl room most : ℕ) (k : List ℕ) (T : Bool) (stop : ℕ) where
   }
 
   -- What a stretch more gives.
-  more-stood : (at len n e w : ℕ) (t : Counts) (h : Showing mcl room most k T stop at len n e) → Counted w at k t → t .sound ≡ true → len + t .others ≤ mcl → at + w < length k
+  more-stood : (at left len n e w : ℕ) (t : Counts) (h : Showing mcl room most k T stop at left len n e) → Counted w at k t → t .sound ≡ true → len + t .others ≤ mcl → at + w < length k
       → Stood mcl room most (stop + 4) k T (at + w) (h .m) (t .others) (t .ends) (n + t .others) (e + t .ends)
-  more-stood at len n e w t h q s f l =
+  more-stood at left len n e w t h q s f l =
       let a = ap (λ (t : Counts). t .others) q in
       let b = ap (λ (t : Counts). t .ends) q in
       rw (a, b) (stretch mcl room most (stop + 4) k T w at (h .m) n e l (sym (ap (λ (t : Counts). t .sound) q) ∙ s) (omega (arith, a, h .long)) (h .walked))
 
-  pub showing-turn : (at len n e w x : ℕ) (t : Counts) → Showing mcl room most k T stop at len n e → Counted w at k t → t .sound ≡ true → len + t .others ≤ mcl → at + w ≤ stop
-      → stop < length k → x ≡ kept len (t .ends) → Showing mcl room most k T stop (at + w) (x + t .others) (n + t .others) (e + t .ends)
-  showing-turn at len n e w x t h q s f g l y =
-      let r = more-stood at len n e w t h q s f (omega arith) in
+  pub showing-turn : (at left len n e w x : ℕ) (t : Counts) → Showing mcl room most k T stop at left len n e → Counted w at k t → t .sound ≡ true → len + t .others ≤ mcl → w ≤ left
+      → stop < length k → x ≡ kept len (t .ends) → Showing mcl room most k T stop (at + w) (left - w) (x + t .others) (n + t .others) (e + t .ends)
+  showing-turn at left len n e w x t h q s f g l y =
+      let r = more-stood at left len n e w t h q s f (omega (arith, h .upto)) in
       let d = counts-few w at k t q in
       record {
-        upto = omega arith;
+        upto = omega (arith, h .upto);
         few-len = omega (arith, h .few-len, kept-least len (t .ends), d .0);
         few-others = omega (arith, h .few-others, d .0);
         few-ends = omega (arith, h .few-ends, d .1);
@@ -202,24 +202,23 @@ module _ (mcl room most : ℕ) (k : List ℕ) (T : Bool) (stop : ℕ) where
             (λ z. omega (arith, r .lower (eqb-false (t .ends) 0 z)));
       }
 
-  pub showing-ends : (at len n e w : ℕ) (t : Counts) → Showing mcl room most k T stop at len n e → Counted w at k t → t .sound ≡ true → len + t .others ≤ mcl
-      → t .ends ≡ 0 → at + w + 2 ≤ stop → stop < length k → ended (at + w) k ≡ true → Showing mcl room most k T stop (at + (w + 2)) 0 (n + (t .others + 1)) (e + 1)
-  showing-ends at len n e w t h q s f o g l z =
-      let r = more-stood at len n e w t h q s f (omega arith) in
+  pub showing-ends : (at left len n e w : ℕ) (t : Counts) → Showing mcl room most k T stop at left len n e → Counted w at k t → t .sound ≡ true → len + t .others ≤ mcl
+      → t .ends ≡ 0 → w + 2 ≤ left → stop < length k → ended (at + w) k ≡ true → Showing mcl room most k T stop (at + (w + 2)) (left - (w + 2)) 0 (n + (t .others + 1)) (e + 1)
+  showing-ends at left len n e w t h q s f o g l z =
+      let r = more-stood at left len n e w t h q s f (omega (arith, h .upto)) in
       let d = counts-few w at k t q in
       record {
-        upto = omega arith;
+        upto = omega (arith, h .upto);
         few-len = omega arith;
         few-others = omega (arith, h .few-others, d .0);
         few-ends = omega (arith, h .few-ends, d .1);
         m = 0;
-        walked = moved mcl room most (stop + 4) k T (at + w + 2) 0 (n + t .others + 1) (e + t .ends + 1) _ _ _ (omega arith) (omega arith) (omega arith) (walked-ends mcl room most (stop + 4) k T (at + w) (r .now) (n + t .others) (e + t .ends) (omega arith) z (r .walked));
+        walked = moved mcl room most (stop + 4) k T (at + w + 2) 0 (n + t .others + 1) (e + t .ends + 1) _ _ _ (omega arith) (omega arith) (omega arith) (walked-ends mcl room most (stop + 4) k T (at + w) (r .now) (n + t .others) (e + t .ends) (omega (arith, h .upto)) z (r .walked));
         long = omega arith;
       }
 
-  pub showing-closes : (at len n e : ℕ) (t : Counts) → Showing mcl room most k T stop at len n e → Counted (stop - at) at k t → t .sound ≡ true → len + t .others ≤ mcl
+  pub showing-closes : (at left len n e : ℕ) (t : Counts) → Showing mcl room most k T stop at left len n e → Counted left at k t → t .sound ≡ true → len + t .others ≤ mcl
       → stop + 4 ≤ length k → e + t .ends < most → n + t .others ≤ room + (e + t .ends) → closed stop k ≡ true → T ≡ true
-  showing-closes at len n e t h q s f l c b z =
-      let i : at + (stop - at) ≡ stop = omega (arith, h .upto) in
-      let r = more-stood at len n e (stop - at) t h q s f (omega (arith, h .upto)) in
-      walked-closes mcl room most (stop + 4) k T stop (r .now) (n + t .others) (e + t .ends) l refl z b c (subst (λ (i : ℕ). Walked mcl room most (stop + 4) k T i (r .now) (n + t .others) (e + t .ends)) i (r .walked))
+  showing-closes at left len n e t h q s f l c b z =
+      let r = more-stood at left len n e left t h q s f (omega (arith, h .upto)) in
+      walked-closes mcl room most (stop + 4) k T stop (r .now) (n + t .others) (e + t .ends) l refl z b c (subst (λ (i : ℕ). Walked mcl room most (stop + 4) k T i (r .now) (n + t .others) (e + t .ends)) (h .upto) (r .walked))

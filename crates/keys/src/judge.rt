@@ -15,6 +15,9 @@ ghost use Rattle.data_model.specs.Path.{field};
 ghost use Rattle.keys.specs.Decode.{readPath, readSpt, readTsp, wasRead};
 ghost use Rattle.keys.specs.Judge.{takes, fills, bit, marked, ended, closed, sound, others, endings, kept};
 
+// How many bytes are counted at once.
+const STRETCH: usize = 32;
+
 // Of a stretch of bytes: whether each 00 stands before a 01 or a 02, how many bytes are not 00, and how many 00 stand before a 01.
 struct Counts {
     sound: bool,
@@ -98,9 +101,10 @@ fn to_end(k: &[u8], at: usize, w: usize) -> usize
     j
 }
 
-// Whether the first n bytes are a path, in stretches of 32. Where each 00 stands before a 01 or a 02 it begins a token, so the bytes that are not
+// Whether the first n bytes are a path, in stretches. Where each 00 stands before a 01 or a 02 it begins a token, so the bytes that are not
 // 00, less a 01 for each end, are those of the components. A component counts with the whole of the stretch in which it begins, and
-// with the whole of the last one: a path with a component of 32 bytes or more may be missed.
+// with the whole of the last one: a path with a component of 32 bytes or more may be missed. So that few are, what follows a component that has
+// counted for a stretch already is not counted with its end: it may be as long, and a path has room for few such components.
 fn shows_path(k: &[u8], n: usize) -> bool
     requires { ⌜ n ≤ length (now k) ⌝ }
     ensures { λ r. ⌜ (r ≡ true → takes n (readPath field (now (k .entry))) ≡ true) ⌝ }
@@ -113,16 +117,19 @@ fn shows_path(k: &[u8], n: usize) -> bool
     let mut len: usize = 0;
     let mut others: usize = 0;
     let mut ends: usize = 0;
-    while 32 <= stop - at {
-        let c = counts_of(k, at, 32);
-        if passes(c.sound, len + c.others) {
-            len = count_on(len, c.ends) + c.others;
+    let mut left = stop;
+    while STRETCH <= left {
+        let c = counts_of(k, at, STRETCH);
+        let on = count_on(len, c.ends);
+        if passes(c.sound, len + c.others) & (len < on + STRETCH) {
+            len = on + c.others;
             others += c.others;
             ends += c.ends;
-            at += 32;
+            at += STRETCH;
+            left -= STRETCH;
         } else {
             // Up to where the component ends, and no further.
-            let w = to_end(k, at, 30);
+            let w = to_end(k, at, STRETCH - 2);
             let d = counts_of(k, at, w);
             if !(passes(d.sound, len + d.others) & has_mark(k, at + w, COMPONENT_END)) {
                 return false;
@@ -131,9 +138,10 @@ fn shows_path(k: &[u8], n: usize) -> bool
             others += d.others + 1;
             ends += 1;
             at += w + 2;
+            left -= w + 2;
         }
     }
-    let c = counts_of(k, at, stop - at);
+    let c = counts_of(k, at, left);
     others += c.others;
     ends += c.ends;
     passes(c.sound, len + c.others) & (ends < MCC) & (others <= MPL + ends) & closes(k, stop)
@@ -149,7 +157,7 @@ fn is_path_to(k: &[u8], stop: usize) -> bool
     let mut total: usize = 0;
     let mut ends: usize = 0;
     while at < stop {
-        let w = lesser(32, stop - at);
+        let w = lesser(STRETCH, stop - at);
         let c = counts_of(k, at, w);
         if c.ends == 0 {
             if !passes(c.sound, len + c.others) {
