@@ -15,7 +15,7 @@ use Rattle.data_model.specs.Path.{field}
 use Rattle.key_laws.specs.Bytes.{Bytes}
 use Rattle.tree.specs.Stored.{contents}
 use Rattle.tree.specs.Tree.{wellFormed, Formed, Ordered, Whole, within}
-use Rattle.tree.specs.Apart.{noPlaceTwice, nonePrunes}
+use Rattle.tree.specs.Apart.{noAddressTwice, nonePrunes}
 use Rattle.tree.specs.declared.stored.KeyOrder.{KeyOrder}
 use Rattle.tree.specs.declared.stored.KeyOrder.the-variants.{Spt, Tsp}
 use Rattle.tree.proofs.FormedLaws.{well-formed-tree, well-ordered, well-whole}
@@ -122,17 +122,17 @@ pub record Passed (s : Store) : Type 0 where
   pub ordered : (o : KeyOrder) → Ordered o (s .state .count) (dirOf o s) (treeOf field o s)
   pub whole : (o : KeyOrder) → Whole o (s .state .count) (dirOf o s) (treeOf field o s)
   pub same : sameEntries (held field Spt s) (held field Tsp s) ≡ true
-  pub once : noPlaceTwice (held field Spt s) ≡ true
+  pub once : noAddressTwice (held field Spt s) ≡ true
   pub apart : nonePrunes (held field Spt s) ≡ true
 
 module _ (s : Store) where
   well-parts : wellFormedStore field s ≡ true
       → (s .state .count ≤ s .state .limit) × (wellFormedTree field Spt s ≡ true) × (wellFormedTree field Tsp s ≡ true)
-      × (sameEntries (held field Spt s) (held field Tsp s) ≡ true) × (noPlaceTwice (held field Spt s) ≡ true) × (nonePrunes (held field Spt s) ≡ true)
+      × (sameEntries (held field Spt s) (held field Tsp s) ≡ true) × (noAddressTwice (held field Spt s) ≡ true) × (nonePrunes (held field Spt s) ≡ true)
   unfolding wellFormedStore
   well-parts w =
       let e = sameEntries (held field Spt s) (held field Tsp s) in
-      let d = noPlaceTwice (held field Spt s) in
+      let d = noAddressTwice (held field Spt s) in
       let p = nonePrunes (held field Spt s) in
       let k1 = and-true (leb (s .state .count) (s .state .limit)) (wellFormedTree field Spt s && (wellFormedTree field Tsp s && (e && (d && p)))) w in
       let k2 = and-true (wellFormedTree field Spt s) (wellFormedTree field Tsp s && (e && (d && p))) (k1 .1) in

@@ -27,7 +27,7 @@ use Rattle.store.specs.Ingest.{placeDecided, removedFrom, outdatedAt, ve
 use Rattle.store.specs.declared.state.State.{State}
 use Rattle.store.specs.declared.ingest.Ingested.{Ingested}
 use Rattle.store.specs.declared.ingest.IngestVerdict.the-variants as verdict
-use Rattle.store.specs.declared.ingest.PlaceDecision.the-variants as place
+use Rattle.store.specs.declared.decide.PlaceDecision.the-variants as place
 
 -- The marks of a list at the front of a buffer.
 module _ {A : Type 0} (p : A → Bool) (l : List A) (n : ℕ) (many : length l ≡ n) (marks old : List ℕ) (e : marks ≡ put (marksOf p l) old) where

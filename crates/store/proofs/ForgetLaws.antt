@@ -27,7 +27,7 @@ use Rattle.data_model.specs.declared.area.Area.{Area}
 use Rattle.data_model.proofs.Orders.{path-equality, subspace-equality}
 use Rattle.tree.specs.Stored.{Stored, stored, storedOf}
 use Rattle.tree.specs.Tree.{Formed}
-use Rattle.tree.specs.Apart.{samePlace, noPlaceTwice}
+use Rattle.tree.specs.Apart.{sameAddress, noAddressTwice}
 use Rattle.tree.specs.Matching.{standsAt, isForgotten}
 use Rattle.tree.specs.declared.stored.KeyOrder.the-variants.{Spt, Tsp}
 use Rattle.tree.specs.declared.stored.LengthyAuthorisedEntry.{LengthyAuthorisedEntry}
@@ -53,20 +53,20 @@ module _ (s : Subspace) (p : Components) where
       let k = and-true (sameSubspace (x .entry .subspace) s) (samePath (x .entry .path) p) e in
       (subspace-equality .equal (x .entry .subspace) s (k .0), path-equality .equal (x .entry .path) p (k .1))
 
-  both-there : (x y : Stored) → standsAt s p x ≡ true → standsAt s p y ≡ true → samePlace (x .entry) (y .entry) ≡ true
-  unfolding samePlace
+  both-there : (x y : Stored) → standsAt s p x ≡ true → standsAt s p y ≡ true → sameAddress (x .entry) (y .entry) ≡ true
+  unfolding sameAddress
   both-there x y e f =
       let a = place-view x e in
       let b = place-view y f in
       rw (a .0, a .1, b .0, b .1) (ap₂ _&&_ (subspace-equality .self s) (path-equality .self p))
 
-  pub only-one : (l : List Stored) → noPlaceTwice l ≡ true → (x y : Stored) → x ∈ l → y ∈ l → standsAt s p x ≡ true → standsAt s p y ≡ true → x ≡ y
-  unfolding noPlaceTwice
+  pub only-one : (l : List Stored) → noAddressTwice l ≡ true → (x y : Stored) → x ∈ l → y ∈ l → standsAt s p x ≡ true → standsAt s p y ≡ true → x ≡ y
+  unfolding noAddressTwice
   only-one [] h x y m n e f = absurd (none-in m)
   only-one (a ∷ l) h x y m n e f =
-      let k = and-true (all (λ (b : Stored). not (samePlace (a .entry) (b .entry))) l) (noPlaceTwice l) h in
+      let k = and-true (all (λ (b : Stored). not (sameAddress (a .entry) (b .entry))) l) (noAddressTwice l) h in
       let apart : (z : Stored) → z ∈ l → standsAt s p a ≡ true → standsAt s p z ≡ true → ⊥
-      = λ z w g i. clash {b = not (samePlace (a .entry) (z .entry))} (all-view (λ (b : Stored). not (samePlace (a .entry) (b .entry))) l (k .0) w) (ap not (both-there a z g i)) in
+      = λ z w g i. clash {b = not (sameAddress (a .entry) (z .entry))} (all-view (λ (b : Stored). not (sameAddress (a .entry) (b .entry))) l (k .0) w) (ap not (both-there a z g i)) in
       ⊎-elim
       (λ q. ⊎-elim (λ r. q ∙ sym r) (λ r. absurd (apart y r (ap (standsAt s p) (sym q) ∙ e) f)) (uncons n))
       (λ q. ⊎-elim (λ r. absurd (apart x q (ap (standsAt s p) (sym r) ∙ f) e)) (λ r. only-one l (k .1) x y q r e f) (uncons n))
@@ -80,7 +80,7 @@ module _ (s : Subspace) (p : Components) where
         let a = and-true (standsAt s p (k .0)) (not (sameList sameNumber (k .0 .entry .rank .«payload_digest») digest)) (k .2) in
         clash (a .0) (any-none (standsAt s p) l h (k .1)))
 
-    pub one-unexpected : noPlaceTwice l ≡ true → (x : Stored) → x ∈ l → standsAt s p x ≡ true
+    pub one-unexpected : noAddressTwice l ≡ true → (x : Stored) → x ∈ l → standsAt s p x ≡ true
         → not (sameList sameNumber (x .entry .rank .«payload_digest») digest) ≡ any (unexpected s p true digest) l
     unfolding unexpected
     one-unexpected h x m e = alike (not (sameList sameNumber (x .entry .rank .«payload_digest») digest)) (any (unexpected s p true digest) l)
@@ -108,7 +108,7 @@ module _ {count : ℕ} {dir tree : List ℕ} (v : Formed Spt count dir tree) (ns
       let f : standsAt s p (getD l (firstMark (marksOf (standsAt s p) l)) x) ≡ true = first-holds (standsAt s p) l x (omega (arith, at-first, formed-many v ns)) in
       ap (standsAt s p) (sym g) ∙ ap (λ (j : ℕ). standsAt s p (getD l j x)) at-first ∙ f
 
-  pub digest-there : noPlaceTwice (inTree Spt ns count dir tree) ≡ true → k < count → (a : LengthyAuthorisedEntry) → storedOf a ≡ stored Spt field ns (recordAt k dir tree)
+  pub digest-there : noAddressTwice (inTree Spt ns count dir tree) ≡ true → k < count → (a : LengthyAuthorisedEntry) → storedOf a ≡ stored Spt field ns (recordAt k dir tree)
       → (t : Bool) → t ≡ sameList sameNumber (a .entry .«payload_digest») digest → not t ≡ any (unexpected s p true digest) (inTree Spt ns count dir tree)
   unfolding storedOf entryOf rankOf
   digest-there once h a q t e =

@@ -33,8 +33,8 @@ use Rattle.store.specs.Ingest.{succeeds, is-obsolete, IngestSaid, Decisi
 use Rattle.store.specs.Change.{Marked}
 use Rattle.store.specs.declared.state.State.{State}
 use Rattle.store.specs.declared.ingest.Ingestion.{Ingestion}
-use Rattle.store.specs.declared.ingest.PlaceDecision.{PlaceDecision}
-use Rattle.store.specs.declared.ingest.PlaceDecision.the-variants as place
+use Rattle.store.specs.declared.decide.PlaceDecision.{PlaceDecision}
+use Rattle.store.specs.declared.decide.PlaceDecision.the-variants as place
 use Rattle.store.proofs.CheckLaws.{or-none, unless-none, Passed, passed}
 use Rattle.store.proofs.Counted.{insert-length}
 

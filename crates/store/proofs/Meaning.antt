@@ -22,7 +22,7 @@ use Rattle.data_model.proofs.Orders.{path-linear, subspace-linear, component-eq
 use Rattle.key_laws.specs.KeyOrder.{sptOrder, tspOrder}
 use Rattle.key_laws.proofs.EntryLaws.{covers-make, prunes-make, prunes-irrefl, entries}
 use Rattle.tree.specs.Stored.{Stored, tripleOf}
-use Rattle.tree.specs.Apart.{samePlace, noPlaceTwice, nonePrunes}
+use Rattle.tree.specs.Apart.{sameAddress, noAddressTwice, nonePrunes}
 use Rattle.tree.specs.Matching.{removes}
 use Rattle.tree.proofs.WalkLaws.{place-view}
 use Rattle.store.specs.Store.{Held}
@@ -196,14 +196,14 @@ later-newer a b e k =
 pub never-beside : (a b : Stored) → sptLess a b ≡ true → prunes (b .entry) (a .entry) ≡ false → Beside a b → ⊥
 never-beside a b l h w = clash (prunes-make (b .entry) (a .entry) (beside-covers b a (beside-flip w)) (later-newer a b l w)) h
 
-places-apart : (a b : Stored) → sptLess a b ≡ true → a .entry .namespace ≡ b .entry .namespace → prunes (b .entry) (a .entry) ≡ false → samePlace (a .entry) (b .entry) ≡ false
-places-apart a b l n h = refute (samePlace (a .entry) (b .entry)) λ e.
+places-apart : (a b : Stored) → sptLess a b ≡ true → a .entry .namespace ≡ b .entry .namespace → prunes (b .entry) (a .entry) ≡ false → sameAddress (a .entry) (b .entry) ≡ false
+places-apart a b l n h = refute (sameAddress (a .entry) (b .entry)) λ e.
     let k = place-view (a .entry) (b .entry) e in
     never-beside a b l h (record { namespace = n; subspace = k .0; path = k .1 })
 
 pub places-once : {namespace : List ℕ} (l : List Stored) → Ascends sptLess l → ((x y : Stored) → x ∈ l → y ∈ l → prunes (x .entry) (y .entry) ≡ false)
-    → ((x : Stored) → x ∈ l → x .entry .namespace ≡ namespace) → noPlaceTwice l ≡ true
-unfolding noPlaceTwice Ascends
+    → ((x : Stored) → x ∈ l → x .entry .namespace ≡ namespace) → noAddressTwice l ≡ true
+unfolding noAddressTwice Ascends
 places-once [] s h n = refl
 places-once (a ∷ l) s h n = ap₂ _&&_
     (all-make _ l λ b m. ap not (places-apart a b (s .0 b m) (n a (here refl) ∙ sym (n b (there m))) (h b a (there m) (here refl))))

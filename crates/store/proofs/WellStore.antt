@@ -19,7 +19,7 @@ use Rattle.data_model.specs.Entry.{prunes}
 use Rattle.key_laws.specs.Bytes.{Bytes}
 use Rattle.tree.specs.Stored.{Stored, stored, contents, recordOf, orderIn, keyBelow}
 use Rattle.tree.specs.Tree.{within, WellFormed}
-use Rattle.tree.specs.Apart.{noPlaceTwice, nonePrunes}
+use Rattle.tree.specs.Apart.{noAddressTwice, nonePrunes}
 use Rattle.tree.specs.declared.stored.KeyOrder.{KeyOrder}
 use Rattle.tree.specs.declared.stored.KeyOrder.the-variants.{Spt, Tsp}
 use Rattle.tree.proofs.AgreeLaws.{within-view}
@@ -116,7 +116,7 @@ tested f s w =
     let A = wellFormedTree f Spt s in
     let B = wellFormedTree f Tsp s in
     let C = sameEntries (held f Spt s) (held f Tsp s) in
-    let D = noPlaceTwice (held f Spt s) in
+    let D = noAddressTwice (held f Spt s) in
     let E = nonePrunes (held f Spt s) in
     let a = and-true (leb (s .state .count) (s .state .limit)) (A && (B && (C && (D && E)))) w in
     let b = and-true A (B && (C && (D && E))) (a .1) in

@@ -30,8 +30,8 @@ use Rattle.store.specs.declared.ingest.IngestVerdict.{IngestVerdict}
 use Rattle.store.specs.declared.ingest.IngestVerdict.the-variants as verdict
 use Rattle.store.specs.declared.ingest.Ingested.{Ingested}
 use Rattle.store.specs.declared.ingest.Ingestion.{Ingestion}
-use Rattle.store.specs.declared.ingest.PlaceDecision.{PlaceDecision}
-use Rattle.store.specs.declared.ingest.PlaceDecision.the-variants as place
+use Rattle.store.specs.declared.decide.PlaceDecision.{PlaceDecision}
+use Rattle.store.specs.declared.decide.PlaceDecision.the-variants as place
 
 -- What an ingestion that is not refused says: success, and how many entries it pruned; or that the entry is obsolete.
 pub data Verdict : Type 0 where

@@ -11,7 +11,7 @@ use Rattle.keys.specs.Encode.{keyMost}
 use Rattle.tree.specs.Value.{valueLength}
 use Rattle.tree.specs.Stored.{Stored, contents, recordOf}
 use Rattle.tree.specs.Tree.{wellFormed, within}
-use Rattle.tree.specs.Apart.{noPlaceTwice, nonePrunes}
+use Rattle.tree.specs.Apart.{noAddressTwice, nonePrunes}
 use Rattle.tree.specs.declared.stored.KeyOrder.{KeyOrder}
 use Rattle.tree.specs.declared.stored.KeyOrder.the-variants.{Spt, Tsp}
 use Rattle.store.specs.declared.state.State.{State}
@@ -66,13 +66,13 @@ sameEntries l m = within l m && within m l
 unfoldable pub wellFormedStore : Figures → Store → Bool
 wellFormedStore f s =
     leb (s .state .count) (s .state .limit) && (wellFormedTree f Spt s && (wellFormedTree f Tsp s &&
-    (sameEntries (held f Spt s) (held f Tsp s) && (noPlaceTwice (held f Spt s) && nonePrunes (held f Spt s)))))
+    (sameEntries (held f Spt s) (held f Tsp s) && (noAddressTwice (held f Spt s) && nonePrunes (held f Spt s)))))
 
 -- The same of two trees in their rooms, whatever the limit: what is tested once the count is within the limit.
 unfoldable pub wellFormedTrees : Figures → (namespace : List ℕ) → (count : ℕ) → (spt sptDir tsp tspDir : List ℕ) → Bool
 wellFormedTrees f namespace count spt sptDir tsp tspDir =
     wellFormed Spt f count sptDir spt && (wellFormed Tsp f count tspDir tsp && (sameEntries inSpt (contents Tsp f namespace (records count tspDir tsp)) &&
-    (noPlaceTwice inSpt && nonePrunes inSpt)))
+    (noAddressTwice inSpt && nonePrunes inSpt)))
   where
     inSpt : List Stored
     inSpt = contents Spt f namespace (records count sptDir spt)

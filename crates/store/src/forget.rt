@@ -23,7 +23,7 @@ ghost use Rattle.laws.specs.Sorted.{any};
 ghost use Rattle.data_model.specs.Path.{field, legal, components};
 ghost use Rattle.tree.specs.Tree.{Formed};
 ghost use Rattle.tree.specs.Matching.{standsAt, isForgotten};
-ghost use Rattle.tree.specs.Apart.{noPlaceTwice};
+ghost use Rattle.tree.specs.Apart.{noAddressTwice};
 ghost use Rattle.tree.specs.declared.stored.KeyOrder.the-variants.{Spt};
 ghost use Rattle.store.specs.Store.{storeOf, limitMost};
 ghost use Rattle.store.specs.Refusal.{storeRefusal};
@@ -55,7 +55,7 @@ fn is_other_digest(
     path: Path,
     expected_digest: [u8; 32],
 ) -> bool
-    requires { ⌜ (Formed Spt count (now «spt_dir») (now spt)) × (count ≤ limitMost) × (legal field path ≡ true) × (noPlaceTwice (inTree Spt namespace count (now «spt_dir») (now spt)) ≡ true) ⌝ }
+    requires { ⌜ (Formed Spt count (now «spt_dir») (now spt)) × (count ≤ limitMost) × (legal field path ≡ true) × (noAddressTwice (inTree Spt namespace count (now «spt_dir») (now spt)) ≡ true) ⌝ }
     ensures { λ r. ⌜ r ≡ any (unexpected subspace (components path) true «expected_digest») (inTree Spt namespace count (now («spt_dir» .entry)) (now (spt .entry))) ⌝ }
 {
     let mut marks = [0u8; LIMIT_MOST];

@@ -3,44 +3,36 @@ use crate::change::file_in;
 use crate::change::file_marked;
 use crate::check::check_store;
 use crate::check::dir_fits;
-use crate::state::FULL;
+use crate::decide::PlaceDecision;
+use crate::decide::decide;
 use crate::state::LIMIT_MOST;
 use crate::state::OTHER_NAMESPACE;
-use crate::state::PRUNING_PREVENTED;
 use crate::state::RECORD_MOST;
 use crate::state::State;
 use data_model::answer::ILLEGAL_PATH;
 use data_model::entry::Entry;
 use tree::by_value::is_legal;
 use tree::by_value::same_bytes;
-use tree::entries::mark_outdating;
-use tree::entries::mark_removed;
-use tree::marks::count_marked;
-use tree::marks::first_marked;
 use tree::marks::write_pairs;
 use tree::stored::KeyOrder;
 use tree::stored::LengthyAuthorisedEntry;
 use tree::stored::stored_at;
 ghost use mathlib.Core.Path.{_≡_};
-ghost use mathlib.Core.Bool.{true, _&&_};
-ghost use mathlib.Core.List.{List};
 ghost use Prim.Native.Nat.{ℕ, _-_, _+_, _*_, _≤_, _<_};
 ghost use lib.ListN.{length};
-ghost use lib.Dec.{ltb};
 ghost use Rattle.laws.specs.Lists.{put};
-ghost use Rattle.layout.specs.Layout.{records, recordAt};
+ghost use Rattle.layout.specs.Layout.{recordAt};
 ghost use Rattle.data_model.specs.Said.{says};
-ghost use Rattle.data_model.specs.Path.{field, legal};
+ghost use Rattle.data_model.specs.Path.{field};
 ghost use Rattle.data_model.specs.Entry.{entryOf};
-ghost use Rattle.tree.specs.Stored.{contents, stored};
+ghost use Rattle.tree.specs.Stored.{stored};
 ghost use Rattle.tree.specs.Matching.{removes};
-ghost use Rattle.tree.specs.Tree.{Formed, InBounds};
+ghost use Rattle.tree.specs.Tree.{InBounds};
 ghost use Rattle.tree.specs.declared.stored.KeyOrder.the-variants.{Spt};
 ghost use Rattle.store.specs.Store.{limitMost, stateWith, storeOf, held};
 ghost use Rattle.store.specs.Change.{Marked};
-ghost use Rattle.store.specs.Ingest.{succeeds, verdictSays, ingestedSays, MayFile, plainAnswer, obsoleteAnswer, storeFiled, placeDecided, prunedPairs, ingestRefusal, ingestOutcome, ingested};
+ghost use Rattle.store.specs.Ingest.{succeeds, verdictSays, ingestedSays, MayFile, plainAnswer, obsoleteAnswer, storeFiled, prunedPairs, ingestRefusal, ingestOutcome, ingested};
 ghost use Rattle.store.specs.declared.ingest.IngestVerdict.the-variants as verdict;
-ghost use Rattle.store.specs.declared.ingest.PlaceDecision.the-variants as place;
 
 // Success says how many entries were pruned.
 pub enum IngestVerdict {
@@ -62,13 +54,6 @@ pub struct Ingestion {
     pub entry: Entry,
     pub token: [u8; 64],
     pub prevent_pruning: bool,
-}
-
-// What is decided: refused, outdated by the entry at a place, or taken with so many removed.
-pub enum PlaceDecision {
-    Refuse(u8),
-    Old(usize),
-    Take(usize),
 }
 
 // 1, 2, 3, 4 or 6; else 0.
@@ -98,48 +83,6 @@ fn ingest_refusal(
         return OTHER_NAMESPACE;
     }
     0
-}
-
-// Whether a removal is prevented.
-fn is_prevented(prevent_pruning: bool, removed: usize) -> bool
-    ensures { λ r. ⌜ r ≡ («prevent_pruning» && ltb 0 removed) ⌝ }
-{
-    if prevent_pruning {
-        return 0 < removed;
-    }
-    false
-}
-
-// Whether the entry is refused, outdated or taken, over the subspace-first tree of its namespace in its room. If it is taken, what it
-// removes is marked.
-fn decide(
-    limit: usize,
-    count: usize,
-    spt: &[u8],
-    spt_dir: &[u32],
-    entry: Entry,
-    prevent_pruning: bool,
-    removed: &mut [u8],
-) -> PlaceDecision
-    requires { ⌜ (Formed Spt count (now «spt_dir») (now spt)) × (count ≤ limitMost) × (legal field (entry .path) ≡ true) × (count ≤ length (now removed)) ⌝ }
-    ensures decision { λ r. ⌜ r ≡ placeDecided limit (contents Spt field (entry .«namespace_id») (records count (now («spt_dir» .entry)) (now (spt .entry)))) (entryOf entry) «prevent_pruning» ⌝ }
-    ensures marks { λ r. ⌜ ((n : ℕ) → r ≡ place.Take n → Marked (removes (entryOf entry)) (contents Spt field (entry .«namespace_id») (records count (now («spt_dir» .entry)) (now (spt .entry)))) (now (removed .exit))) ⌝ }
-{
-    let mut marks = [0u8; LIMIT_MOST];
-    mark_outdating(KeyOrder::Spt, count, spt_dir, spt, entry, &mut marks);
-    let k = first_marked(&marks[..count], 0);
-    if k < count {
-        return PlaceDecision::Old(k);
-    }
-    mark_removed(KeyOrder::Spt, count, spt_dir, spt, entry, removed);
-    let n = count_marked(&removed[..count]);
-    if is_prevented(prevent_pruning, n) {
-        return PlaceDecision::Refuse(PRUNING_PREVENTED);
-    }
-    if limit <= count - n {
-        return PlaceDecision::Refuse(FULL);
-    }
-    PlaceDecision::Take(n)
 }
 
 // The answer that shows no entry.
@@ -180,7 +123,7 @@ fn taken_answer(state: State, n: usize) -> Ingested
     plain_answer(IngestVerdict::Success(n), after)
 }
 
-// The whole answer, over the store's buffers shared, whatever the token. With a success, what the entry removes is marked.
+// The whole answer, over the store's buffers shared. With a success, what the entry removes is marked.
 fn ingest_answer(
     state: State,
     spt: &[u8],
@@ -188,14 +131,14 @@ fn ingest_answer(
     tsp: &[u8],
     tsp_dir: &[u32],
     prune: &[u32],
-    entry: Entry,
-    prevent_pruning: bool,
+    ingestion: Ingestion,
     removed: &mut [u8],
 ) -> Ingested
     requires { ⌜ limitMost ≤ length (now removed) ⌝ }
-    ensures answer { λ r. ⌜ ((token : List ℕ) → ingestedSays r ≡ ingested field (storeOf state (now (spt .entry)) (now («spt_dir» .entry)) (now (tsp .entry)) (now («tsp_dir» .entry))) (now (prune .entry)) (record { entry = entry; token = token; «prevent_pruning» = «prevent_pruning» }) .answer) ⌝ }
-    ensures marks { λ r. ⌜ ((n : ℕ) → verdictSays (r .verdict) ≡ says (succeeds n) → Marked (removes (entryOf entry)) (held field Spt (storeOf state (now (spt .entry)) (now («spt_dir» .entry)) (now (tsp .entry)) (now («tsp_dir» .entry)))) (now (removed .exit))) ⌝ }
+    ensures answer { λ r. ⌜ ingestedSays r ≡ ingested field (storeOf state (now (spt .entry)) (now («spt_dir» .entry)) (now (tsp .entry)) (now («tsp_dir» .entry))) (now (prune .entry)) ingestion .answer ⌝ }
+    ensures marks { λ r. ⌜ ((n : ℕ) → verdictSays (r .verdict) ≡ says (succeeds n) → Marked (removes (entryOf (ingestion .entry))) (held field Spt (storeOf state (now (spt .entry)) (now («spt_dir» .entry)) (now (tsp .entry)) (now («tsp_dir» .entry)))) (now (removed .exit))) ⌝ }
 {
+    let entry = ingestion.entry;
     let refusal = ingest_refusal(state, spt, spt_dir, tsp, tsp_dir, prune, entry);
     if refusal != 0 {
         return plain_answer(IngestVerdict::Refused(refusal), state);
@@ -210,7 +153,7 @@ fn ingest_answer(
         &spt[..n],
         &spt_dir[..m],
         entry,
-        prevent_pruning,
+        ingestion.prevent_pruning,
         removed,
     );
     match d {
@@ -228,18 +171,19 @@ fn file(
     tsp: &mut [u8],
     tsp_dir: &mut [u32],
     prune: &mut [u32],
-    entry: Entry,
-    token: [u8; 64],
+    ingestion: Ingestion,
     removed: &[u8],
 )
-    requires { ⌜ (MayFile field (storeOf state (now spt) (now «spt_dir») (now tsp) (now «tsp_dir»)) (now prune) entry) × (Marked (removes (entryOf entry)) (held field Spt (storeOf state (now spt) (now «spt_dir») (now tsp) (now «tsp_dir»))) (now removed)) × (limitMost ≤ length (now removed)) ⌝ }
-    ensures store { λ _. ⌜ storeOf (storeFiled field (storeOf state (now (spt .entry)) (now («spt_dir» .entry)) (now (tsp .entry)) (now («tsp_dir» .entry))) (entryOf entry) token .state) (now (spt .exit)) (now («spt_dir» .exit)) (now (tsp .exit)) (now («tsp_dir» .exit)) ≡ storeFiled field (storeOf state (now (spt .entry)) (now («spt_dir» .entry)) (now (tsp .entry)) (now («tsp_dir» .entry))) (entryOf entry) token ⌝ }
-    ensures pairs { λ _. ⌜ now (prune .exit) ≡ put (prunedPairs field (storeOf state (now (spt .entry)) (now («spt_dir» .entry)) (now (tsp .entry)) (now («tsp_dir» .entry))) (entryOf entry)) (now (prune .entry)) ⌝ }
+    requires { ⌜ (MayFile field (storeOf state (now spt) (now «spt_dir») (now tsp) (now «tsp_dir»)) (now prune) (ingestion .entry)) × (Marked (removes (entryOf (ingestion .entry))) (held field Spt (storeOf state (now spt) (now «spt_dir») (now tsp) (now «tsp_dir»))) (now removed)) × (limitMost ≤ length (now removed)) ⌝ }
+    ensures store { λ _. ⌜ storeOf (storeFiled field (storeOf state (now (spt .entry)) (now («spt_dir» .entry)) (now (tsp .entry)) (now («tsp_dir» .entry))) (entryOf (ingestion .entry)) (ingestion .token) .state) (now (spt .exit)) (now («spt_dir» .exit)) (now (tsp .exit)) (now («tsp_dir» .exit)) ≡ storeFiled field (storeOf state (now (spt .entry)) (now («spt_dir» .entry)) (now (tsp .entry)) (now («tsp_dir» .entry))) (entryOf (ingestion .entry)) (ingestion .token) ⌝ }
+    ensures pairs { λ _. ⌜ now (prune .exit) ≡ put (prunedPairs field (storeOf state (now (spt .entry)) (now («spt_dir» .entry)) (now (tsp .entry)) (now («tsp_dir» .entry))) (entryOf (ingestion .entry))) (now (prune .entry)) ⌝ }
 {
     let limit = state.limit;
     let count = state.count;
     let n = RECORD_MOST * limit;
     let m = 2 * limit;
+    let entry = ingestion.entry;
+    let token = ingestion.token;
     let a = LengthyAuthorisedEntry {
         entry,
         token,
@@ -269,9 +213,6 @@ pub fn ingest_entry_numbers(
 ) -> Ingested
     ensures { λ r. ⌜ ingestOutcome (ingestedSays r) (now (spt .exit)) (now («spt_dir» .exit)) (now (tsp .exit)) (now («tsp_dir» .exit)) (now (prune .exit)) ≡ ingested field (storeOf state (now (spt .entry)) (now («spt_dir» .entry)) (now (tsp .entry)) (now («tsp_dir» .entry))) (now (prune .entry)) ingestion ⌝ }
 {
-    let entry = ingestion.entry;
-    let token = ingestion.token;
-    let prevent_pruning = ingestion.prevent_pruning;
     let mut removed = [0u8; LIMIT_MOST];
     let given = ingest_answer(
         state,
@@ -280,8 +221,7 @@ pub fn ingest_entry_numbers(
         tsp,
         tsp_dir,
         prune,
-        entry,
-        prevent_pruning,
+        ingestion,
         &mut removed,
     );
     let verdict = given.verdict;
@@ -293,8 +233,7 @@ pub fn ingest_entry_numbers(
             tsp,
             tsp_dir,
             prune,
-            entry,
-            token,
+            ingestion,
             &removed,
         );
     }

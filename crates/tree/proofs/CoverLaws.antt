@@ -27,7 +27,7 @@ use Rattle.key_laws.proofs.BigEndian.{subspace-back}
 use Rattle.key_laws.proofs.EntryLaws.{covers-make}
 use Rattle.tree.specs.Stored.{keyIn, storedFrom, stored, tripleOf}
 use Rattle.tree.specs.Tree.{Readable}
-use Rattle.tree.specs.Apart.{samePlace}
+use Rattle.tree.specs.Apart.{sameAddress}
 use Rattle.tree.specs.Matching.{outdates, removes, standsAt}
 use Rattle.tree.specs.Address.{addressKey, openPath, openKey, tripleAt, addressAt, openAt, rankAt}
 use Rattle.tree.specs.declared.stored.KeyOrder.{KeyOrder}
@@ -123,8 +123,8 @@ module _ {o : KeyOrder} {j k : ℕ} {dir tree : List ℕ} (v : Readable o j dir 
   unfolding stored storedFrom
   covers-at = covers-bytes (stored o field ns (recordAt j dir tree) .entry) (stored o field ns (recordAt k dir tree) .entry) refl (sized-at v b ns) (sized-at w b ns)
 
-  pub same-at : sameList sameNumber (addressAt o (recordAt j dir tree)) (addressAt o (recordAt k dir tree)) ≡ samePlace (stored o field ns (recordAt j dir tree) .entry) (stored o field ns (recordAt k dir tree) .entry)
-  unfolding samePlace stored storedFrom tripleOf
+  pub same-at : sameList sameNumber (addressAt o (recordAt j dir tree)) (addressAt o (recordAt k dir tree)) ≡ sameAddress (stored o field ns (recordAt j dir tree) .entry) (stored o field ns (recordAt k dir tree) .entry)
+  unfolding sameAddress stored storedFrom tripleOf
   same-at =
       let x = sized-at v b ns in
       let y = sized-at w b ns in

@@ -19,18 +19,18 @@ use Rattle.data_model.specs.Entry.{Entry, newer, covers}
 use Rattle.data_model.proofs.Orders.{component-equality}
 use Rattle.key_laws.proofs.EntryLaws.{covers-view, covers-trans, newer-weak}
 use Rattle.tree.specs.Stored.{Stored}
-use Rattle.tree.specs.Apart.{samePlace}
+use Rattle.tree.specs.Apart.{sameAddress}
 use Rattle.tree.proofs.WalkLaws.{fine, clearBehind, allClear, place-view, place-make}
 
 -- An entry and one that it covers: elsewhere, and not older.
 pub record Link (a b : Entry) : Type 0 where
   pub over : covers a b ≡ true
-  pub place : samePlace a b ≡ false
+  pub place : sameAddress a b ≡ false
   pub older : newer a b ≡ false
 
 link-make : (a b : Entry) → covers a b ≡ true → fine a b ≡ true → Link a b
 unfolding fine
-link-make a b c f = let k = and-true (not (samePlace a b)) (not (newer a b)) f in record { over = c; place = not-true _ (k .0); older = not-true _ (k .1) }
+link-make a b c f = let k = and-true (not (sameAddress a b)) (not (newer a b)) f in record { over = c; place = not-true _ (k .0); older = not-true _ (k .1) }
 
 link-fine : (a b : Entry) → Link a b → fine a b ≡ true
 unfolding fine
@@ -39,7 +39,7 @@ link-fine a b k = rw (k .place, k .older)
 link-trans : (a b c : Entry) → Link a b → Link b c → Link a c
 link-trans a b c h k = record {
   over = covers-trans a b c (h .over) (k .over);
-  place = refute (samePlace a c) λ e.
+  place = refute (sameAddress a c) λ e.
       let p = place-view a c e in
       let x = covers-view a b (h .over) in
       let y = covers-view b c (k .over) in

@@ -21,11 +21,11 @@ use Rattle.key_laws.specs.KeyOrder.{sptOrder}
 use Rattle.key_laws.proofs.EntryLaws.{covers-view, covers-make, prunes-view, prunes-make, prunes-irrefl}
 use Rattle.key_laws.proofs.Extensions.{run-order}
 use Rattle.tree.specs.Stored.{Stored, tripleOf}
-use Rattle.tree.specs.Apart.{samePlace, noPlaceTwice, nonePrunes, apart}
+use Rattle.tree.specs.Apart.{sameAddress, noAddressTwice, nonePrunes, apart}
 
 -- An entry against one that it covers: not at its address, and not newer.
 unfoldable pub fine : Entry → Entry → Bool
-fine a b = not (samePlace a b) && not (newer a b)
+fine a b = not (sameAddress a b) && not (newer a b)
 
 -- An entry against those behind it, for as long as it covers them.
 unfoldable pub clearBehind : Entry → List Stored → Bool
@@ -70,23 +70,23 @@ covers-between a b c n e f g =
     covers-make a b (record { namespace = n; subspace = x .subspace; path = x .path })
 
 -- Entries of one place.
-pub place-view : (a b : Entry) → samePlace a b ≡ true → (a .subspace ≡ b .subspace) × (a .path ≡ b .path)
-unfolding samePlace
+pub place-view : (a b : Entry) → sameAddress a b ≡ true → (a .subspace ≡ b .subspace) × (a .path ≡ b .path)
+unfolding sameAddress
 place-view a b e =
     let k = and-true (sameSubspace (a .subspace) (b .subspace)) (samePath (a .path) (b .path)) e in
     (subspace-equality .equal (a .subspace) (b .subspace) (k .0), path-equality .equal (a .path) (b .path) (k .1))
 
-pub place-make : (a b : Entry) → a .subspace ≡ b .subspace → a .path ≡ b .path → samePlace a b ≡ true
-unfolding samePlace
+pub place-make : (a b : Entry) → a .subspace ≡ b .subspace → a .path ≡ b .path → sameAddress a b ≡ true
+unfolding sameAddress
 place-make a b s p = cc (subspace-equality .self (a .subspace), path-equality .self (a .path))
 
-place-covers : (a b : Entry) → a .namespace ≡ b .namespace → samePlace a b ≡ true → covers a b ≡ true
+place-covers : (a b : Entry) → a .namespace ≡ b .namespace → sameAddress a b ≡ true → covers a b ≡ true
 place-covers a b n e =
     let k = place-view a b e in
     covers-make a b (record { namespace = n; subspace = k .0; path = ap (isPrefix (a .path)) (sym (k .1)) ∙ prefix-refl sameComponent component-equality (a .path) })
 
 -- A later entry covers an earlier one only at its own place.
-covers-back : (a b : Entry) → sptOrder (tripleOf a) (tripleOf b) ≡ less → covers b a ≡ true → samePlace a b ≡ true
+covers-back : (a b : Entry) → sptOrder (tripleOf a) (tripleOf b) ≡ less → covers b a ≡ true → sameAddress a b ≡ true
 unfolding tripleOf sptOrder
 covers-back a b e f =
     let v = covers-view b a f in
@@ -98,21 +98,21 @@ covers-back a b e f =
 
 -- What one entry may have behind it.
 pub record Clear (a b : Entry) : Type 0 where
-  pub place : samePlace a b ≡ false
+  pub place : sameAddress a b ≡ false
   pub forth : prunes a b ≡ false
   pub back : prunes b a ≡ false
 
 clear-next : (a : Entry) (b : Stored) (l : List Stored) → clearBehind a (b ∷ l) ≡ true → covers a (b .entry) ≡ true
-    → (samePlace a (b .entry) ≡ false) × ((newer a (b .entry) ≡ false) × (clearBehind a l ≡ true))
+    → (sameAddress a (b .entry) ≡ false) × ((newer a (b .entry) ≡ false) × (clearBehind a l ≡ true))
 unfolding clearBehind fine
 clear-next a b l e f =
-    let k = and-true (not (samePlace a (b .entry)) && not (newer a (b .entry))) (clearBehind a l) (rw f at e) in
-    let m = and-true (not (samePlace a (b .entry))) (not (newer a (b .entry))) (k .0) in
+    let k = and-true (not (sameAddress a (b .entry)) && not (newer a (b .entry))) (clearBehind a l) (rw f at e) in
+    let m = and-true (not (sameAddress a (b .entry))) (not (newer a (b .entry))) (k .0) in
     (not-true _ (m .0), (not-true _ (m .1), k .1))
 
 -- The walk from one entry, and what it says of each behind it.
 behind-view : (namespace : List ℕ) (a : Stored) (l : List Stored) → Ascends entryBelow (a ∷ l) → OfOne namespace (a ∷ l) → clearBehind (a .entry) l ≡ true
-    → (y : Stored) → y ∈ l → covers (a .entry) (y .entry) ≡ true → (samePlace (a .entry) (y .entry) ≡ false) × (newer (a .entry) (y .entry) ≡ false)
+    → (y : Stored) → y ∈ l → covers (a .entry) (y .entry) ≡ true → (sameAddress (a .entry) (y .entry) ≡ false) × (newer (a .entry) (y .entry) ≡ false)
 unfolding Ascends
 behind-view namespace a [] s n e y m g = absurd (none-in m)
 behind-view namespace a (b ∷ l) s n e y m g = split (covers (a .entry) (b .entry))
@@ -132,14 +132,14 @@ behind-clear : (namespace : List ℕ) (a : Stored) (l : List Stored) → Ascends
 unfolding Ascends
 behind-clear namespace a l s n e y m =
     let v = behind-view namespace a l s n e y m in
-    let p : samePlace (a .entry) (y .entry) ≡ false = refute _ λ f. differ _ f (v (place-covers (a .entry) (y .entry) (n a (here refl) ∙ sym (n y (there m))) f) .0) in
+    let p : sameAddress (a .entry) (y .entry) ≡ false = refute _ λ f. differ _ f (v (place-covers (a .entry) (y .entry) (n a (here refl) ∙ sym (n y (there m))) f) .0) in
     record {
       place = p;
       forth = refute _ λ f. let k = prunes-view (a .entry) (y .entry) f in differ _ (k .1) (v (k .0) .1);
       back = refute _ λ f. differ _ (covers-back (a .entry) (y .entry) (entry-below a y (s .0 y m)) (prunes-view (y .entry) (a .entry) f .0)) p;
     }
 
-behind-make : (a : Stored) (l : List Stored) → ((y : Stored) → y ∈ l → (samePlace (a .entry) (y .entry) ≡ false) × (prunes (a .entry) (y .entry) ≡ false)) → clearBehind (a .entry) l ≡ true
+behind-make : (a : Stored) (l : List Stored) → ((y : Stored) → y ∈ l → (sameAddress (a .entry) (y .entry) ≡ false) × (prunes (a .entry) (y .entry) ≡ false)) → clearBehind (a .entry) l ≡ true
 unfolding clearBehind fine
 behind-make a [] h = refl
 behind-make a (b ∷ l) h = split (covers (a .entry) (b .entry))
@@ -164,20 +164,20 @@ none-prunes l h =
     all-make (λ (a : Stored). all (λ (b : Stored). not (prunes (a .entry) (b .entry))) l) l
     λ x m. all-make (λ (b : Stored). not (prunes (x .entry) (b .entry))) l λ y n. ap not (h x y m n)
 
-pairs-walk : (l : List Stored) → noPlaceTwice l ≡ true → Apart l → allClear l ≡ true
-unfolding noPlaceTwice allClear
+pairs-walk : (l : List Stored) → noAddressTwice l ≡ true → Apart l → allClear l ≡ true
+unfolding noAddressTwice allClear
 pairs-walk [] e h = refl
 pairs-walk (a ∷ l) e h =
-    let k = and-true (all (λ (b : Stored). not (samePlace (a .entry) (b .entry))) l) (noPlaceTwice l) e in
-    rw (behind-make a l λ y m. (not-true _ (all-view (λ (b : Stored). not (samePlace (a .entry) (b .entry))) l (k .0) m), h a y (here refl) (there m)))
+    let k = and-true (all (λ (b : Stored). not (sameAddress (a .entry) (b .entry))) l) (noAddressTwice l) e in
+    rw (behind-make a l λ y m. (not-true _ (all-view (λ (b : Stored). not (sameAddress (a .entry) (b .entry))) l (k .0) m), h a y (here refl) (there m)))
     (pairs-walk l (k .1) λ x y m n. h x y (there m) (there n))
 
-walk-pairs : (namespace : List ℕ) (l : List Stored) → Ascends entryBelow l → OfOne namespace l → allClear l ≡ true → (noPlaceTwice l ≡ true) × Apart l
-unfolding Ascends noPlaceTwice allClear
+walk-pairs : (namespace : List ℕ) (l : List Stored) → Ascends entryBelow l → OfOne namespace l → allClear l ≡ true → (noAddressTwice l ≡ true) × Apart l
+unfolding Ascends noAddressTwice allClear
 walk-pairs namespace [] s n e = (refl, λ x y m. absurd (none-in m))
 walk-pairs namespace (a ∷ l) s n e =
     let rest = walk-pairs namespace l (s .1) (λ x m. n x (there m)) (k .1) in (
-      rw (all-make (λ (b : Stored). not (samePlace (a .entry) (b .entry))) l λ y m. ap not (behind y m .place)) (rest .0),
+      rw (all-make (λ (b : Stored). not (sameAddress (a .entry) (b .entry))) l λ y m. ap not (behind y m .place)) (rest .0),
       λ x y i j. pair (rest .1) x y (uncons i) (uncons j),
     )
   where
@@ -195,6 +195,6 @@ walk-pairs namespace (a ∷ l) s n e =
 
 pub apart-walk : (namespace : List ℕ) (l : List Stored) → Ascends entryBelow l → OfOne namespace l → apart l ≡ allClear l
 unfolding apart
-apart-walk namespace l s n = alike (noPlaceTwice l && nonePrunes l) (allClear l)
-    (λ e. let k = and-true (noPlaceTwice l) (nonePrunes l) e in pairs-walk l (k .0) (prunes-none l (k .1)))
+apart-walk namespace l s n = alike (noAddressTwice l && nonePrunes l) (allClear l)
+    (λ e. let k = and-true (noAddressTwice l) (nonePrunes l) e in pairs-walk l (k .0) (prunes-none l (k .1)))
     (λ e. let k = walk-pairs namespace l s n e in rw (k .0, none-prunes l (k .1)))

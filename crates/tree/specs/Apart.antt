@@ -7,17 +7,17 @@ use Rattle.data_model.specs.Subspace.{sameSubspace}
 use Rattle.data_model.specs.Entry.{Entry, prunes}
 use Rattle.tree.specs.Stored.{Stored}
 
-unfoldable pub samePlace : Entry → Entry → Bool
-samePlace a b = sameSubspace (a .subspace) (b .subspace) && samePath (a .path) (b .path)
+unfoldable pub sameAddress : Entry → Entry → Bool
+sameAddress a b = sameSubspace (a .subspace) (b .subspace) && samePath (a .path) (b .path)
 
 -- No two of them are of one subspace and path.
-unfoldable pub noPlaceTwice : List Stored → Bool
-noPlaceTwice [] = true
-noPlaceTwice (a ∷ l) = all (λ (b : Stored). not (samePlace (a .entry) (b .entry))) l && noPlaceTwice l
+unfoldable pub noAddressTwice : List Stored → Bool
+noAddressTwice [] = true
+noAddressTwice (a ∷ l) = all (λ (b : Stored). not (sameAddress (a .entry) (b .entry))) l && noAddressTwice l
 
 -- None of them prunes one of them.
 unfoldable pub nonePrunes : List Stored → Bool
 nonePrunes l = all (λ (a : Stored). all (λ (b : Stored). not (prunes (a .entry) (b .entry))) l) l
 
 unfoldable pub apart : List Stored → Bool
-apart l = noPlaceTwice l && nonePrunes l
+apart l = noAddressTwice l && nonePrunes l

@@ -19,26 +19,22 @@ abbrev lent : tie.Start → Store
 lent p = storeOf (p .args .state) (p .args .spt .now) (p .args .«spt-dir» .now) (p .args .tsp .now) (p .args .«tsp-dir» .now)
 
 abbrev start : tie.Else1 → tie.Start
-start c = c .before .before .before .before .before .before .before .before
+start c = c .before .before .before .before .before .before .before .before .before
 
-zero : (c : tie.Else1) → ingestRefusal field (lent (start c)) (start c .args .prune .now) (start c .args .entry) ≡ 0
+zero : (c : tie.Else1) → ingestRefusal field (lent (start c)) (start c .args .prune .now) (start c .args .ingestion .entry) ≡ 0
 zero c = sym (c .before .ingest-refusal .ensures) ∙ c .if1 .left
 
-known : (c : tie.Else1) → Ready (lent (start c)) (start c .args .prune .now) (start c .args .entry)
-known c = ready (lent (start c)) (start c .args .prune .now) (start c .args .entry) (zero c)
-
--- What was handed in, with whatever token.
-abbrev handed : tie.Start → List ℕ → Ingestion
-handed p token = record { entry = p .args .entry; token = token; «prevent_pruning» = p .args .«prevent-pruning» }
+known : (c : tie.Else1) → Ready (lent (start c)) (start c .args .prune .now) (start c .args .ingestion .entry)
+known c = ready (lent (start c)) (start c .args .prune .now) (start c .args .ingestion .entry) (zero c)
 
 -- What is decided, in the store's namespace.
 abbrev tested : tie.After-decide → tie.Else1
 tested c = c .before .before .before .before
 
-own : (c : tie.After-decide) → c .decide .result ≡ placeDecided (start (tested c) .args .state .limit) (inSpt (lent (start (tested c)))) (entryOf (start (tested c) .args .entry)) (start (tested c) .args .«prevent-pruning»)
+own : (c : tie.After-decide) → c .decide .result ≡ placeDecided (start (tested c) .args .state .limit) (inSpt (lent (start (tested c)))) (entryOf (start (tested c) .args .ingestion .entry)) (start (tested c) .args .ingestion .«prevent_pruning»)
 own c =
     let p = start (tested c) in
-    decided-own (lent p) (p .args .prune .now) (p .args .entry) (p .args .«prevent-pruning») (known (tested c)) (c .decide .result) (c .decide .ensures .0)
+    decided-own (lent p) (p .args .prune .now) (p .args .ingestion .entry) (p .args .ingestion .«prevent_pruning») (known (tested c)) (c .decide .result) (c .decide .ensures .0)
 
 ingest-refusal-requires : tie.Need-ingest-refusal-requires
 ingest-refusal-requires c κs = search needs
@@ -49,9 +45,9 @@ plain-answer-requires c κs = search needs
 returns : tie.Need-returns
 unfolding verdictSays
 returns c =
-    let p = (c .before .before .before .before .before .before .before .before .before) in
+    let p = (c .before .before .before .before .before .before .before .before .before .before) in
     let f = (c .before .before) .ingest-refusal in
-    ((λ token. answers-refused (lent p) (p .args .prune .now) (handed p token) (f .result) (f .ensures) ((c .before) .if1 .taken) _ (c .plain-answer .ensures)), λ n q. refused-unlike (c .plain-answer .ensures) q)
+    (answers-refused (lent p) (p .args .prune .now) (p .args .ingestion) (f .result) (f .ensures) ((c .before) .if1 .taken) _ (c .plain-answer .ensures), λ n q. refused-unlike (c .plain-answer .ensures) q)
 
 mul-n : tie.Need-mul-n
 mul-n c =
@@ -80,7 +76,7 @@ decide-requires c κs =
     let v = known e in
     let m = v .passes .most in
     let f = v .passes .few in
-    (ready-formed (lent p) (p .args .prune .now) (p .args .entry) v, omega arith, v .legal-path, omega (arith, p .pre))
+    (ready-formed (lent p) (p .args .prune .now) (p .args .ingestion .entry) v, omega arith, v .legal-path, omega (arith, p .pre))
 
 enum-known-d : tie.Need-enum-known-d
 enum-known-d c = search needs
@@ -107,7 +103,7 @@ obsolete-answer-requires : tie.Need-obsolete-answer-requires
 obsolete-answer-requires c κs =
     let e = (c .before .before .before .before .before .before .before .before .before .before .before) in
     let p = start e in
-    old-bounds (lent p) (p .args .prune .now) (handed p []) (zero e) ((c .before .before .before .before .before .before .before) .decide .result) (own (c .before .before .before .before .before .before .before))
+    old-bounds (lent p) (p .args .prune .now) (p .args .ingestion) (zero e) ((c .before .before .before .before .before .before .before) .decide .result) (own (c .before .before .before .before .before .before .before))
     _ ((c .before .before .before) .d2 .given .1)
 
 enum-known-d-3 : tie.Need-enum-known-d-3
@@ -117,7 +113,7 @@ taken-answer-requires : tie.Need-taken-answer-requires
 taken-answer-requires c κs =
     let e = (c .before .before .before .before .before .before .before .before .before) in
     let p = start e in
-    take-fits (lent p) (p .args .prune .now) (handed p []) (zero e) ((c .before .before .before .before .before) .decide .result) (own (c .before .before .before .before .before))
+    take-fits (lent p) (p .args .prune .now) (p .args .ingestion) (zero e) ((c .before .before .before .before .before) .decide .result) (own (c .before .before .before .before .before))
     _ ((c .before) .d3 .given .1)
 
 same-length : tie.Need-same-length
@@ -128,8 +124,8 @@ unfolding verdictSays
 returns-2 c =
     let e = (c .before .before .before .before .before .before .before .before .before .before) in
     let p = start e in (
-      (λ token. answers-late (lent p) (p .args .prune .now) (handed p token) (zero e) ((c .before .before .before .before .before .before) .decide .result) (own (c .before .before .before .before .before .before))
-          _ ((c .before .before) .d .given .1) _ (c .plain-answer2 .ensures)),
+      answers-late (lent p) (p .args .prune .now) (p .args .ingestion) (zero e) ((c .before .before .before .before .before .before) .decide .result) (own (c .before .before .before .before .before .before))
+          _ ((c .before .before) .d .given .1) _ (c .plain-answer2 .ensures),
       λ n q. refused-unlike (c .plain-answer2 .ensures) q,
     )
 
@@ -140,8 +136,8 @@ returns-3 : tie.Need-returns-3
 returns-3 c =
     let e = (c .before .before .before .before .before .before .before .before .before .before .before .before) in
     let p = start e in (
-      (λ token. answers-old (lent p) (p .args .prune .now) (handed p token) (zero e) ((c .before .before .before .before .before .before .before .before) .decide .result) (own (c .before .before .before .before .before .before .before .before))
-          _ ((c .before .before .before .before) .d2 .given .1) _ (c .obsolete-answer .ensures)),
+      answers-old (lent p) (p .args .prune .now) (p .args .ingestion) (zero e) ((c .before .before .before .before .before .before .before .before) .decide .result) (own (c .before .before .before .before .before .before .before .before))
+          _ ((c .before .before .before .before) .d2 .given .1) _ (c .obsolete-answer .ensures),
       λ n q. obsolete-unlike _ (c .obsolete-answer .ensures) q,
     )
 
@@ -153,9 +149,9 @@ unfolding verdictSays
 returns-4 c =
     let e = (c .before .before .before .before .before .before .before .before .before .before) in
     let p = start e in (
-      (λ token. answers-take (lent p) (p .args .prune .now) (handed p token) (zero e) ((c .before .before .before .before .before .before) .decide .result) (own (c .before .before .before .before .before .before))
-          _ ((c .before .before) .d3 .given .1) _ (c .taken-answer .ensures)),
-      λ n q. marked-own (lent p) (p .args .prune .now) (p .args .entry) (known e) _ ((c .before .before .before .before .before .before) .decide .ensures .1 _ ((c .before .before) .d3 .given .1)),
+      answers-take (lent p) (p .args .prune .now) (p .args .ingestion) (zero e) ((c .before .before .before .before .before .before) .decide .result) (own (c .before .before .before .before .before .before))
+          _ ((c .before .before) .d3 .given .1) _ (c .taken-answer .ensures),
+      λ n q. marked-own (lent p) (p .args .prune .now) (p .args .ingestion .entry) (known e) _ ((c .before .before .before .before .before .before) .decide .ensures .1 _ ((c .before .before) .d3 .given .1)),
     )
 
 pub ingest-answer-spec : {M : Type 1} → statement M

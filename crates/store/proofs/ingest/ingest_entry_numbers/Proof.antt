@@ -43,10 +43,10 @@ slice-aggregate-file c = search needs
 file-requires : tie.Need-file-requires
 unfolding verdictSays
 file-requires c κs =
-    let p = (c .before .before .before .before .before .before .before .before .before .before .before .before .before .before .before .before .before .before .before .before .before .before .before) in
+    let p = (c .before .before .before .before .before .before .before .before .before .before .before .before .before .before .before .before .before .before .before .before .before) in
     let a = (c .before .before .before .before .before .before .before .before .before) .ingest-answer in
     let q = ap verdictSays ((c .before .before .before .before .before .before) .enum-told .given .1) in
-    (success-may (lent p) (p .args .prune .now) (p .args .ingestion) (ingestedSays (a .result)) (a .ensures .0 (p .args .ingestion .token)) _ q, a .ensures .1 _ q, omega (arith, a .kept .1 .1 .1 .1 .1 .1 .1 .1 .0, length-replicate {A = ℕ} limitMost 0))
+    (success-may (lent p) (p .args .prune .now) (p .args .ingestion) (ingestedSays (a .result)) (a .ensures .0) _ q, a .ensures .1 _ q, omega (arith, a .kept .1 .1 .1 .1 .1 .1 .1 .0, length-replicate {A = ℕ} limitMost 0))
 
 same-length : tie.Need-same-length
 same-length c = search needs
@@ -66,10 +66,10 @@ same-length-5 c = search needs
 returns : tie.Need-returns
 unfolding verdictSays
 returns c =
-    let p = (c .before .before .before .before .before .before .before .before .before .before .before .before .before .before .before .before .before .before .before .before .before .before .before .before .before .before .before .before .before .before .before .before .before .before) in
+    let p = (c .before .before .before .before .before .before .before .before .before .before .before .before .before .before .before .before .before .before .before .before .before .before .before .before .before .before .before .before .before .before .before .before) in
     let a = (c .before .before .before .before .before .before .before .before .before .before .before .before .before .before .before .before .before .before .before .before) .ingest-answer in
     let f = (c .before .before .before .before .before .before .before .before .before .before) .file in
-    outcome-filed (lent p) (p .args .prune .now) (p .args .ingestion) (ingestedSays (a .result)) (a .ensures .0 (p .args .ingestion .token)) _ (ap verdictSays ((c .before .before .before .before .before .before .before .before .before .before .before .before .before .before .before .before .before) .enum-told .given .1))
+    outcome-filed (lent p) (p .args .prune .now) (p .args .ingestion) (ingestedSays (a .result)) (a .ensures .0) _ (ap verdictSays ((c .before .before .before .before .before .before .before .before .before .before .before .before .before .before .before .before .before) .enum-told .given .1))
     (f .last .1 .0) (f .last .1 .1 .0) (f .last .1 .1 .1 .0) (f .last .1 .1 .1 .1 .0) (f .last .1 .1 .1 .1 .1 .0) (f .ensures .0) (f .ensures .1)
 
 same-length-6 : tie.Need-same-length-6
@@ -89,9 +89,9 @@ same-length-10 c = search needs
 
 returns-2 : tie.Need-returns-2
 returns-2 c =
-    let p = (c .before .before .before .before .before .before .before .before .before .before .before .before .before .before .before .before) in
+    let p = (c .before .before .before .before .before .before .before .before .before .before .before .before .before .before) in
     let a = (c .before .before) .ingest-answer in
-    outcome-same (lent p) (p .args .prune .now) (p .args .ingestion) (ingestedSays (a .result)) (a .ensures .0 (p .args .ingestion .token)) (other _ (c .match .keys2))
+    outcome-same (lent p) (p .args .prune .now) (p .args .ingestion) (ingestedSays (a .result)) (a .ensures .0) (other _ (c .match .keys2))
 
 pub ingest-entry-numbers-spec : {M : Type 1} → statement M
 ingest-entry-numbers-spec =

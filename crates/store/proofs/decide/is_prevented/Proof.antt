@@ -1,7 +1,7 @@
 -- `is_prevented` meets its contract. Assumes nothing.
 use borrow.Author.Needs.{needs}
-use Rattle.store.proofs.ingest.is_prevented.Statement.{statement}
-use Rattle.store.proofs.ingest.is_prevented.Tie as tie
+use Rattle.store.proofs.decide.is_prevented.Statement.{statement}
+use Rattle.store.proofs.decide.is_prevented.Tie as tie
 
 returns : tie.Need-returns
 returns c = rw (c .if1 .taken)

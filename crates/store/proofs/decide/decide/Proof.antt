@@ -7,8 +7,8 @@ use lib.Seq.{length-take-le}
 use Rattle.store.proofs.DecideLaws.{marks-few, marked-by, decided-old, decided-prevented, decided-full, decided-take}
 use Rattle.store.proofs.IngestLaws.{old-unlike, refuse-unlike}
 use borrow.Author.Needs.{needs}
-use Rattle.store.proofs.ingest.decide.Statement.{statement}
-use Rattle.store.proofs.ingest.decide.Tie as tie
+use Rattle.store.proofs.decide.decide.Statement.{statement}
+use Rattle.store.proofs.decide.decide.Tie as tie
 use Rattle.store.specs.Store.{limitMost}
 
 slice-aggregate-mark-outdating : tie.Need-slice-aggregate-mark-outdating
