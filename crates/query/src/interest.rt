@@ -4,8 +4,8 @@ use crate::check::read_refusal;
 use data_model::area::Area;
 use data_model::area_of_interest::AreaOfInterest;
 use data_model::parameters::Subspace;
-use data_model::path::MCC;
-use data_model::path::MPL;
+use data_model::path::PATH_BYTES;
+use data_model::path::PATH_ENDS;
 use data_model::path::Path;
 use data_model::query_ignore_params::QueryIgnoreParams;
 use data_model::range::PathRange;
@@ -60,8 +60,8 @@ fn refused_range(refusal: u8) -> InterestRange
     ensures { λ r. ⌜ r ≡ record { refusal = refusal; range = emptyRange } ⌝ }
 {
     let path = Path {
-        bytes: [0; MPL],
-        ends: [0; MCC],
+        bytes: [0; PATH_BYTES],
+        ends: [0; PATH_ENDS],
         count: 0,
     };
     let zero = Subspace { high: 0, low: 0 };
