@@ -14,7 +14,7 @@ use lib.Seq.{drop-cons, take-suc, length-take-le, take-take, take-add, getD-take
 use Rattle.laws.specs.Lists.{piece, put}
 use Rattle.laws.proofs.Lists.{put-zeros, put-snoc}
 use Rattle.laws.proofs.Truth.{and-true}
-use Rattle.data_model.specs.Path.{Figures, field, Component, Components, cut, components, joined, endsFrom, legalEnds, legal, pathOf, valueOf, lastEnd}
+use Rattle.data_model.specs.Path.{Figures, field, capacity, Component, Components, cut, components, joined, endsFrom, legalEnds, legal, pathOf, valueOf, lastEnd}
 use Rattle.data_model.specs.Above.{orElse, raisedByte, raisedBytes, raised, aboveIn, above, raisedAt, aboveFound}
 use Rattle.data_model.specs.declared.path.Path.{Path}
 use Rattle.data_model.specs.declared.above.Above.{Above}
@@ -60,10 +60,10 @@ unfolding pathOf
 front-value cs bytes ends n b e l = rw (b, e, l)
 
 -- The value that is made by copying into zeros, and with one more of each.
-pub front-made : (bytes ends xs es : List ℕ) (n : ℕ) → bytes ≡ put xs (replicate (field .mpl) 0) → ends ≡ put es (replicate (field .mcc) 0)
+pub front-made : (bytes ends xs es : List ℕ) (n : ℕ) → bytes ≡ put xs (replicate (capacity .mpl) 0) → ends ≡ put es (replicate (capacity .mcc) 0)
     → _≡_ {A = Path} (record { bytes = bytes; ends = ends; count = n }) (valueOf xs es n)
 unfolding valueOf
-front-made bytes ends xs es n b e = rw (b ∙ put-zeros xs (field .mpl), e ∙ put-zeros es (field .mcc))
+front-made bytes ends xs es n b e = rw (b ∙ put-zeros xs (capacity .mpl), e ∙ put-zeros es (capacity .mcc))
 
 zeros-more : (xs : List ℕ) (m n v : ℕ) → n ≡ length xs → n < m → set (xs ++ replicate (m - length xs) 0) n v ≡ (xs ++ v ∷ []) ++ replicate (m - length (xs ++ v ∷ [])) 0
 zeros-more xs m n v e h =
@@ -71,12 +71,12 @@ zeros-more xs m n v e h =
     ∙ put-snoc xs (replicate m 0) n v e (rw length-replicate h)
     ∙ put-zeros (xs ++ v ∷ []) m
 
-pub front-more : (r : Path) (xs es : List ℕ) (n e v w : ℕ) → r ≡ valueOf xs es n → e ≡ length xs → n ≡ length es → e < field .mpl → n < field .mcc
+pub front-more : (r : Path) (xs es : List ℕ) (n e v w : ℕ) → r ≡ valueOf xs es n → e ≡ length xs → n ≡ length es → e < capacity .mpl → n < capacity .mcc
     → _≡_ {A = Path} (record { bytes = set (r .bytes) e v; ends = set (r .ends) n w; count = n + 1 }) (valueOf (xs ++ v ∷ []) (es ++ w ∷ []) (n + 1))
 unfolding valueOf
 front-more r xs es n e v w q a b g h =
-    let x : set (r .bytes) e v ≡ _ = ap (λ (p : Path). set (p .bytes) e v) q ∙ zeros-more xs (field .mpl) e v a g in
-    let y : set (r .ends) n w ≡ _ = ap (λ (p : Path). set (p .ends) n w) q ∙ zeros-more es (field .mcc) n w b h in
+    let x : set (r .bytes) e v ≡ _ = ap (λ (p : Path). set (p .bytes) e v) q ∙ zeros-more xs (capacity .mpl) e v a g in
+    let y : set (r .ends) n w ≡ _ = ap (λ (p : Path). set (p .ends) n w) q ∙ zeros-more es (capacity .mcc) n w b h in
     rw (x, y)
 
 -- The first i components of a path that is cut by legal ends.

@@ -16,8 +16,14 @@ pub record Figures : Type 0 where
   pub mcc : ℕ
   pub mpl : ℕ
 
+-- The figures that judge a path in the field.
 abbrev pub field : Figures
 field = record { mcl = 64; mcc = 8; mpl = 128 }
+
+-- How much a value can hold: the lengths of a path value's arrays, and of the array that one component is handed out in. The figures that judge
+-- are at most these.
+abbrev pub capacity : Figures
+capacity = record { mcl = 64; mcc = 8; mpl = 128 }
 
 -- A component is a list of bytes, and a path a list of components.
 abbrev pub Component : Type 0
@@ -61,8 +67,8 @@ isPath f cs = leb (length cs) (f .mcc) && (all (isComponent f) cs && leb (length
 -- A path value of these bytes and ends: 0 past its total and past its count.
 unfoldable pub valueOf : List ℕ → List ℕ → ℕ → Path
 valueOf bytes ends count = record {
-  bytes = bytes ++ replicate (field .mpl - length bytes) 0;
-  ends = ends ++ replicate (field .mcc - length ends) 0;
+  bytes = bytes ++ replicate (capacity .mpl - length bytes) 0;
+  ends = ends ++ replicate (capacity .mcc - length ends) 0;
   count = count;
 }
 

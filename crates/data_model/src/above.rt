@@ -1,7 +1,8 @@
 // The least legal path above a path that the path does not prefix.
-use crate::path::MCC;
 use crate::path::MCL;
 use crate::path::MPL;
+use crate::path::PATH_BYTES;
+use crate::path::PATH_ENDS;
 use crate::path::Path;
 ghost use Prim.Native.Nat.{_+_, _-_, _≤_, _<_, min};
 ghost use mathlib.Core.Path.{_≡_};
@@ -11,7 +12,7 @@ ghost use mathlib.Core.Option.{none};
 ghost use lib.Dec.{ltb};
 ghost use lib.ListN.{length, take};
 ghost use Rattle.laws.specs.Lists.{put};
-ghost use Rattle.data_model.specs.Path.{field, legal, components, pathOf, lastEnd, valueOf};
+ghost use Rattle.data_model.specs.Path.{field, capacity, legal, components, pathOf, lastEnd, valueOf};
 ghost use Rattle.data_model.specs.Above.{above, aboveFound, raisedAt, RaisesByte};
 
 // Refusal 0 and whether there is such a path, and it; or the refusal and all else 0.
@@ -51,11 +52,11 @@ fn copy_ends(from: &[usize], out: &mut [usize])
 
 // The first n ends and the first e bytes, with zeros behind.
 fn front(p: Path, n: usize, e: usize) -> Path
-    requires { ⌜ (n ≤ field .mcc) × (e ≤ field .mpl) ⌝ }
+    requires { ⌜ (n ≤ capacity .mcc) × (e ≤ capacity .mpl) ⌝ }
     ensures { λ r. ⌜ r ≡ valueOf (take e (p .bytes)) (take n (p .ends)) n ⌝ }
 {
-    let mut bytes = [0u8; MPL];
-    let mut ends = [0usize; MCC];
+    let mut bytes = [0u8; PATH_BYTES];
+    let mut ends = [0usize; PATH_ENDS];
     let old_bytes = p.bytes;
     let old_ends = p.ends;
     copy_bytes(&old_bytes[..e], &mut bytes);
@@ -69,7 +70,7 @@ fn front(p: Path, n: usize, e: usize) -> Path
 
 // The same with a byte and an end more.
 fn raise(p: Path, n: usize, e: usize, b: u8) -> Path
-    requires { ⌜ (n < field .mcc) × (e < field .mpl) ⌝ }
+    requires { ⌜ (n < capacity .mcc) × (e < capacity .mpl) ⌝ }
     ensures { λ r. ⌜ r ≡ valueOf (take e (p .bytes) ++ b ∷ []) (take n (p .ends) ++ (e + 1) ∷ []) (n + 1) ⌝ }
 {
     let mut r = front(p, n, e);

@@ -14,18 +14,26 @@ ghost use Rattle.data_model.specs.Path.{field, legal, legalEnds, compone
 ghost use Rattle.data_model.specs.Above.{aboveAnswer};
 ghost use Rattle.data_model.specs.Refusal.{answerSays, answered, comparedSays};
 
-// The most bytes of a component, components of a path, and bytes of a path.
+// The most bytes of a component, components of a path, and bytes of a path: the figures that judge it.
 pub const MCL: usize = 64;
 
 pub const MCC: usize = 8;
 
 pub const MPL: usize = 128;
 
+// How many bytes and how many ends a path value has room for, whatever figures judge it.
+pub const PATH_BYTES: usize = 128;
+
+pub const PATH_ENDS: usize = 8;
+
+// How many bytes one component has room for where it is handed out by itself.
+pub const COMPONENT_BYTES: usize = 64;
+
 // The component ends, of which the first `count` count, cut the bytes; what lies behind is never looked at.
 #[repr(C)]
 pub struct Path {
-    pub bytes: [u8; MPL],
-    pub ends: [usize; MCC],
+    pub bytes: [u8; PATH_BYTES],
+    pub ends: [usize; PATH_ENDS],
     pub count: usize,
 }
 
@@ -63,8 +71,8 @@ impl Path {
         ensures { λ r. ⌜ r ≡ pathOf [] ⌝ }
     {
         Path {
-            bytes: [0; MPL],
-            ends: [0; MCC],
+            bytes: [0; PATH_BYTES],
+            ends: [0; PATH_ENDS],
             count: 0,
         }
     }

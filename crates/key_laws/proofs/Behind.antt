@@ -10,7 +10,7 @@ use lib.ListN.{length, take, drop, replicate}
 use lib.Seq.{take-take, take-at, length-take-le}
 use borrow.Author.Tests.{leb-true}
 use Rattle.laws.proofs.Truth.{and-true}
-use Rattle.data_model.specs.Path.{Figures, field, Components, cut, components, joined, endsFrom, byComponents, legalEnds, legal, lastEnd, valueOf, pathOf}
+use Rattle.data_model.specs.Path.{Figures, field, capacity, Components, cut, components, joined, endsFrom, byComponents, legalEnds, legal, lastEnd, valueOf, pathOf}
 use Rattle.data_model.specs.Entry.{entryOf, rankOf}
 use Rattle.data_model.specs.Range.{End, closed, open-end, pathsEnd, pathsInclude, legalRange, includes}
 use Rattle.data_model.specs.Range3d.{rangeIncludes}
@@ -125,8 +125,8 @@ cleaned-agrees p v l =
     let cs = cut (p .bytes) 0 es in
     let t : legalEnds (field .mcl) (length (p .bytes)) 0 es ≡ true = rw (v .room) (legal-these field p l) in
     let n : length cs ≡ p .count = components-length p (omega (arith, v .ends, legal-count field p l)) in
-    let z : List ℕ = replicate (field .mcc - length (endsFrom 0 cs)) 0 in
-    let y : List ℕ = replicate (field .mpl - length (joined cs)) 0 in
+    let z : List ℕ = replicate (capacity .mcc - length (endsFrom 0 cs)) 0 in
+    let y : List ℕ = replicate (capacity .mpl - length (joined cs)) 0 in
     let d : endsFrom 0 cs ≡ es = cut-ends (p .bytes) (field .mcl) 0 es t in
     let j : joined cs ≡ take (total p) (p .bytes) = cut-joins (p .bytes) (field .mcl) 0 es t in
     let ends : es ≡ take (length cs) (endsFrom 0 cs ++ z) = sym (take-at (endsFrom 0 cs) z (length cs) (ends-length 0 cs) ∙ d) in

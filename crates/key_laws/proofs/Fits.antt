@@ -13,7 +13,7 @@ use lib.Seq.{take-at, drop-at, getD-drop}
 use Rattle.laws.specs.Lists.{piece}
 use Rattle.laws.specs.Sorted.{all}
 use Rattle.laws.proofs.Truth.{clash, and-true}
-use Rattle.data_model.specs.Path.{Figures, field, Component, Components, cut, components, joined, endsFrom, legalEnds, legal, isComponent, isPath, valueOf, pathOf}
+use Rattle.data_model.specs.Path.{Figures, field, capacity, Component, Components, cut, components, joined, endsFrom, legalEnds, legal, isComponent, isPath, valueOf, pathOf}
 use Rattle.data_model.specs.declared.path.Path.{Path}
 use Rattle.data_model.proofs.Values.{ends-top, length-piece, legal-count, legal-these, ends-length}
 use Rattle.key_laws.specs.Bytes.{Bytes}
@@ -171,9 +171,9 @@ cut-joined before after (c ∷ cs) =
 pub components-of : (cs : Components) → components (pathOf cs) ≡ cs
 unfolding components valueOf pathOf
 components-of cs =
-    ap (cut (joined cs ++ replicate (field .mpl - length (joined cs)) 0) 0)
-    (take-at (endsFrom 0 cs) (replicate (field .mcc - length (endsFrom 0 cs)) 0) (length cs) (ends-length 0 cs))
-    ∙ cut-joined [] (replicate (field .mpl - length (joined cs)) 0) cs
+    ap (cut (joined cs ++ replicate (capacity .mpl - length (joined cs)) 0) 0)
+    (take-at (endsFrom 0 cs) (replicate (capacity .mcc - length (endsFrom 0 cs)) 0) (length cs) (ends-length 0 cs))
+    ∙ cut-joined [] (replicate (capacity .mpl - length (joined cs)) 0) cs
 
 -- Components that fit have legal ends.
 ends-legal : (mcl mpl from n : ℕ) (cs : Components) → from ≤ mpl → fitting mcl (mpl - from) n cs ≡ true → (legalEnds mcl mpl from (endsFrom from cs) ≡ true) × (length cs ≤ n)
@@ -193,7 +193,7 @@ pub legal-of : (f : Figures) (cs : Components) → isPath f cs ≡ true → lega
 unfolding legal valueOf pathOf
 legal-of f cs h =
     let y = ends-legal (f .mcl) (f .mpl) 0 (f .mcc) cs (omega arith) (rw sub-zero (path-fits f cs h)) in
-    rw (le-leb (length cs) (f .mcc) (y .1), take-at (endsFrom 0 cs) (replicate (field .mcc - length (endsFrom 0 cs)) 0) (length cs) (ends-length 0 cs)) (y .0)
+    rw (le-leb (length cs) (f .mcc) (y .1), take-at (endsFrom 0 cs) (replicate (capacity .mcc - length (endsFrom 0 cs)) 0) (length cs) (ends-length 0 cs)) (y .0)
 
 -- The value of components that make a path is one of the language.
 pub all-bytes : (k : List ℕ) → all isByte k ≡ true → Bytes k
@@ -224,9 +224,9 @@ path-is-value cs h =
     let m = and-true (all (isComponent field) cs) (leb (length (joined cs)) (field .mpl)) (k .1) in
     let n : length (joined cs) ≤ field .mpl = leb-true (length (joined cs)) (field .mpl) (m .1) in
     let c : length cs ≤ field .mcc = leb-true (length cs) (field .mcc) (k .0) in
-    let z : List ℕ = replicate (field .mpl - length (joined cs)) 0 in
+    let z : List ℕ = replicate (capacity .mpl - length (joined cs)) 0 in
     record {
       room = simp (length-append, length-replicate) (omega arith);
-      bytes = all-bytes (joined cs ++ z) (bytes-join (joined cs) z (joined-bytes cs (all-view (isShort (field .mcl)) (all isByte) cs (m .0) .1)) (zero-bytes (field .mpl - length (joined cs))));
+      bytes = all-bytes (joined cs ++ z) (bytes-join (joined cs) z (joined-bytes cs (all-view (isShort (field .mcl)) (all isByte) cs (m .0) .1)) (zero-bytes (capacity .mpl - length (joined cs))));
       ends = simp (length-append, length-replicate, ends-length) (omega arith);
     }

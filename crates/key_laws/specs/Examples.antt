@@ -5,7 +5,7 @@ use mathlib.Core.List.{List, [], _∷_, _++_}
 use mathlib.Core.Bool.{true, false}
 use lib.ListN.{length, replicate}
 use Rattle.laws.specs.Order.{less}
-use Rattle.data_model.specs.Path.{field, Components, legal, pathOf, byComponents, isPrefix}
+use Rattle.data_model.specs.Path.{field, capacity, Components, legal, pathOf, byComponents, isPrefix}
 use Rattle.keys.specs.Encode.{pathKey}
 use Rattle.data_model.specs.Entry.{Entry, newer}
 use Rattle.data_model.specs.Range.{timesInclude}
@@ -18,7 +18,7 @@ use Rattle.data_model.specs.declared.area.AreaSubspace.{AreaSubspace}
 
 -- A path value with so many components that end there, all its bytes 61.
 abbrev pub value : ℕ → List ℕ → Path
-value count ends = record { bytes = replicate (field .mpl) 0x61; ends = ends ++ replicate (field .mcc - length ends) 0; count = count }
+value count ends = record { bytes = replicate (capacity .mpl) 0x61; ends = ends ++ replicate (capacity .mcc - length ends) 0; count = count }
 
 infix 40 _≺_
 abbrev pub _≺_ : Components → Components → Type 0

@@ -5,7 +5,7 @@ use mathlib.Core.List.{List}
 use mathlib.Core.Bool.{true, false}
 use mathlib.Core.Logic.{_↔_}
 use lib.ListN.{length, take}
-use Rattle.data_model.specs.Path.{field, components, legal, pathOf}
+use Rattle.data_model.specs.Path.{field, capacity, components, legal, pathOf}
 use Rattle.data_model.specs.declared.path.Path.{Path}
 use Rattle.data_model.specs.declared.parameters.Subspace.{Subspace}
 use Rattle.keys.specs.Encode.{Triple, triple, pathKey, sptKey, tspKey, roomy, encoded, encodedIn}
@@ -18,9 +18,9 @@ use Rattle.key_laws.specs.KeyOrder.{Sized}
 
 -- A path value as the language has it, legal or not: 128 bytes, each below 256, and 8 ends.
 pub record PathIsValue (p : Path) : Type 0 where
-  pub room : length (p .bytes) ≡ field .mpl
+  pub room : length (p .bytes) ≡ capacity .mpl
   pub bytes : Bytes (p .bytes)
-  pub ends : length (p .ends) ≡ field .mcc
+  pub ends : length (p .ends) ≡ capacity .mcc
 
 -- The encoder of such keys, handed these values and some buffer, writes the key k: it answers the length of k, and the buffer then begins with k.
 pub record Writes (key : Triple → List ℕ) (s : Subspace) (p : Path) (t : ℕ) (k : List ℕ) : Type 0 where

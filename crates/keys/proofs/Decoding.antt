@@ -10,7 +10,7 @@ use lib.ListN.{length, getD, replicate}
 use borrow.Author.Tests.{eq-eqb, ne-eqb, eqb-true, eqb-false}
 use Rattle.laws.proofs.Truth.{split}
 use Rattle.laws.proofs.Lists.{put-zeros}
-use Rattle.data_model.specs.Path.{Figures, field, Component, Components, joined, endsFrom, valueOf, pathOf}
+use Rattle.data_model.specs.Path.{Figures, field, capacity, Component, Components, joined, endsFrom, valueOf, pathOf}
 use Rattle.keys.specs.Encode.{Triple}
 use Rattle.keys.specs.Decode.{Taken, refused, took, bind, tokenOf, endsPath, readComponent, readPath, nextSays, componentSays, nextComponent, componentRead, pathRead, numberFrom, number, whole, wasRead, decoded}
 use Rattle.keys.specs.Inner.{partOf, Filled}
@@ -24,14 +24,14 @@ use Rattle.keys.specs.declared.decode.Decoded.{Decoded}
 use Rattle.keys.proofs.Walking.{PathFit, path-fit, path-empty}
 
 -- The next component: the path's end, a component, or neither.
-next-took : (at : ℕ) (t : Taken Component) (n u : ℕ) (bytes : List ℕ) → part.Took n u ≡ partOf t → Filled (λ c. c) t (replicate (field .mcl) 0) bytes
+next-took : (at : ℕ) (t : Taken Component) (n u : ℕ) (bytes : List ℕ) → part.Took n u ≡ partOf t → Filled (λ c. c) t (replicate (capacity .mcl) 0) bytes
     → componentSays (record { next = next.Component n (at + u); bytes = bytes }) ≡ nextComponent at t
 unfolding partOf componentSays nextSays nextComponent
 next-took at refused n u bytes e b = absurd (let z : _≡_ {A = ℕ} 0 1 = cc in omega arith)
 next-took at (took c v) n u bytes e b =
     let en : n ≡ length c = cc in
     let eu : u ≡ v = cc in
-    let pb : bytes ≡ c ++ replicate (field .mcl - length c) 0 = b ∙ put-zeros c (field .mcl) in
+    let pb : bytes ≡ c ++ replicate (capacity .mcl - length c) 0 = b ∙ put-zeros c (capacity .mcl) in
     rw (en, eu, pb)
 
 next-refused : (at : ℕ) (t : Taken Component) → part.Refused ≡ partOf t → nextComponent at refused ≡ nextComponent at t
@@ -40,12 +40,12 @@ next-refused at refused e = refl
 next-refused at (took c v) e = absurd (let z : _≡_ {A = ℕ} 0 1 = cc in omega arith)
 
 module _ (at : ℕ) (k : List ℕ) where
-  pub component-ended : endsPath (tokenOf k) ≡ true → componentSays (record { next = next.PathEnd (at + 2); bytes = replicate (field .mcl) 0 }) ≡ componentRead field at k
+  pub component-ended : endsPath (tokenOf k) ≡ true → componentSays (record { next = next.PathEnd (at + 2); bytes = replicate (capacity .mcl) 0 }) ≡ componentRead field at k
   unfolding componentSays nextSays componentRead
   component-ended e = rw e
 
   pub component-took : (n u : ℕ) (bytes : List ℕ) → endsPath (tokenOf k) ≡ false → part.Took n u ≡ partOf (readComponent (field .mcl) k)
-      → Filled (λ c. c) (readComponent (field .mcl) k) (replicate (field .mcl) 0) bytes
+      → Filled (λ c. c) (readComponent (field .mcl) k) (replicate (capacity .mcl) 0) bytes
       → componentSays (record { next = next.Component n (at + u); bytes = bytes }) ≡ componentRead field at k
   unfolding componentRead
   component-took n u bytes e p b = rw e (next-took at (readComponent (field .mcl) k) n u bytes p b)
@@ -57,15 +57,15 @@ module _ (at : ℕ) (k : List ℕ) where
 -- A path that was read into zeros.
 module _ (at : ℕ) where
   pub path-took : (t : Taken Components) (n u : ℕ) (bytes ends : List ℕ) → part.Took n u ≡ partOf t
-      → Filled joined t (replicate (field .mpl) 0) bytes → Filled (endsFrom 0) t (replicate (field .mcc) 0) ends
+      → Filled joined t (replicate (capacity .mpl) 0) bytes → Filled (endsFrom 0) t (replicate (capacity .mcc) 0) ends
       → record { refusal = 0; path = record { bytes = bytes; ends = ends; count = n }; next = at + u } ≡ pathRead at t
   unfolding partOf pathRead pathOf valueOf
   path-took refused n u bytes ends e b m = absurd (let z : _≡_ {A = ℕ} 0 1 = cc in omega arith)
   path-took (took cs v) n u bytes ends e b m =
       let en : n ≡ length cs = cc in
       let eu : u ≡ v = cc in
-      let pb : bytes ≡ joined cs ++ replicate (field .mpl - length (joined cs)) 0 = b ∙ put-zeros (joined cs) (field .mpl) in
-      let pm : ends ≡ endsFrom 0 cs ++ replicate (field .mcc - length (endsFrom 0 cs)) 0 = m ∙ put-zeros (endsFrom 0 cs) (field .mcc) in
+      let pb : bytes ≡ joined cs ++ replicate (capacity .mpl - length (joined cs)) 0 = b ∙ put-zeros (joined cs) (capacity .mpl) in
+      let pm : ends ≡ endsFrom 0 cs ++ replicate (capacity .mcc - length (endsFrom 0 cs)) 0 = m ∙ put-zeros (endsFrom 0 cs) (capacity .mcc) in
       rw (en, eu, pb, pm)
 
   pub path-missed : (t : Taken Components) → part.Refused ≡ partOf t → pathRead 0 refused ≡ pathRead at t

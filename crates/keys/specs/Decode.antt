@@ -4,7 +4,7 @@ use mathlib.Core.List.{List, [], _∷_, _++_}
 use mathlib.Core.Bool.{Bool, true, false, cond}
 use lib.ListN.{length, take, drop, replicate}
 use lib.Dec.{eqb}
-use Rattle.data_model.specs.Path.{Figures, field, Component, Components, pathOf}
+use Rattle.data_model.specs.Path.{Figures, capacity, Component, Components, pathOf}
 use Rattle.data_model.specs.Subspace.{firstSubspace}
 use Rattle.keys.specs.Encode.{escaped, Triple}
 use Rattle.data_model.specs.Said.{Said, refuses, says}
@@ -153,10 +153,10 @@ componentSays c = record { next = nextSays (c .next); bytes = c .bytes }
 
 -- The next component and the position behind it, or the path's end. Refused, the bytes are 0.
 unfoldable pub nextComponent : ℕ → Taken Component → StepRead
-nextComponent at refused = record { next = refuses noKey; bytes = replicate (field .mcl) 0 }
-nextComponent at (took c u) = record { next = says (component (length c) (at + u)); bytes = c ++ replicate (field .mcl - length c) 0 }
+nextComponent at refused = record { next = refuses noKey; bytes = replicate (capacity .mcl) 0 }
+nextComponent at (took c u) = record { next = says (component (length c) (at + u)); bytes = c ++ replicate (capacity .mcl - length c) 0 }
 
 unfoldable pub componentRead : Figures → ℕ → List ℕ → StepRead
 componentRead f at k =
-    cond (endsPath (tokenOf k)) (record { next = says (end-of-path (at + 2)); bytes = replicate (field .mcl) 0 })
+    cond (endsPath (tokenOf k)) (record { next = says (end-of-path (at + 2)); bytes = replicate (capacity .mcl) 0 })
     (nextComponent at (readComponent (f .mcl) k))

@@ -8,9 +8,10 @@ use crate::token::token_at;
 use crate::token::width;
 use data_model::answer::NO_KEY;
 use data_model::parameters::Subspace;
-use data_model::path::MCC;
+use data_model::path::COMPONENT_BYTES;
 use data_model::path::MCL;
-use data_model::path::MPL;
+use data_model::path::PATH_BYTES;
+use data_model::path::PATH_ENDS;
 use data_model::path::Path;
 ghost use mathlib.Core.Path.{_≡_};
 ghost use Prim.Native.Nat.{_+_, _≤_};
@@ -34,7 +35,7 @@ pub enum Next {
 
 pub struct ComponentRead {
     pub next: Next,
-    pub bytes: [u8; MCL],
+    pub bytes: [u8; COMPONENT_BYTES],
 }
 
 // A path and the position behind it.
@@ -124,16 +125,16 @@ pub fn component_bytes(key: &[u8], at: usize) -> ComponentRead
     if key.len() < at {
         return ComponentRead {
             next: Next::Refused(NO_KEY),
-            bytes: [0; MCL],
+            bytes: [0; COMPONENT_BYTES],
         };
     }
     if ends_path(key, at) {
         return ComponentRead {
             next: Next::PathEnd(at + 2),
-            bytes: [0; MCL],
+            bytes: [0; COMPONENT_BYTES],
         };
     }
-    let mut bytes = [0u8; MCL];
+    let mut bytes = [0u8; COMPONENT_BYTES];
     let c = read_component(&key[at..], MCL, &mut bytes);
     match c {
         Part::Took(n, used) => ComponentRead {
@@ -142,20 +143,20 @@ pub fn component_bytes(key: &[u8], at: usize) -> ComponentRead
         },
         Part::Refused => ComponentRead {
             next: Next::Refused(NO_KEY),
-            bytes: [0; MCL],
+            bytes: [0; COMPONENT_BYTES],
         },
     }
 }
 
-// The path at a position, and the position behind it.
+// The path at a position, and the position behind it. How many bytes and components it may have is what the value has room for.
 pub fn decode_path(key: &[u8], at: usize) -> PathRead
     ensures { λ r. ⌜ r ≡ pathRead at (readPath field (drop at (now (key .entry)))) ⌝ }
 {
     if key.len() < at {
         return refused_path();
     }
-    let mut bytes = [0u8; MPL];
-    let mut ends = [0usize; MCC];
+    let mut bytes = [0u8; PATH_BYTES];
+    let mut ends = [0usize; PATH_ENDS];
     let d = decode_components(&key[at..], MCL, &mut bytes, &mut ends);
     match d {
         Part::Took(count, used) => PathRead {

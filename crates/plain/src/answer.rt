@@ -2,7 +2,7 @@
 use data_model::answer::Answer;
 use data_model::answer::Compared;
 use data_model::entry::Entry;
-use data_model::path::MCL;
+use data_model::path::COMPONENT_BYTES;
 use key_reader::Stepped;
 use keys::decode::Next;
 use keys::encode::Encoded;
@@ -74,7 +74,7 @@ pub struct PlainStepped {
     pub refusal: u8,
     pub component: bool,
     pub length: usize,
-    pub bytes: [u8; MCL],
+    pub bytes: [u8; COMPONENT_BYTES],
     pub position: usize,
     pub left: usize,
 }

@@ -10,7 +10,7 @@ use lib.ListN.{length, set, replicate, length-append, length-set}
 use borrow.Rule.Slice.PartMut.{putMid, midOf}
 use Rattle.laws.specs.Lists.{put}
 use Rattle.laws.proofs.Lists.{length-put, wrote-first, wrote-last, put-snoc, put-zeros}
-use Rattle.data_model.specs.Path.{field, Components, joined, endsFrom, valueOf, pathOf}
+use Rattle.data_model.specs.Path.{field, capacity, Components, joined, endsFrom, valueOf, pathOf}
 use Rattle.data_model.specs.declared.path.Path.{Path}
 use Rattle.key_laws.proofs.Fits.{fitting}
 use Rattle.data_model.proofs.Values.{joined-more, ends-more, ends-length}
@@ -135,14 +135,14 @@ pub record Counted (fit : Bool) (all : Components) (path : Path) : Type 0 where
   pub is : path ≡ pathOf all
 
 pub counted-is : (fit : Bool) (all : Components) (bytes ends : List ℕ) (n m : ℕ) → Is n ≡ counted fit m → m ≡ length all
-    → PutIf fit (joined all) (replicate (field .mpl) 0) bytes → PutIf fit (endsFrom 0 all) (replicate (field .mcc) 0) ends
+    → PutIf fit (joined all) (replicate (capacity .mpl) 0) bytes → PutIf fit (endsFrom 0 all) (replicate (capacity .mcc) 0) ends
     → Counted fit all (record { bytes = bytes; ends = ends; count = n })
 unfolding counted valueOf pathOf
 counted-is false all bytes ends n m e l p q = absurd (let z : _≡_ {A = ℕ} 0 1 = cc in omega arith)
 counted-is true all bytes ends n m e l p q =
     let en : n ≡ length all = cc in
-    let pb : bytes ≡ joined all ++ replicate (field .mpl - length (joined all)) 0 = p ∙ put-zeros (joined all) (field .mpl) in
-    let pm : ends ≡ endsFrom 0 all ++ replicate (field .mcc - length (endsFrom 0 all)) 0 = q ∙ put-zeros (endsFrom 0 all) (field .mcc) in
+    let pb : bytes ≡ joined all ++ replicate (capacity .mpl - length (joined all)) 0 = p ∙ put-zeros (joined all) (capacity .mpl) in
+    let pm : ends ≡ endsFrom 0 all ++ replicate (capacity .mcc - length (endsFrom 0 all)) 0 = q ∙ put-zeros (endsFrom 0 all) (capacity .mcc) in
     record { holds = refl; is = rw (en, pb, pm) }
 
 pub counted-over : (fit : Bool) (m : ℕ) → Over ≡ counted fit m → fit ≡ false

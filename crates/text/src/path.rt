@@ -2,9 +2,9 @@
 use crate::hex::is_hex;
 use crate::hex::write_bytes_of;
 use crate::line::field_end;
-use data_model::path::MCC;
 use data_model::path::MCL;
-use data_model::path::MPL;
+use data_model::path::PATH_BYTES;
+use data_model::path::PATH_ENDS;
 use data_model::path::Path;
 ghost use mathlib.Core.Path.{_≡_};
 ghost use mathlib.Core.Bool.{true};
@@ -136,8 +136,8 @@ pub fn read_path(s: &[u8]) -> PathField
     if !all_components(s) {
         return empty(Outcome::Bad);
     }
-    let mut bytes = [0u8; MPL];
-    let mut ends = [0usize; MCC];
+    let mut bytes = [0u8; PATH_BYTES];
+    let mut ends = [0usize; PATH_ENDS];
     let c = read_components(s, &mut bytes, &mut ends);
     match c {
         Count::Is(count) => PathField {
