@@ -48,7 +48,7 @@ fn entry_of(e: EntryLine) -> Entry
 }
 
 // What is ingested of a line: its entry with token 0, and pruning is not prevented.
-fn ingestion_of(e: EntryLine) -> Ingestion
+fn ingestion_of_line(e: EntryLine) -> Ingestion
     ensures { λ r. ⌜ r ≡ ingestionOfLine e ⌝ }
 {
     let entry = entry_of(e);
@@ -95,7 +95,15 @@ pub fn carry_out(
     let e = read_line(line);
     let outcome = e.outcome;
     if let Outcome::Good = outcome {
-        let given = ingest_entry_numbers(state, spt, spt_dir, tsp, tsp_dir, prune, ingestion_of(e));
+        let given = ingest_entry_numbers(
+            state,
+            spt,
+            spt_dir,
+            tsp,
+            tsp_dir,
+            prune,
+            ingestion_of_line(e),
+        );
         let verdict = given.verdict;
         let after = given.state;
         return Carried {

@@ -32,8 +32,8 @@ read-line-requires c κs = search needs
 enum-told : tie.Need-enum-told
 enum-told c = search needs
 
-ingestion-of-requires : tie.Need-ingestion-of-requires
-ingestion-of-requires c κs = search needs
+ingestion-of-line-requires : tie.Need-ingestion-of-line-requires
+ingestion-of-line-requires c κs = search needs
 
 ingest-entry-numbers-requires : tie.Need-ingest-entry-numbers-requires
 ingest-entry-numbers-requires c κs = search needs
@@ -62,7 +62,7 @@ returns c =
     let g = c .before .before .before .before .before .before .before .before .before .before .before .before .ingest-entry-numbers in
     let r : Answer → LineOutcome = λ x. record { answer = x; store = storeOf (g .result .state) (g .last .1 .0) (g .last .1 .1 .0) (g .last .1 .1 .1 .0) (g .last .1 .1 .1 .1 .0); prune = g .last .1 .1 .1 .1 .1 .0 } in
     ap r (c .answer-of .ensures)
-    ∙ line-taken (lent p) (p .args .prune .now) (p .args .line .now) (c .before .before .before .before .before .before .before .before .before .before .before .before .before .before .before .before .before .before .before .before .before .read-line .result) (c .before .before .before .before .before .before .before .before .before .before .before .before .before .before .before .before .before .before .before .before .before .read-line .ensures) (c .before .before .before .before .before .before .before .before .before .before .before .before .before .before .before .before .before .before .before .enum-told .given .1) _ (c .before .before .before .before .before .before .before .before .before .before .before .before .before .ingestion-of .ensures) _ (g .ensures)
+    ∙ line-taken (lent p) (p .args .prune .now) (p .args .line .now) (c .before .before .before .before .before .before .before .before .before .before .before .before .before .before .before .before .before .before .before .before .before .read-line .result) (c .before .before .before .before .before .before .before .before .before .before .before .before .before .before .before .before .before .before .before .before .before .read-line .ensures) (c .before .before .before .before .before .before .before .before .before .before .before .before .before .before .before .before .before .before .before .enum-told .given .1) _ (c .before .before .before .before .before .before .before .before .before .before .before .before .before .ingestion-of-line .ensures) _ (g .ensures)
 
 answer-without-requires : tie.Need-answer-without-requires
 answer-without-requires c κs = search needs
@@ -79,7 +79,7 @@ carry-out-spec =
     (tie.spec
     read-line-requires
     enum-told
-    ingestion-of-requires
+    ingestion-of-line-requires
     ingest-entry-numbers-requires
     answer-of-requires
     same-length
