@@ -12,7 +12,7 @@ use Rattle.data_model.specs.Path.{Figures, Components, legal}
 use Rattle.data_model.specs.Entry.{Entry, entryOf}
 use Rattle.data_model.specs.Range.{legalRange}
 use Rattle.data_model.specs.Area.{emptyRange}
-use Rattle.data_model.specs.Refusal.{illegalPath}
+use Rattle.data_model.specs.Refusal.{illegalPath, otherNamespace, otherDigest}
 use Rattle.data_model.specs.declared.parameters.Subspace.{Subspace}
 use Rattle.data_model.specs.declared.area.Area.{Area}
 use Rattle.data_model.specs.declared.«range_3d».Range3d.{Range3d}
@@ -24,7 +24,7 @@ use Rattle.tree.specs.Interest.{interestFrom}
 use Rattle.data_model.specs.declared.«query_ignore_params».QueryIgnoreParams.{QueryIgnoreParams}
 use Rattle.tree.specs.declared.stored.KeyOrder.the-variants.{Spt, Tsp}
 use Rattle.store.specs.Store.{Store, dirRoom, held, heldBy, holding}
-use Rattle.store.specs.Refusal.{unless, _orElse_, storeRefusal, otherNamespace, otherDigest}
+use Rattle.store.specs.Refusal.{unless, _orElse_, storeRefusal}
 use Rattle.store.specs.Ingest.{refuse, decided, ingestRefusal, judged, carried, IngestOutcome, ingested}
 use Rattle.store.specs.Forget.{without, unexpected, forgetEntryRefusal, forgetAreaRefusal, ForgetEntryOutcome, ForgetAreaOutcome, entryForgotten, areaForgotten}
 use Rattle.pairs.specs.Pairs.{numbersOf, inPairs, pairsIngested}

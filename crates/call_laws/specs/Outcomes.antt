@@ -7,13 +7,13 @@ use lib.ListN.{length, replicate}
 use Rattle.laws.specs.Lists.{put}
 use Rattle.laws.specs.Sorted.{_∈_, keep}
 use Rattle.data_model.specs.Path.{Figures}
-use Rattle.data_model.specs.Entry.{entryOf, prunes}
+use Rattle.data_model.specs.Entry.{entryOf, prunes, noEntry}
 use Rattle.tree.specs.Stored.{Stored, lengthy}
 use Rattle.tree.specs.declared.stored.KeyOrder.{KeyOrder}
 use Rattle.tree.specs.declared.stored.KeyOrder.the-variants.{Spt}
 use Rattle.store.specs.Store.{Store, storeOf, treeRoom, dirRoom, held, Lent}
 use Rattle.store.specs.Open.{opening, noState}
-use Rattle.store.specs.Ingest.{IngestOutcome, ingested, prunedPairs, noEntry}
+use Rattle.store.specs.Ingest.{IngestOutcome, ingested, prunedPairs}
 use Rattle.store.specs.Forget.{entryForgotten, areaForgotten}
 use Rattle.store.specs.declared.state.State.{State}
 use Rattle.pairs.specs.Pairs.{prunedCount}

@@ -16,12 +16,12 @@ use Rattle.laws.proofs.Truth.{split}
 use Rattle.data_model.specs.Said.{refuses, says, numberOf}
 use Rattle.data_model.specs.Path.{field, legal}
 use Rattle.data_model.specs.Entry.{Entry, entryOf}
-use Rattle.data_model.specs.Refusal.{shortBuffer, illegalPath}
+use Rattle.data_model.specs.Refusal.{shortBuffer, illegalPath, badLimit, notWellFormed, otherNamespace, pruningPrevented, full}
 use Rattle.tree.specs.Stored.{Stored}
 use Rattle.tree.specs.Matching.{outdates, removes}
 use Rattle.tree.specs.declared.stored.KeyOrder.the-variants.{Spt}
 use Rattle.store.specs.Store.{Store, dirRoom, held, wellFormedStore}
-use Rattle.store.specs.Refusal.{badLimit, notWellFormed, otherNamespace, pruningPrevented, full, unless, _orElse_, limitOk, roomy, storeRefusal}
+use Rattle.store.specs.Refusal.{unless, _orElse_, limitOk, roomy, storeRefusal}
 use Rattle.store.specs.Ingest.{succeeds, Decision, refuse, obsolete, take-it, stays, firstThat, decidedOf, decided, ingestRefusal, judged, MayFile, prunedPairs, plainAnswer, carried, ingested}
 use Rattle.store.specs.declared.ingest.Ingestion.{Ingestion}
 use Rattle.store.proofs.FileLaws.{success-may}

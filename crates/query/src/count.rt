@@ -2,13 +2,13 @@
 use crate::answer::Counted;
 use crate::check::read_refusal;
 use data_model::area::Area;
-use data_model::query_ignore_params::QueryIgnoreParams;
 use data_model::range_3d::Range3d;
 use store::state::LIMIT_MOST;
 use store::state::RECORD_MOST;
 use store::state::State;
 use tree::by_value::is_legal;
 use tree::by_value::is_legal_range;
+use tree::by_value::no_flags;
 use tree::marks::count_marked;
 use tree::matching::mark_area;
 use tree::matching::mark_range;
@@ -33,7 +33,7 @@ fn count_in_area(count: usize, spt: &[u8], spt_dir: &[u32], area: Area) -> usize
     requires { ⌜ (Formed Spt count (now «spt_dir») (now spt)) × (count ≤ limitMost) × (legal field (area .path) ≡ true) ⌝ }
     ensures { λ r. ⌜ ((ns : List ℕ) → r ≡ length (keep (inArea area) (inTree Spt ns count (now («spt_dir» .entry)) (now (spt .entry))))) ⌝ }
 {
-    let ignore = QueryIgnoreParams::default();
+    let ignore = no_flags();
     let mut marks = [0u8; LIMIT_MOST];
     mark_area(KeyOrder::Spt, count, spt_dir, spt, area, ignore, &mut marks);
     count_marked(&marks[..count])
@@ -43,7 +43,7 @@ fn count_in_range(count: usize, spt: &[u8], spt_dir: &[u32], range: Range3d) -> 
     requires { ⌜ (Formed Spt count (now «spt_dir») (now spt)) × (count ≤ limitMost) × (legalRange field (range .paths) ≡ true) ⌝ }
     ensures { λ r. ⌜ ((ns : List ℕ) → r ≡ length (keep (inRange range) (inTree Spt ns count (now («spt_dir» .entry)) (now (spt .entry))))) ⌝ }
 {
-    let ignore = QueryIgnoreParams::default();
+    let ignore = no_flags();
     let mut marks = [0u8; LIMIT_MOST];
     mark_range(
         KeyOrder::Spt,

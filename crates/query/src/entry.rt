@@ -9,6 +9,7 @@ use store::state::LIMIT_MOST;
 use store::state::RECORD_MOST;
 use store::state::State;
 use tree::by_value::is_legal;
+use tree::by_value::zero_entry;
 use tree::entries::mark_at;
 use tree::marks::first_marked;
 use tree::matching::let_through;
@@ -28,7 +29,7 @@ ghost use Rattle.query.specs.Lookup.{notFound, foundIn, entryFound};
 fn not_found(refusal: u8) -> EntryFound
     ensures { λ r. ⌜ r ≡ notFound refusal ⌝ }
 {
-    let none = Entry::zero();
+    let none = zero_entry();
     EntryFound {
         refusal,
         found: false,

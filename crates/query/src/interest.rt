@@ -3,14 +3,15 @@ use crate::answer::InterestRange;
 use crate::check::read_refusal;
 use data_model::area::Area;
 use data_model::area_of_interest::AreaOfInterest;
-use data_model::query_ignore_params::QueryIgnoreParams;
 use data_model::range::TimesRange;
 use data_model::range_3d::Range3d;
 use store::state::LIMIT_MOST;
 use store::state::RECORD_MOST;
 use store::state::State;
 use tree::by_value::area_range;
+use tree::by_value::empty_range;
 use tree::by_value::is_legal;
+use tree::by_value::no_flags;
 use tree::interest::interest_start;
 use tree::matching::mark_area;
 use tree::stored::KeyOrder;
@@ -33,7 +34,7 @@ fn interest_time(count: usize, tsp: &[u8], tsp_dir: &[u32], aoi: AreaOfInterest)
 {
     let area = aoi.area;
     let times = area.times;
-    let ignore = QueryIgnoreParams::default();
+    let ignore = no_flags();
     let mut marks = [0u8; LIMIT_MOST];
     mark_area(KeyOrder::Tsp, count, tsp_dir, tsp, area, ignore, &mut marks);
     interest_start(
@@ -51,7 +52,7 @@ fn interest_time(count: usize, tsp: &[u8], tsp_dir: &[u32], aoi: AreaOfInterest)
 fn refused_range(refusal: u8) -> InterestRange
     ensures { λ r. ⌜ r ≡ record { refusal = refusal; range = emptyRange } ⌝ }
 {
-    let range = Range3d::empty();
+    let range = empty_range();
     InterestRange { refusal, range }
 }
 

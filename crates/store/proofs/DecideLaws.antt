@@ -22,7 +22,7 @@ use Rattle.tree.specs.Matching.{outdates, removes}
 use Rattle.tree.specs.declared.stored.KeyOrder.the-variants.{Spt}
 use Rattle.tree.specs.declared.stored.LengthyAuthorisedEntry.{LengthyAuthorisedEntry}
 use Rattle.tree.proofs.FormedContents.{formed-many}
-use Rattle.store.specs.Refusal.{pruningPrevented, full}
+use Rattle.data_model.specs.Refusal.{pruningPrevented, full}
 use Rattle.store.specs.Ingest.{placeDecided, removedFrom, outdatedAt, verdictSays, ingestedSays, obsoleteAnswer}
 use Rattle.store.specs.declared.state.State.{State}
 use Rattle.store.specs.declared.ingest.Ingested.{Ingested}

@@ -7,7 +7,7 @@ use lib.Dec.{eqb}
 use Rattle.laws.specs.Prefix.{sameNumber, sameList}
 use Rattle.laws.specs.Sorted.{any, keep}
 use Rattle.data_model.specs.Path.{Figures, Components, components, legal}
-use Rattle.data_model.specs.Refusal.{illegalPath}
+use Rattle.data_model.specs.Refusal.{illegalPath, otherDigest}
 use Rattle.data_model.specs.declared.path.Path.{Path}
 use Rattle.data_model.specs.declared.parameters.Subspace.{Subspace}
 use Rattle.data_model.specs.declared.area.Area.{Area}
@@ -15,7 +15,7 @@ use Rattle.tree.specs.Stored.{Stored}
 use Rattle.tree.specs.Matching.{standsAt, isForgotten}
 use Rattle.tree.specs.declared.stored.KeyOrder.the-variants.{Spt}
 use Rattle.store.specs.Store.{Store, storeOf, held, Held, heldBy, holding}
-use Rattle.store.specs.Refusal.{unless, _orElse_, storeRefusal, otherDigest}
+use Rattle.store.specs.Refusal.{unless, _orElse_, storeRefusal}
 use Rattle.store.specs.declared.forget.EntryForgotten.{EntryForgotten}
 use Rattle.store.specs.declared.forget.AreaForgotten.{AreaForgotten}
 

@@ -14,9 +14,8 @@ use Rattle.layout.specs.Layout.{records}
 use Rattle.layout.specs.Marks.{marksOf, firstMark, markedPairs}
 use Rattle.data_model.specs.Said.{Said, refuses, says}
 use Rattle.data_model.specs.Path.{Figures, legal}
-use Rattle.data_model.specs.Entry.{Entry, entryOf}
-pub use Rattle.data_model.specs.Entry.{noEntry}
-use Rattle.data_model.specs.Refusal.{illegalPath}
+use Rattle.data_model.specs.Entry.{Entry, entryOf, noEntry}
+use Rattle.data_model.specs.Refusal.{illegalPath, otherNamespace, pruningPrevented, full}
 use Rattle.data_model.specs.declared.entry.Entry.{Entry as EntryValue}
 use Rattle.key_laws.specs.KeyOrder.{sptOrder, tspOrder}
 use Rattle.tree.specs.Stored.{Stored, stored, contents, tripleOf, lengthy}
@@ -24,7 +23,7 @@ use Rattle.tree.specs.Matching.{outdates, removes}
 use Rattle.tree.specs.declared.stored.KeyOrder.{KeyOrder}
 use Rattle.tree.specs.declared.stored.KeyOrder.the-variants.{Spt, Tsp}
 use Rattle.store.specs.Store.{Store, storeOf, dirRoom, treeOf, dirOf, held, Held, heldBy, holding}
-use Rattle.store.specs.Refusal.{unless, _orElse_, storeRefusal, otherNamespace, pruningPrevented, full}
+use Rattle.store.specs.Refusal.{unless, _orElse_, storeRefusal}
 use Rattle.store.specs.declared.state.State.{State}
 use Rattle.store.specs.declared.ingest.IngestVerdict.{IngestVerdict}
 use Rattle.store.specs.declared.ingest.IngestVerdict.the-variants as verdict

@@ -5,9 +5,9 @@ use mathlib.Core.Bool.{cond}
 use lib.ListN.{replicate}
 use lib.Dec.{eqb}
 use Rattle.data_model.specs.Path.{Figures}
-use Rattle.data_model.specs.Refusal.{shortBuffer}
+use Rattle.data_model.specs.Refusal.{shortBuffer, badLimit}
 use Rattle.store.specs.Store.{Store, storeOf, Held, holding}
-use Rattle.store.specs.Refusal.{badLimit, unless, _orElse_, limitOk, roomy}
+use Rattle.store.specs.Refusal.{unless, _orElse_, limitOk, roomy}
 use Rattle.store.specs.declared.state.State.{State}
 use Rattle.store.specs.declared.state.Opened.{Opened}
 

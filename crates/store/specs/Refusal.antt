@@ -1,11 +1,10 @@
--- The refusals that only a store gives, and the tests that every call on a store begins with.
+-- The tests that every call on a store begins with, and the first of some refusals.
 use Prim.Native.Nat.{ℕ}
 use mathlib.Core.Bool.{Bool, cond, _&&_}
 use lib.ListN.{length}
 use lib.Dec.{leb, eqb}
 use Rattle.data_model.specs.Path.{Figures}
-use Rattle.data_model.specs.Refusal.{shortBuffer}
-pub use Rattle.data_model.specs.Refusal.{badLimit, notWellFormed, otherNamespace, pruningPrevented, full, otherDigest}
+use Rattle.data_model.specs.Refusal.{badLimit, shortBuffer, notWellFormed}
 use Rattle.store.specs.Store.{limitMost, Store, treeRoom, dirRoom, wellFormedStore}
 
 -- A refusal, unless the test holds; the first of two refusals. 0 is none.

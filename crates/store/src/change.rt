@@ -4,7 +4,7 @@ use crate::state::RECORD_MOST;
 use data_model::area::Area;
 use data_model::parameters::Subspace;
 use data_model::path::Path;
-use data_model::query_ignore_params::QueryIgnoreParams;
+use tree::by_value::no_flags;
 use tree::edit::insert_at;
 use tree::edit::retain;
 use tree::entries::mark_at;
@@ -102,7 +102,7 @@ fn mark_forgotten(
     requires { ⌜ (Formed order count (now dir) (now tree)) × (count ≤ limitMost) × (count ≤ length (now marks)) × (legal field (area .path) ≡ true) × (cond protects (legal field (protected .path)) true ≡ true) ⌝ }
     ensures { λ _. ⌜ ((ns : List ℕ) → now (marks .exit) ≡ put (marksOf (isForgotten area protects protected) (inTree order ns count (now (dir .entry)) (now (tree .entry)))) (now (marks .entry))) ⌝ }
 {
-    let ignore = QueryIgnoreParams::default();
+    let ignore = no_flags();
     mark_area(order, count, dir, tree, area, ignore, marks);
     if protects {
         let mut shield = [0u8; LIMIT_MOST];

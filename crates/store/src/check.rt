@@ -1,9 +1,9 @@
 // The tests that every call on a store begins with: limit, room, well-formedness.
-use crate::state::BAD_LIMIT;
 use crate::state::LIMIT_MOST;
-use crate::state::NOT_WELL_FORMED;
 use crate::state::RECORD_MOST;
 use crate::state::State;
+use data_model::answer::BAD_LIMIT;
+use data_model::answer::NOT_WELL_FORMED;
 use data_model::answer::SHORT_BUFFER;
 use tree::apart::apart;
 use tree::shape::well_formed;

@@ -1,7 +1,7 @@
 // Whether an entry that is not refused with 1 to 6 is outdated, prevented from pruning, in a full store, or taken.
-use crate::state::FULL;
 use crate::state::LIMIT_MOST;
-use crate::state::PRUNING_PREVENTED;
+use data_model::answer::FULL;
+use data_model::answer::PRUNING_PREVENTED;
 use data_model::entry::Entry;
 use tree::entries::mark_outdating;
 use tree::entries::mark_removed;

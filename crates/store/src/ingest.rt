@@ -6,13 +6,14 @@ use crate::check::dir_fits;
 use crate::decide::PlaceDecision;
 use crate::decide::decide;
 use crate::state::LIMIT_MOST;
-use crate::state::OTHER_NAMESPACE;
 use crate::state::RECORD_MOST;
 use crate::state::State;
 use data_model::answer::ILLEGAL_PATH;
+use data_model::answer::OTHER_NAMESPACE;
 use data_model::entry::Entry;
 use tree::by_value::is_legal;
 use tree::by_value::same_bytes;
+use tree::by_value::zero_entry;
 use tree::marks::write_pairs;
 use tree::stored::KeyOrder;
 use tree::stored::LengthyAuthorisedEntry;
@@ -89,7 +90,7 @@ fn ingest_refusal(
 fn plain_answer(verdict: IngestVerdict, state: State) -> Ingested
     ensures { λ r. ⌜ ingestedSays r ≡ plainAnswer (verdictSays verdict) state ⌝ }
 {
-    let newer = Entry::zero();
+    let newer = zero_entry();
     Ingested {
         verdict,
         state,

@@ -1,10 +1,10 @@
 // Opening a store.
 use crate::check::is_roomy;
 use crate::check::limit_ok;
-use crate::state::BAD_LIMIT;
 use crate::state::Opened;
 use crate::state::RECORD_MOST;
 use crate::state::State;
+use data_model::answer::BAD_LIMIT;
 use data_model::answer::SHORT_BUFFER;
 ghost use mathlib.Core.Path.{_≡_};
 ghost use mathlib.Core.List.{[]};

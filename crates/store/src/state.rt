@@ -1,10 +1,4 @@
-// The state of a store, by value; the data model's refusals that only a store gives.
-pub use data_model::answer::BAD_LIMIT;
-pub use data_model::answer::FULL;
-pub use data_model::answer::NOT_WELL_FORMED;
-pub use data_model::answer::OTHER_DIGEST;
-pub use data_model::answer::OTHER_NAMESPACE;
-pub use data_model::answer::PRUNING_PREVENTED;
+// The state of a store, by value.
 use keys::encode::KEY_MOST;
 use tree::value::VALUE;
 ghost use mathlib.Core.Path.{_≡_};

@@ -16,8 +16,8 @@ use Rattle.query.proofs.count.count_in_range.Tie as tie
 front : (c : tie.After-mark-range) → _≡_ {A = ℕ} ((c .before .before .before .before .before) .args .count) (length (take ((c .before .before .before .before .before) .args .count) (c .mark-range .last .1 .1 .1 .1 .1 .1 .0)))
 front c = sym (length-take-le ((c .before .before .before .before .before) .args .count) (c .mark-range .last .1 .1 .1 .1 .1 .1 .0) (omega (arith, (c .before .before .before .before .before) .pre .1, c .mark-range .kept .1 .1 .1 .1 .1 .1 .0, length-replicate {A = ℕ} 1024 0)))
 
-default-requires : tie.Need-default-requires
-default-requires c κs = search needs
+no-flags-requires : tie.Need-no-flags-requires
+no-flags-requires c κs = search needs
 
 slice-aggregate-mark-range : tie.Need-slice-aggregate-mark-range
 slice-aggregate-mark-range c = search needs
@@ -35,13 +35,13 @@ count-marked-requires : tie.Need-count-marked-requires
 count-marked-requires c κs = search needs
 
 returns : tie.Need-returns
-returns c = λ ns. let p = (c .before .before .before .before .before .before .before .before) in let m = c .before .before .before .mark-range in count-marked (listedInRange (p .args .range) (c .before .before .before .before .before .default .result)) _ (p .args .count) (formed-many (p .pre .0) ns) _ _ (m .ensures ns) (inRange (p .args .range)) (unflagged-range (c .before .before .before .before .before .default .result) (c .before .before .before .before .before .default .ensures) (p .args .range)) _ (c .count-marked .ensures)
+returns c = λ ns. let p = (c .before .before .before .before .before .before .before .before) in let m = c .before .before .before .mark-range in count-marked (listedInRange (p .args .range) (c .before .before .before .before .before .no-flags .result)) _ (p .args .count) (formed-many (p .pre .0) ns) _ _ (m .ensures ns) (inRange (p .args .range)) (unflagged-range (c .before .before .before .before .before .no-flags .result) (c .before .before .before .before .before .no-flags .ensures) (p .args .range)) _ (c .count-marked .ensures)
 
 pub count-in-range-spec : {M : Type 1} → statement M
 count-in-range-spec =
     tie.close
     (tie.spec
-    default-requires
+    no-flags-requires
     slice-aggregate-mark-range
     mark-range-requires
     array-share-prefix-marks

@@ -7,11 +7,11 @@ use borrow.Author.Needs.{needs}
 use Rattle.query.proofs.entry.not_found.Statement.{statement}
 use Rattle.query.proofs.entry.not_found.Tie as tie
 
-zero-requires : tie.Need-zero-requires
-zero-requires c κs = search needs
+zero-entry-requires : tie.Need-zero-entry-requires
+zero-entry-requires c κs = search needs
 
 returns : tie.Need-returns
-returns c = ap (λ (e : Entry). record { refusal = (c .before) .args .refusal; found = false; lengthy = record { entry = e; token = replicate 64 0; available = 0 } }) (c .zero .ensures)
+returns c = ap (λ (e : Entry). record { refusal = (c .before) .args .refusal; found = false; lengthy = record { entry = e; token = replicate 64 0; available = 0 } }) (c .zero-entry .ensures)
 
 pub not-found-spec : {M : Type 1} → statement M
-not-found-spec = tie.close (tie.spec zero-requires returns)
+not-found-spec = tie.close (tie.spec zero-entry-requires returns)

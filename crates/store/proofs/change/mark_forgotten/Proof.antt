@@ -11,8 +11,8 @@ use Rattle.store.proofs.ChangeLaws.{unprotected-marks, protected-marks,
 use Rattle.store.proofs.change.mark_forgotten.Statement.{statement}
 use Rattle.store.proofs.change.mark_forgotten.Tie as tie
 
-default-requires : tie.Need-default-requires
-default-requires c κs = search needs
+no-flags-requires : tie.Need-no-flags-requires
+no-flags-requires c κs = search needs
 
 mark-area-requires : tie.Need-mark-area-requires
 mark-area-requires c κs = search needs
@@ -38,7 +38,7 @@ same-length c = search needs
 returns : tie.Need-returns
 returns c = λ ns.
     let p = c .before .before .before .before .before .before .before .before .before .before .before .before .before .before .before .before .before in
-    let f = c .before .before .before .before .before .before .before .before .before .before .before .before .before .default in
+    let f = c .before .before .before .before .before .before .before .before .before .before .before .before .before .no-flags in
     protected-marks (f .result) (f .ensures) (p .args .area) (p .args .protected) (p .args .protects) (inTree (p .args .order) ns (p .args .count) (p .args .dir .now) (p .args .tree .now)) (c .before .before .before .before .before .before .before .before .if1 .taken) (p .args .count) (formed-many (p .pre .0) ns)
     _ _ _ _ _ (c .before .before .before .before .before .before .before .before .before .before .before .mark-area .ensures ns) (c .before .before .before .before .before .before .mark-area2 .ensures ns) (c .before .before .unmark .ensures)
 
@@ -48,14 +48,14 @@ same-length-2 c = search needs
 returns-2 : tie.Need-returns-2
 returns-2 c = λ ns.
     let p = c .before .before .before .before .before .before .before .before .before in
-    let f = c .before .before .before .before .before .default in
+    let f = c .before .before .before .before .before .no-flags in
     unprotected-marks (f .result) (f .ensures) (p .args .area) (p .args .protected) (p .args .protects) (inTree (p .args .order) ns (p .args .count) (p .args .dir .now) (p .args .tree .now)) (c .if1 .left) _ _ (c .before .before .before .mark-area .ensures ns)
 
 pub mark-forgotten-spec : {M : Type 1} → statement M
 mark-forgotten-spec =
     tie.close
     (tie.spec
-    default-requires
+    no-flags-requires
     mark-area-requires
     slice-aggregate-mark-area
     mark-area-requires-2

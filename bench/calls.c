@@ -1,0 +1,85 @@
+/* One call of the door, for a count of its instructions: `calls CALL ENTRIES MORE SUBSPACES` builds a store of so many entries, their paths with so
+   many components of 16 bytes more, in so many subspaces by turns, and makes the call once in `measured`. `calls` alone names the calls. The stores of one
+   subspace are those of times.c. */
+#include "virebony.h"
+#include <stdio.h>
+#include <stdlib.h>
+#include <string.h>
+
+enum { MOST = 1024, RECORD = 410 };
+static vb_state state;
+static uint8_t tree[2][RECORD * MOST];
+static uint32_t dir[2][2 * MOST];
+static vb_pair prune[MOST];
+static uint32_t numbers[2 * MOST];
+static uint8_t token[64];
+static size_t entries, subspaces;
+static int more;
+#define STORE tree[0], RECORD * state.limit, dir[0], 2 * state.limit, tree[1], RECORD * state.limit, dir[1], 2 * state.limit
+
+/* Entry n: a component of 4 bytes that ascend with n, `more` components of 16, one of two times. */
+static vb_entry entry(uint64_t n) {
+    vb_entry e;
+    memset(&e, 0, sizeof e);
+    for (int i = 0; i < 4; i++) e.path.bytes[i] = 1 + (n >> (7 * (3 - i)) & 127);
+    memset(e.path.bytes + 4, 0xaa, 16 * more);
+    for (int i = 0; i <= more; i++) e.path.ends[i] = 4 + 16 * i;
+    e.path.count = more + 1, e.timestamp = 100 + n % 2, e.payload_length = 3, e.subspace_id.low = n % subspaces;
+    memset(e.payload_digest, 10, 32);
+    return e;
+}
+
+static vb_area area(void) {
+    vb_area a;
+    memset(&a, 0, sizeof a);
+    a.any_subspace = 1, a.times.open = 1;
+    return a;
+}
+
+static const char *const calls[] = {"validation", "ingest_entry_numbers", "ingest_entry", "again", "newer", "forget_entry", "forget_area", "count_area of all", "count_area of one path", "entry", "query_area_place", "area_of_interest_to_range"};
+enum { CALLS = sizeof calls / sizeof *calls };
+
+/* Each call answers what `wanted` says, or the program ends with 1. */
+__attribute__((noinline)) static size_t measured(int call) {
+    vb_entry first = entry(0), mid = entry(entries / 2);
+    vb_area all = area(), one = all, none = all, half = all;
+    none.path.count = 9, one.path = mid.path, half.times.start = 101;
+    vb_ignore nothing = {0, 0};
+    vb_interest quarter = {all, entries / 4, UINT64_MAX};
+    switch (call) {
+    case 0: return vb_count_area(state, STORE, none).refusal;
+    case 1: return vb_ingest_entry_numbers(state, STORE, numbers, 2 * entries, first, token, 0).state.count;
+    case 2: return vb_ingest_entry(state, STORE, prune, entries, first, token, 0).state.count;
+    case 3: return vb_ingest_entry(state, STORE, prune, entries, mid, token, 0).state.count;
+    case 4: mid.timestamp = 200; return vb_ingest_entry(state, STORE, prune, entries, mid, token, 0).pruned;
+    case 5: return vb_forget_entry(state, STORE, first.subspace_id, first.path, 0, first.payload_digest).state.count;
+    case 6: return vb_forget_area(state, STORE, half, 0, half).forgotten;
+    case 7: return vb_count_area(state, STORE, all).count;
+    case 8: return vb_count_area(state, STORE, one).count;
+    case 9: return vb_find_entry(state, STORE, mid.subspace_id, mid.path, nothing).found;
+    case 10: return vb_query_area_place(state, STORE, all, nothing, entries / 2).place;
+    default: return vb_area_of_interest_to_range(state, STORE, quarter).range.times.start;
+    }
+}
+
+int main(int argc, char **argv) {
+    static const uint8_t namespace_id[16];
+    if (argc != 5) {
+        for (int k = 0; k < CALLS; k++) printf("%d %s\n", k, calls[k]);
+        return argc != 1;
+    }
+    int call = atoi(argv[1]);
+    entries = strtoul(argv[2], 0, 10), more = atoi(argv[3]), subspaces = strtoul(argv[4], 0, 10);
+    if (call < 0 || call >= CALLS || entries < 4 || entries > MOST || more < 0 || more > 7 || !subspaces) return 2;
+    state.limit = entries;
+    state = vb_open(namespace_id, entries, STORE).state;
+    for (size_t k = 0; k < entries; k++) {
+        vb_ingested r = vb_ingest_entry(state, STORE, prune, entries, entry(k), token, 0);
+        if (r.refusal | r.obsolete) return 1;
+        state = r.state;
+    }
+    vb_entry first = entry(0);
+    if (call == 1 || call == 2) state = vb_forget_entry(state, STORE, first.subspace_id, first.path, 0, first.payload_digest).state;
+    const size_t wanted[CALLS] = {4, entries, entries, entries, 1, entries - 1, entries / 2, entries, 1, 1, entries / 2, 101};
+    return measured(call) != wanted[call];
+}
