@@ -104,7 +104,8 @@ fn to_end(k: &[u8], at: usize, w: usize) -> usize
 // Whether the first n bytes are a path, in stretches. Where each 00 stands before a 01 or a 02 it begins a token, so the bytes that are not
 // 00, less a 01 for each end, are those of the components. A component counts with the whole of the stretch in which it begins, and
 // with the whole of the last one: a path with a component of 32 bytes or more may be missed. So that few are, what follows a component that has
-// counted for a stretch already is not counted with its end: it may be as long, and a path has room for few such components.
+// counted for a stretch already is not counted with its end: it may be as long, and a path has room for few such components. Such a component is
+// counted up to where it ends, and no further.
 fn shows_path(k: &[u8], n: usize) -> bool
     requires { ⌜ n ≤ length (now k) ⌝ }
     ensures { λ r. ⌜ (r ≡ true → takes n (readPath field (now (k .entry))) ≡ true) ⌝ }
@@ -128,7 +129,6 @@ fn shows_path(k: &[u8], n: usize) -> bool
             at += STRETCH;
             left -= STRETCH;
         } else {
-            // Up to where the component ends, and no further.
             let w = to_end(k, at, STRETCH - 2);
             let d = counts_of(k, at, w);
             if !(passes(d.sound, len + d.others) & has_mark(k, at + w, COMPONENT_END)) {

@@ -9,8 +9,9 @@ use crate::stored::value_at;
 use keys::encode::KEY_MOST;
 use layout::bytes::same;
 ghost use mathlib.Core.Path.{_≡_};
+ghost use mathlib.Core.List.{List};
 ghost use mathlib.Core.Bool.{true};
-ghost use Prim.Native.Nat.{_≤_, _<_};
+ghost use Prim.Native.Nat.{ℕ, _≤_, _<_};
 ghost use lib.ListN.{length};
 ghost use Rattle.laws.specs.Sorted.{any};
 ghost use Rattle.layout.specs.Layout.{records, recordAt};
@@ -42,9 +43,8 @@ fn stands_in(
     has_record(count, tsp_dir, tsp, &key[..n], value_at(spt, spt_dir, k))
 }
 
-// Whether record k of the subspace-first tree is record j of the time-first tree.
+// Whether record k of the subspace-first tree is record j of the time-first tree, whatever their namespace.
 fn is_at(
-    namespace: [u8; 16],
     count: usize,
     spt_dir: &[u32],
     spt: &[u8],
@@ -54,7 +54,7 @@ fn is_at(
     j: usize,
 ) -> bool
     requires { ⌜ (Formed Spt count (now «spt_dir») (now spt)) × (Formed Tsp count (now «tsp_dir») (now tsp)) × (k < count) ⌝ }
-    ensures { λ r. ⌜ (r ≡ true → any (sameStored (stored Spt field namespace (recordAt k (now («spt_dir» .entry)) (now (spt .entry))))) (contents Tsp field namespace (records count (now («tsp_dir» .entry)) (now (tsp .entry)))) ≡ true) ⌝ }
+    ensures { λ r. ⌜ ((namespace : List ℕ) → r ≡ true → any (sameStored (stored Spt field namespace (recordAt k (now («spt_dir» .entry)) (now (spt .entry))))) (contents Tsp field namespace (records count (now («tsp_dir» .entry)) (now (tsp .entry)))) ≡ true) ⌝ }
 {
     if count <= j {
         return false;
@@ -111,7 +111,7 @@ fn stands_near(
     requires { ⌜ (Formed Spt count (now «spt_dir») (now spt)) × (Ordered Tsp count (now «tsp_dir») (now tsp)) × (k < count) ⌝ }
     ensures { λ r. ⌜ r ≡ any (sameStored (stored Spt field namespace (recordAt k (now («spt_dir» .entry)) (now (spt .entry))))) (contents Tsp field namespace (records count (now («tsp_dir» .entry)) (now (tsp .entry)))) ⌝ }
 {
-    if is_at(namespace, count, spt_dir, spt, tsp_dir, tsp, k, j) {
+    if is_at(count, spt_dir, spt, tsp_dir, tsp, k, j) {
         return true;
     }
     stands_in(namespace, count, spt_dir, spt, tsp_dir, tsp, k)

@@ -8,7 +8,7 @@ is-at-requires : tie.Need-is-at-requires
 is-at-requires c κs = (c .before .before .before .before .pre .0, c .before .before .before .before .pre .1 .formed, c .before .before .before .before .pre .2)
 
 returns : tie.Need-returns
-returns c = sym (c .before .is-at .ensures (c .if1 .taken))
+returns c = sym (c .before .is-at .ensures _ (c .if1 .taken))
 
 stands-in-requires : tie.Need-stands-in-requires
 stands-in-requires c κs = search needs
