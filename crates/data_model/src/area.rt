@@ -1,18 +1,10 @@
 // Areas.
-use crate::answer::Answer;
-use crate::answer::ILLEGAL_PATH;
-use crate::answer::yes_or_no;
-use crate::checked;
 use crate::parameters::Subspace;
 use crate::path::Path;
-use crate::path::both_legal;
 use crate::range::TimesRange;
 use crate::range_3d::Range3d;
 ghost use mathlib.Core.Path.{_≡_};
-ghost use mathlib.Core.Bool.{_&&_};
-ghost use Rattle.data_model.specs.Path.{field, legal, components};
-ghost use Rattle.data_model.specs.Area.{areaSubspace, areaIncludes};
-ghost use Rattle.data_model.specs.Refusal.{answerSays, answered};
+ghost use Rattle.data_model.specs.Area.{areaSubspace};
 
 pub enum AreaSubspace {
     Any,
@@ -39,17 +31,5 @@ impl AreaSubspace {
             AreaSubspace::Any => true,
             AreaSubspace::Id(id) => id.eq(subspace),
         }
-    }
-}
-
-impl Area {
-    pub fn includes_triplet(self, subspace: Subspace, path: Path, timestamp: u64) -> Answer
-        ensures { λ r. ⌜ answerSays r ≡ answered (legal field (self .path) && legal field path) (areaIncludes self subspace (components path) timestamp) ⌝ }
-    {
-        let own = self.path;
-        if !both_legal(own, path) {
-            return Answer::Refused(ILLEGAL_PATH);
-        }
-        yes_or_no(checked::area_includes(self, subspace, path, timestamp))
     }
 }

@@ -152,6 +152,24 @@ pub fn compare_ranks(
     }
 }
 
+impl Rank {
+    // How two ranks compare: by timestamp, then digest as bytes, then payload length.
+    pub fn cmp(self, other: Rank) -> Ordering
+        ensures { λ r. ⌜ orderingSays r ≡ byRank self other ⌝ }
+    {
+        let a = self.payload_digest;
+        let b = other.payload_digest;
+        compare_ranks(
+            self.timestamp,
+            &a,
+            self.payload_length,
+            other.timestamp,
+            &b,
+            other.payload_length,
+        )
+    }
+}
+
 // Whether the first rank is the newer one.
 pub fn is_newer_than(a: Rank, b: Rank) -> bool
     ensures { λ r. ⌜ r ≡ isGreater (byRank a b) ⌝ }

@@ -2,10 +2,9 @@
 use crate::answer::Ordering;
 use crate::answer::compare_numbers;
 use crate::answer::is_equal;
-use crate::range::SubspaceEnd;
 ghost use mathlib.Core.Path.{_≡_};
 ghost use Rattle.data_model.specs.Refusal.{orderingSays};
-ghost use Rattle.data_model.specs.Subspace.{sameSubspace, bySubspace, nextSubspace};
+ghost use Rattle.data_model.specs.Subspace.{sameSubspace, bySubspace};
 
 #[repr(C)]
 pub struct Subspace {
@@ -29,24 +28,5 @@ impl Subspace {
         ensures { λ r. ⌜ r ≡ sameSubspace self other ⌝ }
     {
         is_equal(self.cmp(other))
-    }
-
-    // The end of the range that holds this subspace alone.
-    pub fn successor(self) -> SubspaceEnd
-        ensures { λ r. ⌜ r ≡ nextSubspace self ⌝ }
-    {
-        if self.low < 0xffff_ffff_ffff_ffff {
-            return SubspaceEnd::Closed(Subspace {
-                high: self.high,
-                low: self.low + 1,
-            });
-        }
-        if self.high < 0xffff_ffff_ffff_ffff {
-            return SubspaceEnd::Closed(Subspace {
-                high: self.high + 1,
-                low: 0,
-            });
-        }
-        SubspaceEnd::Open
     }
 }

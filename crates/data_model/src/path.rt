@@ -1,18 +1,8 @@
-// Paths by value: legality, equality, order and prefixes.
-use crate::above::Above;
-use crate::above::least_above;
-use crate::answer::Answer;
-use crate::answer::Compared;
-use crate::answer::ILLEGAL_PATH;
-use crate::answer::Ordering;
-use crate::answer::yes_or_no;
-use crate::checked;
+// Paths by value, and which are legal.
 ghost use mathlib.Core.Path.{_≡_};
 ghost use mathlib.Core.List.{[]};
 ghost use mathlib.Core.Bool.{_&&_};
-ghost use Rattle.data_model.specs.Path.{field, legal, legalEnds, components, pathOf, byComponents, samePath, isPrefix};
-ghost use Rattle.data_model.specs.Above.{aboveAnswer};
-ghost use Rattle.data_model.specs.Refusal.{answerSays, answered, comparedSays};
+ghost use Rattle.data_model.specs.Path.{field, legal, legalEnds, pathOf};
 
 // The most bytes of a component, components of a path, and bytes of a path: the figures that judge it.
 pub const MCL: usize = 64;
@@ -86,58 +76,5 @@ impl Path {
         }
         let ends = self.ends;
         legal_ends(&ends[..n], MCL, MPL)
-    }
-
-    pub fn cmp(self, other: Path) -> Compared
-        ensures { λ r. ⌜ comparedSays r ≡ answered (legal field self && legal field other) (byComponents (components self) (components other)) ⌝ }
-    {
-        if !both_legal(self, other) {
-            return Compared::Refused(ILLEGAL_PATH);
-        }
-        let o = checked::cmp(self, other);
-        match o {
-            Ordering::Less => Compared::Less,
-            Ordering::Equal => Compared::Equal,
-            Ordering::Greater => Compared::Greater,
-        }
-    }
-
-    pub fn eq(self, other: Path) -> Answer
-        ensures { λ r. ⌜ answerSays r ≡ answered (legal field self && legal field other) (samePath (components self) (components other)) ⌝ }
-    {
-        if !both_legal(self, other) {
-            return Answer::Refused(ILLEGAL_PATH);
-        }
-        yes_or_no(checked::eq(self, other))
-    }
-
-    pub fn is_prefix_of(self, other: Path) -> Answer
-        ensures { λ r. ⌜ answerSays r ≡ answered (legal field self && legal field other) (isPrefix (components self) (components other)) ⌝ }
-    {
-        if !both_legal(self, other) {
-            return Answer::Refused(ILLEGAL_PATH);
-        }
-        yes_or_no(checked::is_prefix_of(self, other))
-    }
-
-    pub fn is_prefixed_by(self, other: Path) -> Answer
-        ensures { λ r. ⌜ answerSays r ≡ answered (legal field other && legal field self) (isPrefix (components other) (components self)) ⌝ }
-    {
-        other.is_prefix_of(self)
-    }
-
-    // The least legal path above this one that this one does not prefix.
-    pub fn greater_but_not_prefixed(self) -> Above
-        ensures { λ r. ⌜ r ≡ aboveAnswer field self ⌝ }
-    {
-        if self.is_legal() {
-            return least_above(self);
-        }
-        let path = Path::new_empty();
-        Above {
-            refusal: ILLEGAL_PATH,
-            found: false,
-            path,
-        }
     }
 }

@@ -1,16 +1,12 @@
 // Ranges of times, of subspaces and of paths.
-use crate::answer::Answer;
-use crate::answer::ILLEGAL_PATH;
 use crate::answer::is_less;
-use crate::answer::yes_or_no;
-use crate::checked;
 use crate::parameters::Subspace;
 use crate::path::Path;
 ghost use mathlib.Core.Path.{_≡_};
 ghost use mathlib.Core.Bool.{_&&_};
-ghost use Rattle.data_model.specs.Path.{field, legal, components};
-ghost use Rattle.data_model.specs.Range.{timesInclude, subspacesInclude, pathsInclude, legalRange};
-ghost use Rattle.data_model.specs.Refusal.{answerSays, answered};
+ghost use Rattle.data_model.specs.Path.{field, legal};
+ghost use Rattle.data_model.specs.Subspace.{nextSubspace};
+ghost use Rattle.data_model.specs.Range.{timesInclude, subspacesInclude, legalRange};
 
 pub enum RangeEnd {
     Closed(u64),
@@ -37,6 +33,27 @@ pub struct PathRange {
     pub start: Path,
     pub end: Path,
     pub open: bool,
+}
+
+impl Subspace {
+    // The end of the range that holds this subspace alone.
+    pub fn successor(self) -> SubspaceEnd
+        ensures { λ r. ⌜ r ≡ nextSubspace self ⌝ }
+    {
+        if self.low < 0xffff_ffff_ffff_ffff {
+            return SubspaceEnd::Closed(Subspace {
+                high: self.high,
+                low: self.low + 1,
+            });
+        }
+        if self.high < 0xffff_ffff_ffff_ffff {
+            return SubspaceEnd::Closed(Subspace {
+                high: self.high + 1,
+                low: 0,
+            });
+        }
+        SubspaceEnd::Open
+    }
 }
 
 impl TimesRange {
@@ -87,16 +104,7 @@ impl PathRange {
         end.is_legal()
     }
 
-    pub fn includes(self, value: Path) -> Answer
-        ensures { λ r. ⌜ answerSays r ≡ answered (legalRange field self && legal field value) (pathsInclude self (components value)) ⌝ }
-    {
-        if !self.is_legal_with(value) {
-            return Answer::Refused(ILLEGAL_PATH);
-        }
-        yes_or_no(checked::range_includes_path(self, value))
-    }
-
-    // Whether these and a value are.
+    // Whether the range's paths that are looked at, and `value`, are legal.
     pub fn is_legal_with(self, value: Path) -> bool
         ensures { λ r. ⌜ r ≡ (legalRange field self && legal field value) ⌝ }
     {

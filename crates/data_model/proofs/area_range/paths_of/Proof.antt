@@ -1,8 +1,8 @@
 -- `paths_of` meets its contract. Assumes nothing.
 use Rattle.data_model.proofs.RangeLaws.{paths-made}
 use borrow.Author.Needs.{needs}
-use Rattle.data_model.proofs.range_3d.paths_of.Statement.{statement}
-use Rattle.data_model.proofs.range_3d.paths_of.Tie as tie
+use Rattle.data_model.proofs.area_range.paths_of.Statement.{statement}
+use Rattle.data_model.proofs.area_range.paths_of.Tie as tie
 
 canonical-requires : tie.Need-canonical-requires
 canonical-requires c κs = search needs

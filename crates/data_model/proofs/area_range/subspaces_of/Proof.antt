@@ -2,8 +2,8 @@
 use mathlib.Core.Path.{sym, ap}
 use Rattle.data_model.specs.Area.{subspacesOf}
 use borrow.Author.Needs.{needs}
-use Rattle.data_model.proofs.range_3d.subspaces_of.Statement.{statement}
-use Rattle.data_model.proofs.range_3d.subspaces_of.Tie as tie
+use Rattle.data_model.proofs.area_range.subspaces_of.Statement.{statement}
+use Rattle.data_model.proofs.area_range.subspaces_of.Tie as tie
 
 enum-told : tie.Need-enum-told
 enum-told c = search needs
