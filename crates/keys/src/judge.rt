@@ -56,6 +56,60 @@ fn counts_of(k: &[u8], at: usize, w: usize) -> Counts
     }
 }
 
+// The same. A whole stretch is counted by a loop of its own, whose length is known, so that its bytes are looked at together.
+fn counts_up_to(k: &[u8], at: usize, w: usize) -> Counts
+    requires { ⌜ (at + w < length (now k)) × (w ≤ 32) ⌝ }
+    ensures { λ r. ⌜ r ≡ record { sound = sound w at (now (k .entry)); others = others w at (now (k .entry)); ends = endings w at (now (k .entry)) } ⌝ }
+{
+    if w == STRETCH {
+        return counts_of(k, at, STRETCH);
+    }
+    counts_of(k, at, w)
+}
+
+// The bytes before the end of a component, or all of a stretch in which none ends: how many, and what is counted of them.
+struct Front {
+    w: usize,
+    counts: Counts,
+}
+
+fn front_of(w: usize, sound: bool, others: usize) -> Front
+    ensures { λ r. ⌜ r ≡ record { w = w; counts = record { sound = sound; others = others; ends = 0 } } ⌝ }
+{
+    Front {
+        w,
+        counts: Counts {
+            sound,
+            others,
+            ends: 0,
+        },
+    }
+}
+
+// The bytes up to the end of a component, at most w.
+fn counts_to_end(k: &[u8], at: usize, w: usize) -> Front
+    requires { ⌜ at + w < length (now k) ⌝ }
+    ensures { λ r. ⌜ (r .w ≤ w) × (endings (r .w) at (now (k .entry)) ≡ 0) × (r .w < w → ended (at + r .w) (now (k .entry)) ≡ true) × (r .counts ≡ record { sound = sound (r .w) at (now (k .entry)); others = others (r .w) at (now (k .entry)); ends = endings (r .w) at (now (k .entry)) }) ⌝ }
+{
+    let mut j = 0;
+    let mut ok = true;
+    let mut n: usize = 0;
+    while j < w {
+        if k[at + j] != 0 {
+            n += 1;
+            j += 1;
+        } else {
+            let b = k[at + j + 1];
+            if b == COMPONENT_END[1] {
+                return front_of(j, ok, n);
+            }
+            ok = ok & (b == ESCAPED_ZERO[1]);
+            j += 1;
+        }
+    }
+    front_of(j, ok, n)
+}
+
 // What counts on of a component behind a stretch: nothing if some component ended in it.
 fn count_on(len: usize, ends: usize) -> usize
     ensures { λ r. ⌜ r ≡ kept len ends ⌝ }
@@ -103,9 +157,8 @@ fn to_end(k: &[u8], at: usize, w: usize) -> usize
 
 // Whether the first n bytes are a path, in stretches. Where each 00 stands before a 01 or a 02 it begins a token, so the bytes that are not
 // 00, less a 01 for each end, are those of the components. A component counts with the whole of the stretch in which it begins, and
-// with the whole of the last one: a path with a component of 32 bytes or more may be missed. So that few are, what follows a component that has
-// counted for a stretch already is not counted with its end: it may be as long, and a path has room for few such components. Such a component is
-// counted up to where it ends, and no further.
+// with the whole of the last one: a path with a component of 32 bytes or more may be missed. Where it would be too long so, a stretch is counted
+// up to where the component ends, and no further.
 fn shows_path(k: &[u8], n: usize) -> bool
     requires { ⌜ n ≤ length (now k) ⌝ }
     ensures { λ r. ⌜ (r ≡ true → takes n (readPath field (now (k .entry))) ≡ true) ⌝ }
@@ -121,9 +174,8 @@ fn shows_path(k: &[u8], n: usize) -> bool
     let mut left = stop;
     while STRETCH <= left {
         let c = counts_of(k, at, STRETCH);
-        let on = count_on(len, c.ends);
-        if passes(c.sound, len + c.others) & (len < on + STRETCH) {
-            len = on + c.others;
+        if passes(c.sound, len + c.others) {
+            len = count_on(len, c.ends) + c.others;
             others += c.others;
             ends += c.ends;
             at += STRETCH;
@@ -158,7 +210,7 @@ fn is_path_to(k: &[u8], stop: usize) -> bool
     let mut ends: usize = 0;
     while at < stop {
         let w = lesser(STRETCH, stop - at);
-        let c = counts_of(k, at, w);
+        let c = counts_up_to(k, at, w);
         if c.ends == 0 {
             if !passes(c.sound, len + c.others) {
                 return false;
@@ -167,8 +219,9 @@ fn is_path_to(k: &[u8], stop: usize) -> bool
             total += c.others;
             at += w;
         } else {
-            let v = to_end(k, at, w);
-            let d = counts_of(k, at, v);
+            let f = counts_to_end(k, at, w);
+            let v = f.w;
+            let d = f.counts;
             if !passes(d.sound, len + d.others) {
                 return false;
             }

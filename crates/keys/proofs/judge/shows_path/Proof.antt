@@ -32,8 +32,8 @@ few : (c : tie.After-counts-of Inv-loop μ-loop) → (c .counts-of .result .othe
 few c = counts-few 32 (c .before .before .loop .at) ((c .before .before .before .before .before) .args .k .now) (c .counts-of .result) (c .counts-of .ensures)
 
 -- What counts on is no more than what was counted.
-less : (c : tie.After-count-on Inv-loop μ-loop) → c .count-on .result ≤ c .before .before .before .loop .len
-less c = omega (arith, kept-least (c .before .before .before .loop .len) (c .before .counts-of .result .ends), c .count-on .ensures)
+less : (c : tie.After-count-on Inv-loop μ-loop) → c .count-on .result ≤ c .before .before .before .before .before .before .loop .len
+less c = omega (arith, kept-least (c .before .before .before .before .before .before .loop .len) (c .before .before .before .before .counts-of .result .ends), c .count-on .ensures)
 
 -- Up to the end of a component.
 upto : (c : tie.After-counts-of2 Inv-loop μ-loop) → (c .before .to-end .result ≤ 30) × (c .counts-of2 .result .others ≤ c .before .to-end .result) × (c .counts-of2 .result .ends ≡ 0)
@@ -61,16 +61,13 @@ count-on-requires : tie.Need-count-on-requires Inv-loop μ-loop
 count-on-requires c κs = search needs
 
 add-passes : tie.Need-add-passes Inv-loop μ-loop
-add-passes c = omega (arith, few (c .before .before), c .before .before .before .before .loop .inv .few-len, c .before .before .before .before .loop .inv .upto, within (c .before .before .before .before .before))
+add-passes c = omega (arith, few (c .before), c .before .before .before .loop .inv .few-len, c .before .before .before .loop .inv .upto, within (c .before .before .before .before))
 
 passes-requires : tie.Need-passes-requires Inv-loop μ-loop
 passes-requires c κs = search needs
 
-add-if2 : tie.Need-add-if2 Inv-loop μ-loop
-add-if2 c = omega (arith, less (c .before .before), c .before .before .before .before .before .loop .inv .few-len, c .before .before .before .before .before .loop .inv .upto, within (c .before .before .before .before .before .before))
-
 add-len : tie.Need-add-len Inv-loop μ-loop
-add-len c = omega (arith, few (c .before .before .before .before .before), less (c .before .before .before .before), c .before .before .before .before .before .before .before .loop .inv .few-len, c .before .before .before .before .before .before .before .loop .inv .upto, within (c .before .before .before .before .before .before .before .before))
+add-len c = omega (arith, few (c .before .before .before .before .before), less (c .before), c .before .before .before .before .before .before .before .loop .inv .few-len, c .before .before .before .before .before .before .before .loop .inv .upto, within (c .before .before .before .before .before .before .before .before))
 
 add-others : tie.Need-add-others Inv-loop μ-loop
 add-others c = omega (arith, few (c .before .before .before .before .before .before), c .before .before .before .before .before .before .before .before .loop .inv .few-others, c .before .before .before .before .before .before .before .before .loop .inv .upto, within (c .before .before .before .before .before .before .before .before .before))
@@ -87,30 +84,29 @@ loop-less c = omega arith
 loop-again : tie.Need-loop-again Inv-loop μ-loop
 loop-again c =
     let l = c .before .before .before .before .before .before .before .before .before .loop in
-    let t = and-true (c .before .before .before .before .passes .result) (ltb (l .len) (c .before .before .before .before .before .before .count-on .result + 32)) (c .before .before .before .if2 .taken) in
-    let g = passed _ _ _ _ (c .before .before .before .before .passes .ensures) (t .0) in
-    showing-turn _ _ _ _ _ _ (l .at) (l .left) (l .len) (l .others) (l .ends) 32 (c .before .before .before .before .before .before .count-on .result) (c .before .before .before .before .before .before .before .counts-of .result) (l .inv) (c .before .before .before .before .before .before .before .counts-of .ensures) (g .0) (g .1) (omega arith) (omega (arith, within (c .before .before .before .before .before .before .before .before .before .before))) (c .before .before .before .before .before .before .count-on .ensures)
+    let g = passed _ _ _ _ (c .before .before .before .before .before .passes .ensures) (c .before .before .before .before .if2 .taken) in
+    showing-turn _ _ _ _ _ _ (l .at) (l .left) (l .len) (l .others) (l .ends) 32 (c .before .before .before .count-on .result) (c .before .before .before .before .before .before .before .counts-of .result) (l .inv) (c .before .before .before .before .before .before .before .counts-of .ensures) (g .0) (g .1) (omega arith) (omega (arith, within (c .before .before .before .before .before .before .before .before .before .before))) (c .before .before .before .count-on .ensures)
 
 sub-to-end : tie.Need-sub-to-end Inv-loop μ-loop
 sub-to-end c = omega arith
 
 to-end-requires : tie.Need-to-end-requires Inv-loop μ-loop
-to-end-requires c κs = omega (arith, c .before .before .before .before .before .before .loop .inv .upto, within (c .before .before .before .before .before .before .before))
+to-end-requires c κs = omega (arith, c .before .before .before .before .before .loop .inv .upto, within (c .before .before .before .before .before .before))
 
 counts-of-requires-2 : tie.Need-counts-of-requires-2 Inv-loop μ-loop
-counts-of-requires-2 c κs = (omega (arith, c .to-end .ensures .0, c .before .before .before .before .before .before .before .loop .inv .upto, within (c .before .before .before .before .before .before .before .before)), omega (arith, c .to-end .ensures .0))
+counts-of-requires-2 c κs = (omega (arith, c .to-end .ensures .0, c .before .before .before .before .before .before .loop .inv .upto, within (c .before .before .before .before .before .before .before)), omega (arith, c .to-end .ensures .0))
 
 add-passes-2 : tie.Need-add-passes-2 Inv-loop μ-loop
-add-passes-2 c = omega (arith, upto (c .before), c .before .before .before .before .before .before .before .before .before .loop .inv .few-len, c .before .before .before .before .before .before .before .before .before .loop .inv .upto, within (c .before .before .before .before .before .before .before .before .before .before))
+add-passes-2 c = omega (arith, upto (c .before), c .before .before .before .before .before .before .before .before .loop .inv .few-len, c .before .before .before .before .before .before .before .before .loop .inv .upto, within (c .before .before .before .before .before .before .before .before .before))
 
 passes-requires-2 : tie.Need-passes-requires-2 Inv-loop μ-loop
 passes-requires-2 c κs = search needs
 
 add-has-mark : tie.Need-add-has-mark Inv-loop μ-loop
-add-has-mark c = omega (arith, c .before .before .before .to-end .ensures .0, c .before .before .before .before .before .before .before .before .before .before .loop .inv .upto, within (c .before .before .before .before .before .before .before .before .before .before .before))
+add-has-mark c = omega (arith, c .before .before .before .to-end .ensures .0, c .before .before .before .before .before .before .before .before .before .loop .inv .upto, within (c .before .before .before .before .before .before .before .before .before .before))
 
 has-mark-requires : tie.Need-has-mark-requires Inv-loop μ-loop
-has-mark-requires c κs = omega (arith, c .before .before .before .to-end .ensures .0, c .before .before .before .before .before .before .before .before .before .before .loop .inv .upto, within (c .before .before .before .before .before .before .before .before .before .before .before))
+has-mark-requires c κs = omega (arith, c .before .before .before .to-end .ensures .0, c .before .before .before .before .before .before .before .before .before .loop .inv .upto, within (c .before .before .before .before .before .before .before .before .before .before))
 
 returns-2 : tie.Need-returns-2 Inv-loop μ-loop
 returns-2 c = λ e. clash e refl
@@ -119,16 +115,16 @@ add-others-2 : tie.Need-add-others-2 Inv-loop μ-loop
 add-others-2 c = omega (arith, upto (c .before .before .before .before .before))
 
 add-others-3 : tie.Need-add-others-3 Inv-loop μ-loop
-add-others-3 c = omega (arith, upto (c .before .before .before .before .before), c .before .before .before .before .before .before .before .before .before .before .before .before .before .loop .inv .few-others, c .before .before .before .before .before .before .before .before .before .before .before .before .before .loop .inv .upto, within (c .before .before .before .before .before .before .before .before .before .before .before .before .before .before))
+add-others-3 c = omega (arith, upto (c .before .before .before .before .before), c .before .before .before .before .before .before .before .before .before .before .before .before .loop .inv .few-others, c .before .before .before .before .before .before .before .before .before .before .before .before .loop .inv .upto, within (c .before .before .before .before .before .before .before .before .before .before .before .before .before))
 
 add-ends-2 : tie.Need-add-ends-2 Inv-loop μ-loop
-add-ends-2 c = omega (arith, c .before .before .before .before .before .before .before .before .before .before .before .before .before .loop .inv .few-ends, c .before .before .before .before .before .before .before .before .before .before .before .before .before .loop .inv .upto, within (c .before .before .before .before .before .before .before .before .before .before .before .before .before .before))
+add-ends-2 c = omega (arith, c .before .before .before .before .before .before .before .before .before .before .before .before .loop .inv .few-ends, c .before .before .before .before .before .before .before .before .before .before .before .before .loop .inv .upto, within (c .before .before .before .before .before .before .before .before .before .before .before .before .before))
 
 add-at-2 : tie.Need-add-at-2 Inv-loop μ-loop
 add-at-2 c = omega (arith, c .before .before .before .before .before .before .to-end .ensures .0)
 
 add-at-3 : tie.Need-add-at-3 Inv-loop μ-loop
-add-at-3 c = omega (arith, c .before .before .before .before .before .before .to-end .ensures .0, c .before .before .before .before .before .before .before .before .before .before .before .before .before .loop .inv .upto, within (c .before .before .before .before .before .before .before .before .before .before .before .before .before .before))
+add-at-3 c = omega (arith, c .before .before .before .before .before .before .to-end .ensures .0, c .before .before .before .before .before .before .before .before .before .before .before .before .loop .inv .upto, within (c .before .before .before .before .before .before .before .before .before .before .before .before .before))
 
 add-left : tie.Need-add-left Inv-loop μ-loop
 add-left c = omega (arith, c .before .before .before .before .before .before .to-end .ensures .0)
@@ -141,10 +137,10 @@ loop-less-2 c = omega (arith, c .before .before .before .before .before .before 
 
 loop-again-2 : tie.Need-loop-again-2 Inv-loop μ-loop
 loop-again-2 c =
-    let l = c .before .before .before .before .before .before .before .before .before .before .before .before .before .loop in
+    let l = c .before .before .before .before .before .before .before .before .before .before .before .before .loop in
     let b = and-true (c .before .before .before .passes2 .result) (c .before .before .has-mark .result) (not-false _ (c .before .if3 .left)) in
     let g = passed _ _ _ _ (c .before .before .before .passes2 .ensures) (b .0) in
-    showing-ends _ _ _ _ _ _ (l .at) (l .left) (l .len) (l .others) (l .ends) (c .before .before .before .before .before .before .to-end .result) (c .before .before .before .before .before .counts-of2 .result) (l .inv) (c .before .before .before .before .before .counts-of2 .ensures) (g .0) (g .1) (upto (c .before .before .before .before .before) .2) (omega (arith, c .before .before .before .before .before .before .to-end .ensures .0)) (omega (arith, within (c .before .before .before .before .before .before .before .before .before .before .before .before .before .before))) (sym (c .before .before .has-mark .ensures) ∙ b .1)
+    showing-ends _ _ _ _ _ _ (l .at) (l .left) (l .len) (l .others) (l .ends) (c .before .before .before .before .before .before .to-end .result) (c .before .before .before .before .before .counts-of2 .result) (l .inv) (c .before .before .before .before .before .counts-of2 .ensures) (g .0) (g .1) (upto (c .before .before .before .before .before) .2) (omega (arith, c .before .before .before .before .before .before .to-end .ensures .0)) (omega (arith, within (c .before .before .before .before .before .before .before .before .before .before .before .before .before))) (sym (c .before .before .has-mark .ensures) ∙ b .1)
 
 counts-of-requires-3 : tie.Need-counts-of-requires-3 Inv-loop μ-loop
 counts-of-requires-3 c κs = (omega (arith, c .before .loop .inv .upto, within (c .before .before)), omega arith)
@@ -182,4 +178,4 @@ returns-3 c =
     showing-closes _ _ _ _ _ _ (l .at) (l .left) (l .len) (l .others) (l .ends) (d .result) (l .inv) (d .ensures) (g .0) (g .1) (within (c .before .before .before .before .before .before .before .before) .0) (ltb-true e (field .mcc) (r3 .1)) (leb-true n (field .mpl + e) (r2 .1)) (sym (c .closes .ensures) ∙ r1 .1)
 
 pub shows-path-spec : {M : Type 1} → statement M
-shows-path-spec = tie.close (tie.spec Inv-loop μ-loop returns loop-holds counts-of-requires count-on-requires add-passes passes-requires add-if2 add-len add-others add-ends add-at loop-less loop-again sub-to-end to-end-requires counts-of-requires-2 add-passes-2 passes-requires-2 add-has-mark has-mark-requires returns-2 add-others-2 add-others-3 add-ends-2 add-at-2 add-at-3 add-left sub-left loop-less-2 loop-again-2 counts-of-requires-3 add-others-4 add-ends-3 add-passes-3 passes-requires-3 add-result closes-requires returns-3)
+shows-path-spec = tie.close (tie.spec Inv-loop μ-loop returns loop-holds counts-of-requires add-passes passes-requires count-on-requires add-len add-others add-ends add-at loop-less loop-again sub-to-end to-end-requires counts-of-requires-2 add-passes-2 passes-requires-2 add-has-mark has-mark-requires returns-2 add-others-2 add-others-3 add-ends-2 add-at-2 add-at-3 add-left sub-left loop-less-2 loop-again-2 counts-of-requires-3 add-others-4 add-ends-3 add-passes-3 passes-requires-3 add-result closes-requires returns-3)
