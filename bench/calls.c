@@ -1,6 +1,6 @@
 /* One call of the door, for a count of its instructions: `calls CALL ENTRIES MORE SUBSPACES` builds a store of so many entries, their paths with so
-   many components of 16 bytes more, in so many subspaces by turns, and makes the call once in `measured`. `calls` alone names the calls. The stores of one
-   subspace are those of times.c. */
+   many components of 16 bytes more, in so many subspaces by turns, and makes the call once in `measured`. `calls` alone names the calls. With one subspace the entries are
+   those of times.c. */
 #include "virebony.h"
 #include <stdio.h>
 #include <stdlib.h>

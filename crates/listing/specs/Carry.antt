@@ -57,7 +57,7 @@ lineOutcome r a b c d prune = record { answer = r .answer; store = storeOf (r .s
 abbrev pub afterIngest : IngestOutcome → LineOutcome
 afterIngest o = record { answer = answerOf (o .answer .verdict); store = o .store; prune = o .prune }
 
--- A line that says an entry is ingested; `bad` and `refused 4` leave all as it is.
+-- The entry of a good line is ingested; a line that is answered `bad` or `refused 4` leaves all as it is.
 unfoldable pub carriedBy : Figures → Store → (prune : List ℕ) → EntryLine → Outcome → LineOutcome
 carriedBy f s prune e outcome.Good = afterIngest (ingested f s prune (ingestionOfLine e))
 carriedBy f s prune e outcome.Illegal = record { answer = answerWithout outcome.Illegal; store = s; prune = prune }

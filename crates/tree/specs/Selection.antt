@@ -18,7 +18,7 @@ use Rattle.tree.specs.Stored.{Stored}
 use Rattle.tree.specs.Matching.{letThrough}
 use Rattle.tree.specs.declared.selection.Selection.{Selection}
 
--- What an area selects, but for the bytes of its path: of every subspace, and under a path.
+-- What an area selects, but for the bytes of its path: its own subspace or any, its times, and all paths that begin with its path.
 abbrev pub areaSelection : Area → QueryIgnoreParams → Selection
 areaSelection a g = record {
   own = a .subspace;
@@ -29,7 +29,7 @@ areaSelection a g = record {
   ignore = g;
 }
 
--- What a 3d range selects, but for the bytes of its paths: the area's own subspaces are any.
+-- What a 3d range selects, but for the bytes of its paths: its subspaces and times, and paths from one on, up to another or without an end.
 abbrev pub rangeSelection : Range3d → QueryIgnoreParams → Selection
 rangeSelection r g = record { own = Any; subspaces = r .subspaces; times = r .times; under = false; «open» = r .paths .«open»; ignore = g }
 
