@@ -56,7 +56,8 @@ fn counts_of(k: &[u8], at: usize, w: usize) -> Counts
     }
 }
 
-// The same. A whole stretch is counted by a loop of its own, whose length is known, so that its bytes are looked at together.
+// Counts up to a stretch of bytes, as `counts_of` does. A whole stretch is counted by a loop of its own, whose length is known, so that its bytes are
+// looked at together.
 fn counts_up_to(k: &[u8], at: usize, w: usize) -> Counts
     requires { ⌜ (at + w < length (now k)) × (w ≤ 32) ⌝ }
     ensures { λ r. ⌜ r ≡ record { sound = sound w at (now (k .entry)); others = others w at (now (k .entry)); ends = endings w at (now (k .entry)) } ⌝ }
@@ -73,6 +74,7 @@ struct Front {
     counts: Counts,
 }
 
+// So many bytes in which no component ends, with what is counted of them.
 fn front_of(w: usize, sound: bool, others: usize) -> Front
     ensures { λ r. ⌜ r ≡ record { w = w; counts = record { sound = sound; others = others; ends = 0 } } ⌝ }
 {
@@ -86,7 +88,7 @@ fn front_of(w: usize, sound: bool, others: usize) -> Front
     }
 }
 
-// The bytes up to the end of a component, at most w.
+// Counts the bytes before the end of a component, at most w of them, in one pass.
 fn counts_to_end(k: &[u8], at: usize, w: usize) -> Front
     requires { ⌜ at + w < length (now k) ⌝ }
     ensures { λ r. ⌜ (r .w ≤ w) × (endings (r .w) at (now (k .entry)) ≡ 0) × (r .w < w → ended (at + r .w) (now (k .entry)) ≡ true) × (r .counts ≡ record { sound = sound (r .w) at (now (k .entry)); others = others (r .w) at (now (k .entry)); ends = endings (r .w) at (now (k .entry)) }) ⌝ }
