@@ -1,21 +1,45 @@
 /* One call of the door, for a count of its instructions: `calls CALL ENTRIES MORE SUBSPACES` builds a store of so many entries, their paths with so
    many components of 16 bytes more, in so many subspaces by turns, and makes the call once in `measured`. `calls` alone names the calls. With one subspace the entries are
-   those of times.c. */
+   those of times.c. With VB_NO_TALLY it is for an archive of edition 1, whose calls take no tally. */
+#ifdef VB_NO_TALLY /* the header's declarations of these go to other names */
+#define vb_open tallied_open
+#define vb_ingest_entry tallied_ingest_entry
+#define vb_ingest_entry_numbers tallied_ingest_entry_numbers
+#define vb_forget_entry tallied_forget_entry
+#define vb_forget_area tallied_forget_area
+#endif
 #include "virebony.h"
+#ifdef VB_NO_TALLY
+#undef vb_open
+#undef vb_ingest_entry
+#undef vb_ingest_entry_numbers
+#undef vb_forget_entry
+#undef vb_forget_area
+#define BUFFERS uint8_t *spt, size_t spt_len, uint32_t *spt_dir, size_t spt_dir_len, uint8_t *tsp, size_t tsp_len, uint32_t *tsp_dir, size_t tsp_dir_len
+vb_opened vb_open(const uint8_t namespace_id[16], size_t limit, BUFFERS);
+vb_ingested vb_ingest_entry(vb_state state, BUFFERS, vb_pair *prune, size_t prune_len, vb_entry entry, const uint8_t token[64], uint8_t prevent_pruning);
+vb_ingested vb_ingest_entry_numbers(vb_state state, BUFFERS, uint32_t *prune, size_t prune_len, vb_entry entry, const uint8_t token[64], uint8_t prevent_pruning);
+vb_entry_forgotten vb_forget_entry(vb_state state, BUFFERS, vb_subspace subspace, vb_path path, uint8_t expects, const uint8_t expected_digest[32]);
+vb_area_forgotten vb_forget_area(vb_state state, BUFFERS, vb_area area, uint8_t protects, vb_area protected_area);
+#define TALLIED
+#else
+#define TALLIED , tally, ITEM * state.limit
+#endif
 #include <stdio.h>
 #include <stdlib.h>
 #include <string.h>
 
-enum { MOST = 1024, RECORD = 410 };
+enum { MOST = 1024, RECORD = 410, ITEM = 28 };
 static vb_state state;
-static uint8_t tree[2][RECORD * MOST];
+static uint8_t tree[2][RECORD * MOST], tally[ITEM * MOST];
 static uint32_t dir[2][2 * MOST];
 static vb_pair prune[MOST];
 static uint32_t numbers[2 * MOST];
 static uint8_t token[64];
 static size_t entries, subspaces;
 static int more;
-#define STORE tree[0], RECORD * state.limit, dir[0], 2 * state.limit, tree[1], RECORD * state.limit, dir[1], 2 * state.limit
+#define READ tree[0], RECORD * state.limit, dir[0], 2 * state.limit, tree[1], RECORD * state.limit, dir[1], 2 * state.limit
+#define STORE READ TALLIED
 
 /* Entry n: a component of 4 bytes that ascend with n, `more` components of 16, one of two times. */
 static vb_entry entry(uint64_t n) {
@@ -47,18 +71,18 @@ __attribute__((noinline)) static size_t measured(int call) {
     vb_ignore nothing = {0, 0};
     vb_interest quarter = {all, entries / 4, UINT64_MAX};
     switch (call) {
-    case 0: return vb_count_area(state, STORE, none).refusal;
+    case 0: return vb_count_area(state, READ, none).refusal;
     case 1: return vb_ingest_entry_numbers(state, STORE, numbers, 2 * entries, first, token, 0).state.count;
     case 2: return vb_ingest_entry(state, STORE, prune, entries, first, token, 0).state.count;
     case 3: return vb_ingest_entry(state, STORE, prune, entries, mid, token, 0).state.count;
     case 4: mid.timestamp = 200; return vb_ingest_entry(state, STORE, prune, entries, mid, token, 0).pruned;
     case 5: return vb_forget_entry(state, STORE, first.subspace_id, first.path, 0, first.payload_digest).state.count;
     case 6: return vb_forget_area(state, STORE, half, 0, half).forgotten;
-    case 7: return vb_count_area(state, STORE, all).count;
-    case 8: return vb_count_area(state, STORE, one).count;
-    case 9: return vb_find_entry(state, STORE, mid.subspace_id, mid.path, nothing).found;
-    case 10: return vb_query_area_place(state, STORE, all, nothing, entries / 2).place;
-    default: return vb_area_of_interest_to_range(state, STORE, quarter).range.times.start;
+    case 7: return vb_count_area(state, READ, all).count;
+    case 8: return vb_count_area(state, READ, one).count;
+    case 9: return vb_find_entry(state, READ, mid.subspace_id, mid.path, nothing).found;
+    case 10: return vb_query_area_place(state, READ, all, nothing, entries / 2).place;
+    default: return vb_area_of_interest_to_range(state, READ, quarter).range.times.start;
     }
 }
 
@@ -68,6 +92,7 @@ int main(int argc, char **argv) {
         for (int k = 0; k < CALLS; k++) printf("%d %s\n", k, calls[k]);
         return argc != 1;
     }
+    (void)tally; /* not lent to an archive of edition 1 */
     int call = atoi(argv[1]);
     entries = strtoul(argv[2], 0, 10), more = atoi(argv[3]), subspaces = strtoul(argv[4], 0, 10);
     if (call < 0 || call >= CALLS || entries < 4 || entries > MOST || more < 0 || more > 7 || !subspaces) return 2;

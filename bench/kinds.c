@@ -8,13 +8,14 @@
 #include <string.h>
 #include <time.h>
 
-enum { LIMIT = 1024, RECORD = 410, KINDS = 8 };
+enum { LIMIT = 1024, RECORD = 410, ITEM = 28, KINDS = 8 };
 static vb_state state;
-static uint8_t tree[2][RECORD * LIMIT];
+static uint8_t tree[2][RECORD * LIMIT], tally[ITEM * LIMIT];
 static uint32_t dir[2][2 * LIMIT];
 static vb_pair prune[LIMIT];
 static uint8_t token[64];
-#define STORE tree[0], sizeof tree[0], dir[0], 2 * LIMIT, tree[1], sizeof tree[1], dir[1], 2 * LIMIT
+#define READ tree[0], sizeof tree[0], dir[0], 2 * LIMIT, tree[1], sizeof tree[1], dir[1], 2 * LIMIT
+#define STORE READ, tally, sizeof tally
 
 /* Components, bytes of each, and which bytes are 00: none, every other one, or all. */
 static const struct { const char *name; size_t components, bytes, zeros; } kinds[KINDS] = {
@@ -79,7 +80,7 @@ __attribute__((noinline)) static size_t measured(void) {
     vb_area none;
     memset(&none, 0, sizeof none);
     none.path.count = VB_MCC + 1;
-    return vb_count_area(state, STORE, none).refusal;
+    return vb_count_area(state, READ, none).refusal;
 }
 
 static double best(int kind, int rounds) {

@@ -9,16 +9,17 @@
 #include <string.h>
 #include <time.h>
 
-enum { LIMIT = 1024, RECORD = 410, LAST = 7 };
+enum { LIMIT = 1024, RECORD = 410, ITEM = 28, LAST = 7 };
 typedef struct {
     vb_state state;
-    uint8_t tree[2][RECORD * LIMIT];
+    uint8_t tree[2][RECORD * LIMIT], tally[ITEM * LIMIT];
     uint32_t dir[2][2 * LIMIT];
 } Store;
 static Store store, filled;
 static vb_pair prune[LIMIT];
 static uint8_t token[64];
-#define STORE store.tree[0], sizeof store.tree[0], store.dir[0], 2 * LIMIT, store.tree[1], sizeof store.tree[1], store.dir[1], 2 * LIMIT
+#define READ store.tree[0], sizeof store.tree[0], store.dir[0], 2 * LIMIT, store.tree[1], sizeof store.tree[1], store.dir[1], 2 * LIMIT
+#define STORE READ, store.tally, sizeof store.tally
 
 static double now(void) {
     struct timespec t;
@@ -72,7 +73,7 @@ __attribute__((noinline)) static size_t measured(char call) {
     vb_area none;
     memset(&none, 0, sizeof none);
     none.path.count = LAST + 2;
-    return vb_count_area(store.state, STORE, none).refusal;
+    return vb_count_area(store.state, READ, none).refusal;
 }
 
 static double best(size_t bytes, size_t covering, char call, int rounds) {

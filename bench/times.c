@@ -8,17 +8,18 @@
 #include <string.h>
 #include <time.h>
 
-enum { MOST = 1024, RECORD = 410 };
+enum { MOST = 1024, RECORD = 410, ITEM = 28 };
 typedef struct {
     vb_state state;
-    uint8_t tree[2][RECORD * MOST];
+    uint8_t tree[2][RECORD * MOST], tally[ITEM * MOST];
     uint32_t dir[2][2 * MOST];
 } Store;
 static Store store, full, less;
 static vb_pair prune[MOST];
 static uint8_t token[64];
 static volatile size_t sink;
-#define STORE store.tree[0], RECORD * store.state.limit, store.dir[0], 2 * store.state.limit, store.tree[1], RECORD * store.state.limit, store.dir[1], 2 * store.state.limit
+#define READ store.tree[0], RECORD * store.state.limit, store.dir[0], 2 * store.state.limit, store.tree[1], RECORD * store.state.limit, store.dir[1], 2 * store.state.limit
+#define STORE READ, store.tally, ITEM * store.state.limit
 
 static double now(void) {
     struct timespec t;
@@ -42,6 +43,7 @@ static void restore(const Store *from) {
     store.state = from->state;
     for (int t = 0; t < 2; t++)
         memcpy(store.tree[t], from->tree[t], RECORD * from->state.limit), memcpy(store.dir[t], from->dir[t], 8 * from->state.limit);
+    memcpy(store.tally, from->tally, ITEM * from->state.limit);
 }
 
 static void must(const char *what, size_t got, size_t want) {
@@ -85,7 +87,7 @@ static void times(size_t n, int more) {
     size_t used = full.dir[0][2 * n - 2];
 
     restore(&full);
-    BEST(check, , sink = vb_count_area(store.state, STORE, none).refusal)
+    BEST(check, , sink = vb_count_area(store.state, READ, none).refusal)
     must("validation", sink, 4);
     BEST(cmp, , sink = memcmp(store.tree, full.tree, RECORD * n) + memcmp(store.tree[1], full.tree[1], RECORD * n) + memcmp(store.dir, full.dir, 8 * n) + memcmp(store.dir[1], full.dir[1], 8 * n))
     BEST(in, restore(&less), ingest(0, more))
@@ -98,13 +100,13 @@ static void times(size_t n, int more) {
     BEST(area, restore(&full), sink = vb_forget_area(store.state, STORE, half, 0, half).forgotten)
     must("a forgetting of an area", sink, n / 2);
     restore(&full);
-    BEST(count, , sink = vb_count_area(store.state, STORE, all).count)
+    BEST(count, , sink = vb_count_area(store.state, READ, all).count)
     must("a count", sink, n);
-    BEST(small, , sink = vb_count_area(store.state, STORE, one).count)
+    BEST(small, , sink = vb_count_area(store.state, READ, one).count)
     must("a small count", sink, 1);
-    BEST(step, , sink = vb_query_area_place(store.state, STORE, all, nothing, n / 2).place)
+    BEST(step, , sink = vb_query_area_place(store.state, READ, all, nothing, n / 2).place)
     must("a step", sink, n / 2);
-    BEST(interest, , sink = vb_area_of_interest_to_range(store.state, STORE, quarter).range.times.start)
+    BEST(interest, , sink = vb_area_of_interest_to_range(store.state, READ, quarter).range.times.start)
     must("an interest", sink, 101);
     BEST(move, , memmove(store.tree[0], store.tree[0] + 144, used))
     printf("| %zu | %u | %.1f | %.1f | %.1f | %.1f | %.1f | %.1f | %.1f | %.1f | %.1f | %.1f | %.1f |\n", n, full.dir[0][1], check, cmp, in, again, forget, area, count, small, step, interest, move);

@@ -1,13 +1,14 @@
-/* Opens a store, files five readings, lists what it then holds, and drops an area. Build: cc example.c libvirebony.a */
+/* Opens a store, files five readings, lists what it then holds, asks the tally for a recorder's, and drops an area. Build: cc example.c libvirebony.a */
 #include "virebony.h"
 #include <stdio.h>
 #include <string.h>
 
 enum { LIMIT = 16 };
-static uint8_t spt[VB_RECORD_MOST * LIMIT], tsp[VB_RECORD_MOST * LIMIT];
+static uint8_t spt[VB_RECORD_MOST * LIMIT], tsp[VB_RECORD_MOST * LIMIT], tally[VB_ITEM * LIMIT];
 static uint32_t spt_dir[2 * LIMIT], tsp_dir[2 * LIMIT];
 static vb_pair pruned[LIMIT];
-#define STORE spt, sizeof spt, spt_dir, 2 * LIMIT, tsp, sizeof tsp, tsp_dir, 2 * LIMIT
+#define READ spt, sizeof spt, spt_dir, 2 * LIMIT, tsp, sizeof tsp, tsp_dir, 2 * LIMIT
+#define STORE READ, tally, sizeof tally
 
 /* A path of components that slashes part, at most 8 of them and 128 bytes. */
 static vb_path path_of(const char *text) {
@@ -24,6 +25,36 @@ static void print_path(vb_path p) {
     for (size_t i = 0, from = 0; i < p.count; from = p.ends[i++]) printf("/%.*s", (int)(p.ends[i] - from), (const char *)p.bytes + from);
 }
 
+/* A number of so many bytes, big-endian. */
+static uint64_t number(const uint8_t *p, int bytes) {
+    uint64_t n = 0;
+    for (int i = 0; i < bytes; i++) n = n << 8 | p[i];
+    return n;
+}
+
+/* The item of a subspace in the tally of a store of `count` entries, by halving; NULL if the subspace has no entry. There are at most as many items
+   as entries, and a place behind the last item has count 0. */
+static const uint8_t *item_of(vb_subspace s, size_t count) {
+    size_t from = 0, to = count;
+    while (from < to) {
+        size_t mid = from + (to - from) / 2;
+        const uint8_t *item = tally + VB_ITEM * mid;
+        uint64_t high = number(item, 8), low = number(item + 8, 8);
+        int behind = number(item + 16, 4) == 0;
+        if (!behind && high == s.high && low == s.low) return item;
+        if (behind || high > s.high || (high == s.high && low > s.low)) to = mid;
+        else from = mid + 1;
+    }
+    return NULL;
+}
+
+static void print_recorder(uint64_t low, size_t count) {
+    vb_subspace s = {0, low};
+    const uint8_t *item = item_of(s, count);
+    if (!item) printf("recorder %llu has none\n", (unsigned long long)low);
+    else printf("recorder %llu has %u, the newest at %llu\n", (unsigned long long)low, (unsigned)number(item + 16, 4), (unsigned long long)number(item + 20, 8));
+}
+
 int main(void) {
     static const char *const paths[] = {"ward/3/ann", "ward/3/bob", "ward/4", "ward/3", "ward/3/ann"};
     const uint8_t namespace_id[16] = {1}, token[64] = {7};
@@ -36,6 +67,7 @@ int main(void) {
         memcpy(e.namespace_id, namespace_id, 16);
         e.path = path_of(paths[i]);
         e.timestamp = 100 + i;
+        e.subspace_id.low = 9; /* the recorder */
         vb_ingested r = vb_ingest_entry(state, STORE, pruned, LIMIT, e, token, 0);
         printf("%s: %s, %zu pruned\n", paths[i], r.refusal ? vb_refusal_text(r.refusal) : r.obsolete ? "obsolete" : "taken", r.pruned);
         state = r.state;
@@ -45,16 +77,20 @@ int main(void) {
     all.any_subspace = all.times.open = 1;
     const vb_ignore none = {0, 0};
     for (size_t place = 0;; place++) {
-        vb_listed l = vb_query_area_place(state, STORE, all, none, place);
+        vb_listed l = vb_query_area_place(state, READ, all, none, place);
         if (l.refusal || !l.found) break;
         place = l.place;
-        vb_part r = vb_query_area(state, STORE, all, none, place);
+        vb_part r = vb_query_area(state, READ, all, none, place);
         vb_decoded d = vb_decode_spt_entry_key(spt + r.offset, r.length - VB_VALUE);
         printf("%zu: ", place);
         print_path(d.path);
         printf(" at %llu, %zu bytes from %zu on\n", (unsigned long long)d.timestamp, r.length, r.offset);
     }
+    print_recorder(8, state.count);
+    print_recorder(9, state.count);
     all.path = path_of("ward/3");
-    printf("%zu forgotten\n", vb_forget_area(state, STORE, all, 0, all).forgotten);
+    vb_area_forgotten f = vb_forget_area(state, STORE, all, 0, all);
+    printf("%zu forgotten\n", f.forgotten);
+    print_recorder(9, f.state.count);
     return 0;
 }

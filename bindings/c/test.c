@@ -22,8 +22,9 @@ static void *lent(size_t bytes) {
 }
 
 /* A store's state and its buffers, exactly as long as its limit asks. */
-typedef struct { vb_state state; uint8_t *spt, *tsp; uint32_t *spt_dir, *tsp_dir; vb_pair *prune; size_t limit; } kept;
-#define STORE(k) (k)->spt, VB_RECORD_MOST * (k)->limit, (k)->spt_dir, 2 * (k)->limit, (k)->tsp, VB_RECORD_MOST * (k)->limit, (k)->tsp_dir, 2 * (k)->limit
+typedef struct { vb_state state; uint8_t *spt, *tsp, *tally; uint32_t *spt_dir, *tsp_dir; vb_pair *prune; size_t limit; } kept;
+#define READ(k) (k)->spt, VB_RECORD_MOST * (k)->limit, (k)->spt_dir, 2 * (k)->limit, (k)->tsp, VB_RECORD_MOST * (k)->limit, (k)->tsp_dir, 2 * (k)->limit
+#define STORE(k) READ(k), (k)->tally, VB_ITEM * (k)->limit
 
 static kept store_of(size_t limit) {
     static const uint8_t namespace_id[16] = {0};
@@ -34,6 +35,7 @@ static kept store_of(size_t limit) {
     k.tsp = (uint8_t *)lent(VB_RECORD_MOST * limit);
     k.spt_dir = (uint32_t *)lent(8 * limit);
     k.tsp_dir = (uint32_t *)lent(8 * limit);
+    k.tally = (uint8_t *)lent(VB_ITEM * limit);
     k.prune = (vb_pair *)lent(8 * limit);
     vb_opened o = vb_open(namespace_id, limit, STORE(&k));
     IS(o.refusal, VB_DONE);
@@ -41,6 +43,7 @@ static kept store_of(size_t limit) {
     IS(o.state.count, 0);
     for (size_t i = 0; i < VB_RECORD_MOST * limit; i++) if (k.spt[i] | k.tsp[i]) IS(i, SIZE_MAX);
     for (size_t i = 0; i < 2 * limit; i++) if (k.spt_dir[i] | k.tsp_dir[i]) IS(i, SIZE_MAX);
+    for (size_t i = 0; i < VB_ITEM * limit; i++) if (k.tally[i]) IS(i, SIZE_MAX);
     k.state = o.state;
     return k;
 }
@@ -50,6 +53,7 @@ static void drop(kept *k) {
     free(k->tsp);
     free(k->spt_dir);
     free(k->tsp_dir);
+    free(k->tally);
     free(k->prune);
 }
 
@@ -60,6 +64,7 @@ static kept copy_of(const kept *k) {
     c.tsp = (uint8_t *)memcpy(lent(VB_RECORD_MOST * k->limit), k->tsp, VB_RECORD_MOST * k->limit);
     c.spt_dir = (uint32_t *)memcpy(lent(8 * k->limit), k->spt_dir, 8 * k->limit);
     c.tsp_dir = (uint32_t *)memcpy(lent(8 * k->limit), k->tsp_dir, 8 * k->limit);
+    c.tally = (uint8_t *)memcpy(lent(VB_ITEM * k->limit), k->tally, VB_ITEM * k->limit);
     c.prune = (vb_pair *)memcpy(lent(8 * k->limit), k->prune, 8 * k->limit);
     return c;
 }
@@ -67,6 +72,7 @@ static kept copy_of(const kept *k) {
 static void same_buffers(const kept *a, const kept *b) {
     IS(memcmp(a->spt, b->spt, VB_RECORD_MOST * a->limit) | memcmp(a->tsp, b->tsp, VB_RECORD_MOST * a->limit), 0);
     IS(memcmp(a->spt_dir, b->spt_dir, 8 * a->limit) | memcmp(a->tsp_dir, b->tsp_dir, 8 * a->limit), 0);
+    IS(memcmp(a->tally, b->tally, VB_ITEM * a->limit), 0);
 }
 
 static void unchanged(const kept *a, const kept *b) {
@@ -459,12 +465,14 @@ static void openings(void) {
         IS(o.state.namespace_id[0] | o.state.count | o.state.limit, 0);
     }
     IS(vb_open(namespace_id, 4, STORE(&k)).refusal, 2);
-    IS(vb_open(namespace_id, 1, NULL, 0, NULL, 0, NULL, 0, NULL, 0).refusal, 2);
-    k.spt[VB_RECORD_MOST * 2] = 9;
+    IS(vb_open(namespace_id, 1, NULL, 0, NULL, 0, NULL, 0, NULL, 0, NULL, 0).refusal, 2);
+    IS(vb_open(namespace_id, 3, READ(&k), k.tally, VB_ITEM * 3 - 1).refusal, 2);
+    k.spt[VB_RECORD_MOST * 2] = k.tally[VB_ITEM * 2] = 9;
     vb_opened o = vb_open(namespace_id, 2, STORE(&k)); /* what lies beyond the limit's room stays */
     IS(o.refusal, 0);
     IS(o.state.namespace_id[0], 0xaa);
     IS(k.spt[VB_RECORD_MOST * 2], 9);
+    IS(k.tally[VB_ITEM * 2], 9);
 
     const vb_entry e = entry(1, "61", 5, 3, 9);
     const vb_area all = area(1, 0, path(""), times(0, 0, 1));
@@ -486,14 +494,14 @@ static void openings(void) {
         IS(vb_ingest_entry_by_value(s, STORE(&k), by_value, e, token, 0).ingested.refusal, want);
         IS(vb_forget_entry(s, STORE(&k), subspace(1), path("61"), 0, digest).refusal, want);
         IS(vb_forget_area(s, STORE(&k), all, 0, all).refusal, want);
-        IS(vb_find_entry(s, STORE(&k), subspace(1), path("61"), ignore(0, 0)).refusal, want);
-        IS(vb_query_area_place(s, STORE(&k), all, ignore(0, 0), 0).refusal, want);
-        IS(vb_query_area(s, STORE(&k), all, ignore(0, 0), 0).length, 0);
-        IS(vb_query_range_place(s, STORE(&k), whole, ignore(0, 0), 0).refusal, want);
-        IS(vb_query_range(s, STORE(&k), whole, ignore(0, 0), 0).length, 0);
-        IS(vb_count_area(s, STORE(&k), all).refusal, want);
-        IS(vb_summarise(s, STORE(&k), whole).refusal, want);
-        IS(vb_area_of_interest_to_range(s, STORE(&k), most).refusal, want);
+        IS(vb_find_entry(s, READ(&k), subspace(1), path("61"), ignore(0, 0)).refusal, want);
+        IS(vb_query_area_place(s, READ(&k), all, ignore(0, 0), 0).refusal, want);
+        IS(vb_query_area(s, READ(&k), all, ignore(0, 0), 0).length, 0);
+        IS(vb_query_range_place(s, READ(&k), whole, ignore(0, 0), 0).refusal, want);
+        IS(vb_query_range(s, READ(&k), whole, ignore(0, 0), 0).length, 0);
+        IS(vb_count_area(s, READ(&k), all).refusal, want);
+        IS(vb_summarise(s, READ(&k), whole).refusal, want);
+        IS(vb_area_of_interest_to_range(s, READ(&k), most).refusal, want);
     }
     vb_area bad = all;
     bad.path = illegal(1);
@@ -511,12 +519,12 @@ static void openings(void) {
     IS(vb_forget_area(o.state, STORE(&k), all, 1, bad).refusal, 4);
     IS(vb_forget_area(o.state, STORE(&k), bad, 0, all).refusal, 4);
     IS(vb_forget_area(o.state, STORE(&k), all, 0, bad).refusal, 0);
-    IS(vb_find_entry(o.state, STORE(&k), subspace(1), illegal(3), ignore(0, 0)).refusal, 4);
-    IS(vb_query_area_place(o.state, STORE(&k), bad, ignore(0, 0), SIZE_MAX).refusal, 4);
-    IS(vb_query_range_place(o.state, STORE(&k), descends, ignore(0, 0), 0).refusal, 4);
-    IS(vb_count_area(o.state, STORE(&k), bad).refusal, 4);
-    IS(vb_summarise(o.state, STORE(&k), descends).refusal, 4);
-    IS(vb_area_of_interest_to_range(o.state, STORE(&k), most).refusal, 4);
+    IS(vb_find_entry(o.state, READ(&k), subspace(1), illegal(3), ignore(0, 0)).refusal, 4);
+    IS(vb_query_area_place(o.state, READ(&k), bad, ignore(0, 0), SIZE_MAX).refusal, 4);
+    IS(vb_query_range_place(o.state, READ(&k), descends, ignore(0, 0), 0).refusal, 4);
+    IS(vb_count_area(o.state, READ(&k), bad).refusal, 4);
+    IS(vb_summarise(o.state, READ(&k), descends).refusal, 4);
+    IS(vb_area_of_interest_to_range(o.state, READ(&k), most).refusal, 4);
     unchanged(&k, &before);
     kept done = before;
     drop(&done);
@@ -604,7 +612,7 @@ static void reading_and_forgetting(void) {
     IS(k.state.count, 3); /* [61][62] was older than [61] */
     IS(ingest(&k, entry(1, "61/62", 50, 1, 9), 0).state.count, 4);
 
-    vb_entry_found f = vb_find_entry(k.state, STORE(&k), subspace(1), path("61/62"), ignore(0, 0));
+    vb_entry_found f = vb_find_entry(k.state, READ(&k), subspace(1), path("61/62"), ignore(0, 0));
     IS(f.refusal, 0);
     IS(f.found, 1);
     same_path(f.lengthy.entry.path, "61/62");
@@ -613,56 +621,56 @@ static void reading_and_forgetting(void) {
     IS(f.lengthy.entry.subspace_id.low, 1);
     IS(f.lengthy.token[0], 0x42);
     IS(f.lengthy.available, 0);
-    IS(vb_find_entry(k.state, STORE(&k), subspace(1), path("61/62"), ignore(128, 0)).found, 0); /* its payload is not all there */
-    IS(vb_find_entry(k.state, STORE(&k), subspace(1), path("61"), ignore(1, 0)).found, 1);
-    IS(vb_find_entry(k.state, STORE(&k), subspace(1), path("61"), ignore(0, 1)).found, 0); /* its payload is empty */
-    IS(vb_find_entry(k.state, STORE(&k), subspace(2), path("61"), ignore(0, 0)).found, 0);
+    IS(vb_find_entry(k.state, READ(&k), subspace(1), path("61/62"), ignore(128, 0)).found, 0); /* its payload is not all there */
+    IS(vb_find_entry(k.state, READ(&k), subspace(1), path("61"), ignore(1, 0)).found, 1);
+    IS(vb_find_entry(k.state, READ(&k), subspace(1), path("61"), ignore(0, 1)).found, 0); /* its payload is empty */
+    IS(vb_find_entry(k.state, READ(&k), subspace(2), path("61"), ignore(0, 0)).found, 0);
 
     vb_area all = area(1, 0, path(""), times(0, 0, 1)), one = area(0, 1, path("61"), times(0, 50, 0));
     vb_range whole = range(path(""), path(""), 1), from = range(path("61/62"), path("64"), 0);
     static const char *const order[] = {"61", "61/62", "63", "64"};
     for (size_t i = 0; i < 4; i++) {
-        vb_listed l = vb_query_area_place(k.state, STORE(&k), all, ignore(0, 0), i), m = vb_query_range_place(k.state, STORE(&k), whole, ignore(0, 0), i);
+        vb_listed l = vb_query_area_place(k.state, READ(&k), all, ignore(0, 0), i), m = vb_query_range_place(k.state, READ(&k), whole, ignore(0, 0), i);
         IS(l.refusal | m.refusal, 0);
         IS(l.found & m.found, 1);
         IS(l.place, i);
         IS(m.place, i);
-        vb_part p = vb_query_area(k.state, STORE(&k), all, ignore(0, 0), i), q = vb_query_range(k.state, STORE(&k), whole, ignore(0, 0), i);
+        vb_part p = vb_query_area(k.state, READ(&k), all, ignore(0, 0), i), q = vb_query_range(k.state, READ(&k), whole, ignore(0, 0), i);
         IS(p.offset, k.spt_dir[2 * i]);
         IS(p.length, k.spt_dir[2 * i + 1]);
         IS(q.offset, p.offset);
         IS(q.length, p.length);
         same_triple(vb_decode_spt_entry_key(k.spt + p.offset, p.length - VB_VALUE), 0, order[i], i == 3 ? 2 : 1, i == 0 ? 40 : i == 1 ? 50 : i == 2 ? 20 : 10);
     }
-    IS(vb_query_area_place(k.state, STORE(&k), all, ignore(0, 0), 4).found, 0);
-    IS(vb_query_area_place(k.state, STORE(&k), all, ignore(0, 0), SIZE_MAX).found, 0);
-    IS(vb_query_range_place(k.state, STORE(&k), whole, ignore(0, 0), SIZE_MAX).found, 0);
-    IS(vb_query_area(k.state, STORE(&k), all, ignore(0, 0), 4).length, 0);
-    IS(vb_query_area(k.state, STORE(&k), all, ignore(0, 0), 4).offset, 0);
-    IS(vb_query_range(k.state, STORE(&k), whole, ignore(0, 0), 4).length, 0);
-    IS(vb_query_area_place(k.state, STORE(&k), one, ignore(0, 0), 1).found, 0); /* at 50 it is outside */
-    IS(vb_query_range_place(k.state, STORE(&k), from, ignore(0, 0), 0).place, 1);
-    IS(vb_query_range_place(k.state, STORE(&k), from, ignore(7, 0), 0).found, 0);
-    IS(vb_count_area(k.state, STORE(&k), all).count, 4);
-    IS(vb_count_area(k.state, STORE(&k), one).count, 1);
-    IS(vb_summarise(k.state, STORE(&k), whole).count, 4);
-    IS(vb_summarise(k.state, STORE(&k), from).count, 2);
+    IS(vb_query_area_place(k.state, READ(&k), all, ignore(0, 0), 4).found, 0);
+    IS(vb_query_area_place(k.state, READ(&k), all, ignore(0, 0), SIZE_MAX).found, 0);
+    IS(vb_query_range_place(k.state, READ(&k), whole, ignore(0, 0), SIZE_MAX).found, 0);
+    IS(vb_query_area(k.state, READ(&k), all, ignore(0, 0), 4).length, 0);
+    IS(vb_query_area(k.state, READ(&k), all, ignore(0, 0), 4).offset, 0);
+    IS(vb_query_range(k.state, READ(&k), whole, ignore(0, 0), 4).length, 0);
+    IS(vb_query_area_place(k.state, READ(&k), one, ignore(0, 0), 1).found, 0); /* at 50 it is outside */
+    IS(vb_query_range_place(k.state, READ(&k), from, ignore(0, 0), 0).place, 1);
+    IS(vb_query_range_place(k.state, READ(&k), from, ignore(7, 0), 0).found, 0);
+    IS(vb_count_area(k.state, READ(&k), all).count, 4);
+    IS(vb_count_area(k.state, READ(&k), one).count, 1);
+    IS(vb_summarise(k.state, READ(&k), whole).count, 4);
+    IS(vb_summarise(k.state, READ(&k), from).count, 2);
 
     vb_interest i; /* met from the newest: 50, 40, 20, 10; payloads 1, 0, 2, 3 */
     i.area = all;
     i.max_count = i.max_size = UINT64_MAX;
-    IS(vb_area_of_interest_to_range(k.state, STORE(&k), i).range.times.start, 10);
+    IS(vb_area_of_interest_to_range(k.state, READ(&k), i).range.times.start, 10);
     i.max_count = 1;
-    IS(vb_area_of_interest_to_range(k.state, STORE(&k), i).range.times.start, 40);
+    IS(vb_area_of_interest_to_range(k.state, READ(&k), i).range.times.start, 40);
     i.max_count = UINT64_MAX;
     i.max_size = 2;
-    vb_area_range r = vb_area_of_interest_to_range(k.state, STORE(&k), i);
+    vb_area_range r = vb_area_of_interest_to_range(k.state, READ(&k), i);
     IS(r.refusal, 0);
     IS(r.range.times.start, 20);
     IS(r.range.times.open, 1);
     IS(r.range.paths.open, 1);
     i.area = area(0, 9, path("61"), times(3, 0, 1));
-    r = vb_area_of_interest_to_range(k.state, STORE(&k), i);
+    r = vb_area_of_interest_to_range(k.state, READ(&k), i);
     IS(r.range.times.start, 3); /* no match: as given */
     same_path(r.range.paths.end, "6100");
 
@@ -694,14 +702,136 @@ static void reading_and_forgetting(void) {
     IS(a.state.count, 0);
     for (size_t n = 0; n < VB_RECORD_MOST * 5; n++) IS(k.spt[n] | k.tsp[n], 0);
     for (size_t n = 0; n < 10; n++) IS(k.spt_dir[n] | k.tsp_dir[n], 0);
+    for (size_t n = 0; n < VB_ITEM * 5; n++) IS(k.tally[n], 0);
+    drop(&k);
+}
+
+/* One item: subspace, count and newest timestamp. */
+static void same_item(const kept *k, size_t place, uint64_t high, uint64_t low, uint32_t count, uint64_t newest) {
+    const uint8_t *p = k->tally + VB_ITEM * place;
+    for (int i = 0; i < 8; i++) {
+        IS(p[i], (uint8_t)(high >> (8 * (7 - i))));
+        IS(p[8 + i], (uint8_t)(low >> (8 * (7 - i))));
+        IS(p[20 + i], (uint8_t)(newest >> (8 * (7 - i))));
+    }
+    for (int i = 0; i < 4; i++) IS(p[16 + i], (uint8_t)(count >> (8 * (3 - i))));
+}
+
+/* So many items, and zeros behind the last. */
+static void items(const kept *k, size_t n) {
+    for (size_t i = 0; i < n; i++) IS((k->tally[VB_ITEM * i + 18] | k->tally[VB_ITEM * i + 19]) != 0, 1); /* no count is 0 */
+    for (size_t i = VB_ITEM * n; i < VB_ITEM * k->limit; i++) IS(k->tally[i], 0);
+}
+
+/* The tally after one call and another. */
+static void tallies(void) {
+    const uint8_t digest[32] = {0};
+    kept k = store_of(5);
+    IS(ingest(&k, entry(0, "", 0, 0, 9), 0).refusal, 0); /* 19 zeros, 01, 8 zeros */
+    same_item(&k, 0, 0, 0, 1, 0);
+    items(&k, 1);
+    vb_entry high = entry(0, "61", UINT64_MAX, 0, 9); /* subspaces that differ in the high half only */
+    high.subspace_id.high = 1;
+    IS(ingest(&k, high, 0).refusal, 0);
+    IS(ingest(&k, entry(7, "61", 5, 0, 9), 0).refusal, 0);
+    IS(ingest(&k, entry(7, "62", 9, 0, 9), 0).refusal, 0);
+    same_item(&k, 0, 0, 0, 1, 0);
+    same_item(&k, 1, 0, 7, 2, 9);
+    same_item(&k, 2, 1, 0, 1, UINT64_MAX);
+    items(&k, 3);
+    IS(ingest(&k, entry(7, "62", 8, 0, 9), 0).obsolete, 1);
+    IS(ingest(&k, entry(7, "", 8, 0, 9), 0).pruned, 1); /* [61]; [62] is newer */
+    same_item(&k, 1, 0, 7, 2, 9);
+    items(&k, 3);
+    k.state = vb_forget_entry(k.state, STORE(&k), subspace(7), path("62"), 0, digest).state; /* the newest goes */
+    same_item(&k, 1, 0, 7, 1, 8);
+    items(&k, 3);
+    k.state = vb_forget_entry(k.state, STORE(&k), subspace(7), path(""), 0, digest).state; /* an item goes with its last entry, and those behind it move up */
+    same_item(&k, 0, 0, 0, 1, 0);
+    same_item(&k, 1, 1, 0, 1, UINT64_MAX);
+    items(&k, 2);
+    IS(k.state.count, 2);
+    const vb_area zero = area(0, 0, path(""), times(0, 0, 1));
+    k.state = vb_forget_area(k.state, STORE(&k), zero, 0, zero).state;
+    same_item(&k, 0, 1, 0, 1, UINT64_MAX);
+    items(&k, 1);
+    kept second = copy_of(&k); /* over numbers, and over pairs by value */
+    uint32_t *numbers = (uint32_t *)lent(40);
+    static vb_pairs by_value;
+    high.path = path("");
+    vb_ingested r = vb_ingest_entry_numbers(k.state, STORE(&k), numbers, 10, high, token, 0);
+    IS(r.pruned, 1);
+    k.state = r.state;
+    IS(vb_ingest_entry_by_value(second.state, STORE(&second), by_value, high, token, 0).ingested.pruned, 1);
+    same_item(&k, 0, 1, 0, 1, UINT64_MAX);
+    items(&k, 1);
+    same_buffers(&k, &second);
+    free(numbers);
+    drop(&second);
+    drop(&k);
+}
+
+/* A call that changes a store, by its number: its refusal. */
+static uint8_t changes(int call, vb_state s, kept *k, vb_entry e, size_t tally_len) {
+    static vb_pairs by_value;
+    const vb_area at = area(0, 1, e.path, times(0, 0, 1));
+    switch (call) {
+    case 0: return vb_ingest_entry(s, READ(k), k->tally, tally_len, k->prune, k->limit, e, token, 1).refusal;
+    case 1: return vb_ingest_entry_numbers(s, READ(k), k->tally, tally_len, (uint32_t *)k->prune, 2 * k->limit, e, token, 1).refusal;
+    case 2: return vb_ingest_entry_by_value(s, READ(k), k->tally, tally_len, by_value, e, token, 1).ingested.refusal;
+    case 3: return vb_forget_entry(s, READ(k), k->tally, tally_len, e.subspace_id, e.path, 1, e.payload_digest).refusal;
+    default: return vb_forget_area(s, READ(k), k->tally, tally_len, at, 1, at).refusal;
+    }
+}
+
+/* Refusal 10: behind 1, 2 and 3, before 4, 6, a verdict of obsolete, 7, 8 and 9. Calls that read are not lent the tally. */
+static void wrong_tallies(void) {
+    kept k = store_of(2);
+    IS(ingest(&k, entry(1, "61", 5, 3, 9), 0).refusal, 0);
+    IS(ingest(&k, entry(1, "62", 5, 3, 9), 0).refusal, 0);
+    vb_entry bad = entry(1, "61", 4, 3, 8), older = bad, elsewhere = bad, resent = entry(1, "61", 5, 3, 9), third = entry(1, "63", 5, 3, 9);
+    bad.path = illegal(1);
+    elsewhere.namespace_id[3] = 1;
+    for (size_t at = 0; at < VB_ITEM * 2; at++) { /* a byte of the item, or behind it */
+        k.tally[at] ^= 1;
+        kept before = copy_of(&k);
+        for (int call = 0; call < 5; call++) {
+            IS(changes(call, k.state, &k, bad, VB_ITEM * 2), VB_WRONG_TALLY);
+            IS(changes(call, k.state, &k, older, VB_ITEM * 2), VB_WRONG_TALLY);
+            IS(changes(call, k.state, &k, elsewhere, VB_ITEM * 2), VB_WRONG_TALLY);
+            IS(changes(call, k.state, &k, resent, VB_ITEM * 2), VB_WRONG_TALLY);
+            IS(changes(call, k.state, &k, third, VB_ITEM * 2), VB_WRONG_TALLY);
+            IS(changes(call, k.state, &k, bad, VB_ITEM * 2 - 1), VB_SHORT_BUFFER);
+            IS(changes(call, k.state, &k, bad, 0), VB_SHORT_BUFFER);
+            vb_state other = k.state;
+            other.count = 1;
+            IS(changes(call, other, &k, bad, VB_ITEM * 2), VB_NOT_WELL_FORMED);
+            IS(changes(call, other, &k, bad, VB_ITEM * 2 - 1), VB_SHORT_BUFFER);
+            other.limit = 0;
+            IS(changes(call, other, &k, bad, VB_ITEM * 2 - 1), VB_BAD_LIMIT);
+        }
+        unchanged(&k, &before);
+        drop(&before);
+        IS(vb_count_area(k.state, READ(&k), area(1, 0, path(""), times(0, 0, 1))).count, 2);
+        k.tally[at] ^= 1;
+    }
+    static const uint8_t refusals[][5] = {{4, 0, 6, 7, 8}, {4, 0, 6, 7, 8}, {4, 0, 6, 7, 8}, {4, 9, 9, 0, 0}, {4, 0, 0, 0, 0}};
+    for (int call = 0; call < 5; call++) { /* the same calls with the right tally; an area that protects itself drops nothing */
+        const vb_entry asked[] = {bad, older, elsewhere, resent, third};
+        for (int i = 0; i < 5; i++) {
+            kept one = copy_of(&k);
+            IS(changes(call, one.state, &one, asked[i], VB_ITEM * 2), refusals[call][i]);
+            drop(&one);
+        }
+    }
     drop(&k);
 }
 
 int main(void) {
     memset(token, 0x42, sizeof token);
     IS(vb_edition(), VB_EDITION);
-    for (unsigned n = 0; n < 10; n++) IS(strcmp(vb_refusal_text(n), "unknown") != 0, 1);
-    IS(strcmp(vb_refusal_text(10), "unknown"), 0);
+    for (unsigned n = 0; n < 11; n++) IS(strcmp(vb_refusal_text(n), "unknown") != 0, 1);
+    IS(strcmp(vb_refusal_text(11), "unknown"), 0);
     paths();
     entries();
     areas_and_ranges();
@@ -710,6 +840,8 @@ int main(void) {
     openings();
     ingestion();
     reading_and_forgetting();
+    tallies();
+    wrong_tallies();
     printf("%u comparisons with answers written by hand\n", compared);
     return 0;
 }

@@ -3,7 +3,7 @@
 
    Make the archive with `rt staticlib virebony` and link target/staticlib/libvirebony.a, from C11 or C++11. It is made for x86-64 Linux. Of functions that
    are not its own it calls memcpy and memset; it allocates nothing, keeps nothing between calls and has no variables, so several threads may call it at once, on
-   different stores. docs/FORMAT.md shows how keys, records, directories and the state lie in memory.
+   different stores. docs/FORMAT.md shows how keys, records, directories, the tally and the state lie in memory.
 
    What you owe: a pointer with a count points to so many elements, of the type's own alignment, and is not NULL unless the count is 0; a pointer
    without a count points to the whole array that is named. A buffer that a call writes (no const) overlaps no other that it is lent. Nobody else
@@ -26,13 +26,14 @@ extern "C" {
 #endif
 
 /* The edition of this header. */
-#define VB_EDITION 1
+#define VB_EDITION 2
 
 enum {
     VB_LIMIT_MOST = 1024, /* entries that a store may be opened for */
     VB_RECORD_MOST = 410, /* bytes of a record: a tree has so many for each entry of the limit */
     VB_KEY_MOST = 298,    /* bytes of a key: what a buffer for a key must have */
     VB_VALUE = 112,       /* bytes of a record's value: payload length 8, digest 32, token 64, available length 8 */
+    VB_ITEM = 28,         /* bytes of a tally's item: subspace 16, count 4, newest timestamp 8; a tally has so many for each entry of the limit */
     VB_MCL = 64,          /* bytes of a component */
     VB_MCC = 8,           /* components of a path */
     VB_MPL = 128          /* bytes of a path */
@@ -49,7 +50,8 @@ enum {
     VB_OTHER_NAMESPACE = 6,   /* The entry names another namespace than the store's. */
     VB_PRUNING_PREVENTED = 7, /* Pruning is prevented, and an entry would be removed. */
     VB_FULL = 8,              /* The entries that would be left already number the limit. */
-    VB_OTHER_DIGEST = 9       /* The stored entry's digest is not the one expected. */
+    VB_OTHER_DIGEST = 9,      /* The stored entry's digest is not the one expected. */
+    VB_WRONG_TALLY = 10       /* The tally is not the one that the store gives. */
 };
 
 /* What a refusal means, in a sentence; for a number that is none of them, "unknown". */
@@ -65,6 +67,7 @@ static inline const char *vb_refusal_text(unsigned refusal) {
     case VB_PRUNING_PREVENTED: return "pruning is prevented, and an entry would be removed";
     case VB_FULL: return "the store is full";
     case VB_OTHER_DIGEST: return "the stored entry's digest is not the one expected";
+    case VB_WRONG_TALLY: return "the tally is not the one that the store gives";
     default: return "unknown";
     }
 }
@@ -101,7 +104,7 @@ typedef struct { vb_area area; uint64_t max_count, max_size; } vb_interest;
 /* Which entries a query passes over: those whose payload is not all there, those of an empty payload. */
 typedef struct { uint8_t incomplete_payloads, empty_payloads; } vb_ignore;
 
-/* Kept by you from one call to the next, beside the four buffers; hand in the one that the last call answered. */
+/* Kept by you from one call to the next, beside the buffers; hand in the one that the last call answered. */
 typedef struct { uint8_t namespace_id[16]; size_t count, limit; } vb_state;
 
 /* Offset and length of a record in the subspace-first tree. */
@@ -135,21 +138,32 @@ typedef struct { uint8_t refusal, component; size_t length; uint8_t bytes[VB_MCL
 
 /* ---- Calls ---- */
 
-/* The four buffers of a store: the subspace-first tree and its directory, the time-first tree and its directory. A tree has at least 410 * limit
-   bytes, a directory at least 2 * limit numbers; what lies beyond is neither read nor written. */
-#define VB_BUFFERS uint8_t *spt, size_t spt_len, uint32_t *spt_dir, size_t spt_dir_len, uint8_t *tsp, size_t tsp_len, uint32_t *tsp_dir, size_t tsp_dir_len
+/* The buffers of a store: the subspace-first tree and its directory, the time-first tree and its directory, and the tally. A tree has at least
+   410 * limit bytes, a directory at least 2 * limit numbers, a tally at least 28 * limit bytes; what lies beyond is neither read nor written. Calls that
+   read a store are not lent the tally.
+
+   The tally: for each subspace with entries, in ascending order, an item of 28 bytes, and zeros behind the last item up to 28 * limit. In an item bytes
+   0 to 15 are the subspace, 16 to 19 the number of its entries, 20 to 27 the newest of their timestamps, each big-endian. Opening clears it. A call that
+   changes a store is refused with 10 if the tally is not the one that the store gives, and leaves the right one.
+
+   No call answers what an item says: read the bytes. No item has count 0, and a place behind the last item has; so a walk until a count of 0 finds a
+   subspace's item, and so does halving over as many places as the state counts entries, where a place of count 0 stands above every subspace.
+   example.c shows it. A store that was kept without its tally has it again by a walk over the subspace-first tree: of each record the first 16 bytes are
+   the subspace, and the 8 bytes before its last 112 the timestamp; records of one subspace stand together. */
+#define VB_BUFFERS uint8_t *spt, size_t spt_len, uint32_t *spt_dir, size_t spt_dir_len, uint8_t *tsp, size_t tsp_len, uint32_t *tsp_dir, size_t tsp_dir_len, \
+    uint8_t *tally, size_t tally_len
 #define VB_CONST_BUFFERS const uint8_t *spt, size_t spt_len, const uint32_t *spt_dir, size_t spt_dir_len, const uint8_t *tsp, size_t tsp_len, const uint32_t *tsp_dir, size_t tsp_dir_len
 
 /* The edition that the archive was made with. */
 uint32_t vb_edition(void);
 
-/* Opens a store of no entries, for at most `limit` of them: writes zeros up to the limit's room. Refused: 1, 2. */
+/* Opens a store of no entries, for at most `limit` of them: writes zeros up to the limit's room, in the tally too. Refused: 1, 2. */
 vb_opened vb_open(const uint8_t namespace_id[16], size_t limit, VB_BUFFERS);
 
 /* Files an entry with its token and available length 0. It is obsolete, and nothing changes, if a stored entry of the subspace, at a prefix of its
    path or the path itself, is newer. Else what it outdates is removed: entries at its path or below that are not newer. The pairs of these, as they stood before the call,
    in key order, go to the front of `prune`, which has at least `limit` pairs; `pruned` says how many, and what lies behind stays.
-   Refused: 1, 2, 3, 4, 6, then obsolete, then 7 (with `prevent_pruning`), 8. */
+   Refused: 1, 2, 3, 10, 4, 6, then obsolete, then 7 (with `prevent_pruning`), 8. */
 vb_ingested vb_ingest_entry(vb_state state, VB_BUFFERS, vb_pair *prune, size_t prune_len, vb_entry entry, const uint8_t token[64], uint8_t prevent_pruning);
 
 /* vb_ingest_entry over a prune list of at least 2 * limit numbers, offset and length by turns. Refused as there. */
@@ -159,11 +173,11 @@ vb_ingested vb_ingest_entry_numbers(vb_state state, VB_BUFFERS, uint32_t *prune,
 vb_pairs_ingested vb_ingest_entry_by_value(vb_state state, VB_BUFFERS, vb_pairs prune, vb_entry entry, const uint8_t token[64], uint8_t prevent_pruning);
 
 /* Drops the entry at a subspace and path, if there is one. With `expects`, only if its digest is the one expected; without, the 32 bytes
-   play no part, but must be there. An absent entry answers done. Refused: 1, 2, 3, 4, 9. */
+   play no part, but must be there. An absent entry answers done. Refused: 1, 2, 3, 10, 4, 9. */
 vb_entry_forgotten vb_forget_entry(vb_state state, VB_BUFFERS, vb_subspace subspace, vb_path path, uint8_t expects, const uint8_t expected_digest[32]);
 
 /* Drops every entry that `area` includes and, with `protects`, `protected_area` does not; answers how many. Without `protects` the second area is not
-   looked at. Refused: 1, 2, 3, 4. */
+   looked at. Refused: 1, 2, 3, 10, 4. */
 vb_area_forgotten vb_forget_area(vb_state state, VB_BUFFERS, vb_area area, uint8_t protects, vb_area protected_area);
 
 /* The entry at a subspace and path, unless `ignore` passes over it. Refused: 1, 2, 3, 4. Writes nothing. */

@@ -36,6 +36,7 @@ static void lay(lent *after, size_t n) {
             at += key + VALUE_BYTES;
         }
     }
+    lay_tally(left, n, after->state.limit, after->tally);
     after->state.count = n;
 }
 

@@ -5,38 +5,39 @@
 #include "damages.h"
 #include <stdio.h>
 
-enum { SLACK = 64, TREE = VB_RECORD_MOST * VB_LIMIT_MOST + SLACK, DIR = 2 * VB_LIMIT_MOST + SLACK };
+enum { SLACK = 64, TREE = VB_RECORD_MOST * VB_LIMIT_MOST + SLACK, DIR = 2 * VB_LIMIT_MOST + SLACK, TALLY = VB_ITEM * VB_LIMIT_MOST + SLACK };
 
 typedef struct {
-    uint8_t tree[2][TREE];
+    uint8_t tree[2][TREE], tally[TALLY];
     uint32_t dir[2][DIR], prune[DIR];
 } Buffers;
 
 static Buffers now, before, after, reached;
 
-/* How many bytes of a tree and numbers of a directory are compared, kept and put back: more than is ever lent. Of the prune list it is all. */
-static size_t lent_bytes, lent_numbers;
+/* How many bytes of a tree and of the tally and numbers of a directory are compared, kept and put back: more than is ever lent. Of the prune list it is all. */
+static size_t lent_bytes, lent_numbers, lent_tally;
 
 static void copy(Buffers *to, const Buffers *from) {
     for (int t = 0; t < 2; t++) memcpy(to->tree[t], from->tree[t], lent_bytes), memcpy(to->dir[t], from->dir[t], 4 * lent_numbers);
-    memcpy(to->prune, from->prune, sizeof to->prune);
+    memcpy(to->tally, from->tally, lent_tally), memcpy(to->prune, from->prune, sizeof to->prune);
 }
 
 static bool differ(const Buffers *a, const Buffers *b) {
     for (int t = 0; t < 2; t++)
         if (memcmp(a->tree[t], b->tree[t], lent_bytes) || memcmp(a->dir[t], b->dir[t], 4 * lent_numbers)) return true;
-    return memcmp(a->prune, b->prune, sizeof a->prune) != 0;
+    return memcmp(a->tally, b->tally, lent_tally) || memcmp(a->prune, b->prune, sizeof a->prune);
 }
 
 /* The store with other buffers of the same lengths. */
 static lent in_buffers(Buffers *b) {
     lent s = store;
     for (int t = 0; t < 2; t++) s.tree[t] = b->tree[t], s.dir[t] = b->dir[t];
-    s.prune = b->prune;
+    s.tally = b->tally, s.prune = b->prune;
     return s;
 }
 
-#define BUFFERS s->tree[0], s->bytes[0], s->dir[0], s->numbers[0], s->tree[1], s->bytes[1], s->dir[1], s->numbers[1]
+#define READ s->tree[0], s->bytes[0], s->dir[0], s->numbers[0], s->tree[1], s->bytes[1], s->dir[1], s->numbers[1]
+#define CHANGED READ, s->tally, s->tally_bytes
 
 static answer told_ingested(vb_ingested r) {
     answer a;
@@ -49,7 +50,7 @@ static answer told_ingested(vb_ingested r) {
 static answer by_value(const call *c, lent *s) {
     static vb_pairs pairs;
     memcpy(&pairs, s->prune, sizeof pairs);
-    vb_pairs_ingested r = vb_ingest_entry_by_value(s->state, BUFFERS, pairs, c->entry, c->token, c->prevent_pruning);
+    vb_pairs_ingested r = vb_ingest_entry_by_value(s->state, CHANGED, pairs, c->entry, c->token, c->prevent_pruning);
     memcpy(s->prune, r.pairs, sizeof r.pairs);
     return told_ingested(r.ingested);
 }
@@ -62,37 +63,37 @@ static answer make(const call *c, lent *s) {
     memset(&a, 0, sizeof a);
     switch (c->kind) {
     case OPEN: {
-        vb_opened r = vb_open(s->state.namespace_id, s->state.limit, BUFFERS);
+        vb_opened r = vb_open(s->state.namespace_id, s->state.limit, CHANGED);
         a.refusal = r.refusal, a.state = r.state;
         break;
     }
-    case INGEST: return told_ingested(vb_ingest_entry(s->state, BUFFERS, (vb_pair *)s->prune, s->prune_numbers / 2, c->entry, c->token, c->prevent_pruning));
-    case INGEST_NUMBERS: return told_ingested(vb_ingest_entry_numbers(s->state, BUFFERS, s->prune, s->prune_numbers, c->entry, c->token, c->prevent_pruning));
+    case INGEST: return told_ingested(vb_ingest_entry(s->state, CHANGED, (vb_pair *)s->prune, s->prune_numbers / 2, c->entry, c->token, c->prevent_pruning));
+    case INGEST_NUMBERS: return told_ingested(vb_ingest_entry_numbers(s->state, CHANGED, s->prune, s->prune_numbers, c->entry, c->token, c->prevent_pruning));
     case INGEST_BY_VALUE: return by_value(c, s);
     case FORGET_ENTRY: {
-        vb_entry_forgotten r = vb_forget_entry(s->state, BUFFERS, c->entry.subspace_id, c->entry.path, c->expects, c->entry.payload_digest);
+        vb_entry_forgotten r = vb_forget_entry(s->state, CHANGED, c->entry.subspace_id, c->entry.path, c->expects, c->entry.payload_digest);
         a.refusal = r.refusal, a.state = r.state;
         break;
     }
     case FORGET_AREA: {
-        vb_area_forgotten r = vb_forget_area(s->state, BUFFERS, c->area, c->protects, c->protected_area);
+        vb_area_forgotten r = vb_forget_area(s->state, CHANGED, c->area, c->protects, c->protected_area);
         a.refusal = r.refusal, a.state = r.state, a.number = r.forgotten;
         break;
     }
     case FIND_ENTRY: {
-        vb_entry_found r = vb_find_entry(s->state, BUFFERS, c->entry.subspace_id, c->entry.path, c->ignore);
+        vb_entry_found r = vb_find_entry(s->state, READ, c->entry.subspace_id, c->entry.path, c->ignore);
         a.refusal = r.refusal, a.yes = r.found, a.lengthy = r.lengthy;
         break;
     }
-    case AREA_PLACE: tell_listed(&a, vb_query_area_place(s->state, BUFFERS, c->area, c->ignore, c->place)); break;
-    case AREA_PART: a.part = vb_query_area(s->state, BUFFERS, c->area, c->ignore, c->place); break;
-    case RANGE_PLACE: tell_listed(&a, vb_query_range_place(s->state, BUFFERS, c->range, c->ignore, c->place)); break;
-    case RANGE_PART: a.part = vb_query_range(s->state, BUFFERS, c->range, c->ignore, c->place); break;
-    case COUNT_AREA: tell_counted(&a, vb_count_area(s->state, BUFFERS, c->area)); break;
-    case SUMMARISE: tell_counted(&a, vb_summarise(s->state, BUFFERS, c->range)); break;
+    case AREA_PLACE: tell_listed(&a, vb_query_area_place(s->state, READ, c->area, c->ignore, c->place)); break;
+    case AREA_PART: a.part = vb_query_area(s->state, READ, c->area, c->ignore, c->place); break;
+    case RANGE_PLACE: tell_listed(&a, vb_query_range_place(s->state, READ, c->range, c->ignore, c->place)); break;
+    case RANGE_PART: a.part = vb_query_range(s->state, READ, c->range, c->ignore, c->place); break;
+    case COUNT_AREA: tell_counted(&a, vb_count_area(s->state, READ, c->area)); break;
+    case SUMMARISE: tell_counted(&a, vb_summarise(s->state, READ, c->range)); break;
     default: {
         vb_interest i = {c->area, c->max_count, c->max_size};
-        vb_area_range r = vb_area_of_interest_to_range(s->state, BUFFERS, i);
+        vb_area_range r = vb_area_of_interest_to_range(s->state, READ, i);
         a.refusal = r.refusal, a.range = r.range;
     }
     }
@@ -104,7 +105,7 @@ static const char *const names[] = {"open", "ingest", "ingest, numbers", "ingest
 
 /* What came, by kind: each number of a refusal; answers of yes (obsolete, found); those that name something (pruned, forgotten, counted, a part, times that
    start elsewhere than the area's). */
-static long came[CALL_KINDS][10], yeses[CALL_KINDS], named[CALL_KINDS], calls;
+static long came[CALL_KINDS][11], yeses[CALL_KINDS], named[CALL_KINDS], calls;
 
 static void fault(const char *what, const call *c, const answer *want, const answer *got, int damage) {
     printf("fault: %s, call '%s', damage %d, refusal %d, verdict %d, number %llu; by 01 %d, %d, %llu; seed %llx\n", what, names[c->kind], damage, got->refusal,
@@ -135,13 +136,14 @@ static void fresh_store(void) {
         store.bytes[t] = VB_RECORD_MOST * limit + (one_in(2) ? below(SLACK) : 0);
         store.numbers[t] = 2 * limit + (one_in(2) ? below(SLACK) : 0);
     }
+    store.tally_bytes = VB_ITEM * limit + (one_in(2) ? below(SLACK) : 0);
     store.prune_numbers = 2 * limit + below(4);
     store = in_buffers(&now);
     random_bytes(store.state.namespace_id, 16);
     store.state.count = one_in(2) ? 0 : random64(), store.state.limit = limit;
-    lent_bytes = VB_RECORD_MOST * limit + SLACK, lent_numbers = 2 * limit + SLACK;
+    lent_bytes = VB_RECORD_MOST * limit + SLACK, lent_numbers = 2 * limit + SLACK, lent_tally = VB_ITEM * limit + SLACK;
     for (int t = 0; t < 2; t++) memset(now.tree[t], 0xa5, lent_bytes), memset(now.dir[t], 0xa5, 4 * lent_numbers);
-    memset(now.prune, 0xa5, sizeof now.prune);
+    memset(now.tally, 0xa5, lent_tally), memset(now.prune, 0xa5, sizeof now.prune);
 }
 
 /* A store reached by ingestions and forgettings; bytes beyond the bounds are not 0. */
@@ -170,10 +172,11 @@ static void reach(void) {
     filled = 0;
     if (one_in(2)) poke_available();
     int refusal = judge_reads(&store);
+    if (!refusal) refusal = judge_refuses(FORGET_AREA, &store);
     if (refusal) printf("fault: a reached store is refused with %d, seed %llx\n", refusal, (unsigned long long)seed), exit(1);
 }
 
-static long refused[4], short_lists, full, most_full, kinds[DAMAGES][2];
+static long refused[4], short_lists, short_tallies, wrong_tallies, full, most_full, kinds[DAMAGES][2];
 
 static void every_call(int damage) {
     copy(&before, &now);
@@ -182,6 +185,7 @@ static void every_call(int damage) {
     refused[worst]++, kinds[damage][!worst]++;
     full += !worst && store.state.count == store.state.limit, most_full += !worst && store.state.count == VB_LIMIT_MOST;
     short_lists += !worst && store.prune_numbers < 2 * store.state.limit;
+    short_tallies += !worst && store.tally_bytes < VB_ITEM * store.state.limit, wrong_tallies += judge_refuses(FORGET_AREA, &was) == 10;
     for (int kind = 0; kind < CALL_KINDS; kind++) {
         call c = random_call(kind, store.state.namespace_id);
         if (one_in(4)) odd_call(&c);
@@ -190,7 +194,7 @@ static void every_call(int damage) {
         if (!got.refusal && one_in(8)) { /* what the judge laid is itself a well-formed store */
             lent left = in_buffers(&after);
             left.state = got.state;
-            if (judge_reads(&left)) fault("not well-formed afterwards", &c, &got, &got, damage);
+            if (judge_reads(&left) || judge_refuses(FORGET_AREA, &left)) fault("not well-formed afterwards", &c, &got, &got, damage);
             judge_reads(&was);
         }
         copy(&now, &before);
@@ -199,16 +203,16 @@ static void every_call(int damage) {
 
 /* What came, by kind. A branch of 01 that was never reached is a fault of this program. */
 static int table(bool enough) {
-    static const char *const can[] = {"012", "y+01234678", "y+01234678", "y+0134678", "012349", "+01234", "y01234", "y+01234", "+0", "y+01234", "+0", "+01234", "+01234", "+01234"};
+    static const char *const can[] = {"012", "y+01234678t", "y+01234678t", "y+01234678t", "012349t", "+01234t", "y01234", "y+01234", "+0", "y+01234", "+0", "+01234", "+01234", "+01234"};
     int missing = 0;
     printf("%-17s %9s %9s %9s", "call", "answered", "of yes", "naming");
-    for (int n = 1; n < 10; n++) printf(" %8d", n);
+    for (int n = 1; n < 11; n++) printf(" %8d", n);
     puts("");
     for (int k = 0; k < CALL_KINDS; k++) {
         printf("%-17s %9ld %9ld %9ld", names[k], came[k][0], yeses[k], named[k]);
-        for (int n = 1; n < 10; n++) printf(" %8ld", came[k][n]);
+        for (int n = 1; n < 11; n++) printf(" %8ld", came[k][n]);
         puts("");
-        for (const char *p = can[k]; *p; p++) missing += !(*p == 'y' ? yeses[k] : *p == '+' ? named[k] : came[k][*p - '0']);
+        for (const char *p = can[k]; *p; p++) missing += !(*p == 'y' ? yeses[k] : *p == '+' ? named[k] : came[k][*p == 't' ? 10 : *p - '0']);
     }
     if (missing && enough) printf("fault: %d kinds of answers never came\n", missing);
     return missing && enough;
@@ -225,6 +229,7 @@ int main(int argc, char **argv) {
         for (int i = 0; i < 20 && done < stores; i++) {
             int kind = (int)below(DAMAGES);
             damage(kind);
+            if (kind < TALLY_DAMAGES && !judge_reads(&store) && !one_in(4)) right_tally();
             if (one_in(8) && !judge_reads(&store) && store.prune_numbers >= 2 * store.state.limit) damage((int)below(DAMAGES));
             /* where the damage had nothing to change, the store is not counted */
             if (differ(&now, &reached) || memcmp(&store, &at, sizeof at)) every_call(kind), done++;
@@ -232,8 +237,8 @@ int main(int argc, char **argv) {
             copy(&now, &reached);
         }
     }
-    printf("damaged stores %ld: refused with 1 %ld, with 2 %ld, with 3 %ld; still well-formed %ld, of these %ld with a short prune list, %ld full, %ld of 1,024\n",
-           done, refused[1], refused[2], refused[3], refused[0], short_lists, full, most_full);
+    printf("damaged stores %ld: refused with 1 %ld, with 2 %ld, with 3 %ld; still well-formed %ld, of these %ld with a wrong tally, %ld with a short one, %ld with a short prune list, %ld full, %ld of 1,024\n",
+           done, refused[1], refused[2], refused[3], refused[0], wrong_tallies, short_tallies, short_lists, full, most_full);
     printf("calls %ld, each judged: its answer, and every byte afterwards\n", calls);
     if (getenv("KINDS"))
         for (int i = 0; i < DAMAGES; i++) printf("damage %2d: not well-formed %ld, well-formed %ld\n", i, kinds[i][0], kinds[i][1]);

@@ -13,7 +13,7 @@ static uint32_t odd_number(uint32_t x) {
     }
 }
 
-enum { DAMAGES = 23 };
+enum { TALLY_DAMAGES = 23, DAMAGES = 29 }; /* those from TALLY_DAMAGES on change the tally only */
 
 static void damage(int kind) {
     int t = (int)below(2);
@@ -21,7 +21,8 @@ static void damage(int kind) {
     uint64_t room = VB_RECORD_MOST * store.state.limit;
     take_apart();
     Rec *r = &recs[0][k], *o = &recs[1][partner(k)], swap;
-    size_t key = r->len - VB_VALUE;
+    size_t key = r->len - VB_VALUE, items = items_held(), from = items ? below(items) : 0, to = items ? below(items) : 0;
+    uint8_t other[VB_ITEM];
     switch (kind) {
     case 0: /* a byte of a tree */
         if (end) store.tree[t][below(end)] ^= 1 << below(8);
@@ -137,6 +138,7 @@ static void damage(int kind) {
     case 18: /* bytes beyond the bounds: no damage */
         if (store.bytes[t] > room) store.tree[t][room + below(store.bytes[t] - room)] ^= 0xff;
         if (store.numbers[t] > 2 * store.state.limit) store.dir[t][2 * store.state.limit + below(store.numbers[t] - 2 * store.state.limit)] ^= 0xff;
+        if (store.tally_bytes > VB_ITEM * store.state.limit) store.tally[VB_ITEM * store.state.limit + below(store.tally_bytes - VB_ITEM * store.state.limit)] ^= 0xff;
         break;
     case 19: /* the state's namespace: no damage */
         store.state.namespace_id[below(16)] ^= 1 << below(8);
@@ -158,12 +160,42 @@ static void damage(int kind) {
         }
         put_together();
         break;
-    default: /* a gap: all offsets but the first one further, or the first not 0 */
+    case 22: /* a gap: all offsets but the first one further, or the first not 0 */
         if (n) {
-            uint64_t from = one_in(2) ? 0 : k;
-            if (end < room) memmove(store.tree[t] + store.dir[t][2 * from] + 1, store.tree[t] + store.dir[t][2 * from], end - store.dir[t][2 * from]);
-            for (uint64_t i = from; i < n; i++) store.dir[t][2 * i]++;
+            uint64_t first = one_in(2) ? 0 : k;
+            if (end < room) memmove(store.tree[t] + store.dir[t][2 * first] + 1, store.tree[t] + store.dir[t][2 * first], end - store.dir[t][2 * first]);
+            for (uint64_t i = first; i < n; i++) store.dir[t][2 * i]++;
         }
+        break;
+    case 23: /* a byte of an item: of its subspace, its count or its timestamp */
+        if (items) store.tally[VB_ITEM * from + (one_in(2) ? below(VB_ITEM) : 16 + below(VB_ITEM - 16))] ^= 1 << below(8);
+        break;
+    case 24: /* two items change places */
+        memcpy(other, store.tally + VB_ITEM * from, VB_ITEM);
+        memcpy(store.tally + VB_ITEM * from, store.tally + VB_ITEM * to, VB_ITEM);
+        memcpy(store.tally + VB_ITEM * to, other, VB_ITEM);
+        break;
+    case 25: /* an item left out */
+        if (items) {
+            memmove(store.tally + VB_ITEM * from, store.tally + VB_ITEM * (from + 1), VB_ITEM * (items - from - 1));
+            memset(store.tally + VB_ITEM * (items - 1), 0, VB_ITEM);
+        }
+        break;
+    case 26: { /* a byte behind the last item, the first one or the last one of the room among them */
+        size_t behind = VB_ITEM * (store.state.limit - items);
+        if (behind) store.tally[VB_ITEM * items + (one_in(3) ? 0 : one_in(2) ? behind - 1 : below(behind))] = 1 + below(255);
+        break;
+    }
+    case 27: /* a tally too short */
+        store.tally_bytes = one_in(2) ? VB_ITEM * store.state.limit - 1 : below(VB_ITEM * store.state.limit);
+        break;
+    default: /* the tally of another store: without an entry, with one twice, or with another time for one */
+        if (n) {
+            if (one_in(3)) put64(r->b + key - 8, one_in(2) ? below(9) : random64());
+            else if (one_in(2)) recs[0][held[0]++] = *r;
+            else *r = recs[0][--held[0]];
+        }
+        put_tally(recs[0], held[0]);
     }
 }
 #endif

@@ -1,19 +1,19 @@
 /* Random edits of a store through the door, each beside a plain copy in C: two lists of records, sorted by key, into which a record is put, or out of which
-   some are taken, by plain memmove. After each edit both trees and both directories are compared byte for byte, and the pairs of what was pruned; then a
-   byte behind the last record, an offset and a byte of a key's end are damaged in turn, and each must be refused with 3. Ends with 1 at the first
-   difference. */
+   some are taken, by plain memmove. After each edit both trees, both directories and the tally are compared byte for byte, and the pairs of what was
+   pruned; then a byte behind the last record, an offset and a byte of a key's end are damaged in turn, and each must be refused with 3, and a byte of the
+   tally, which must be refused with 10. Ends with 1 at the first difference. */
 #include "virebony.h"
 #include <stdbool.h>
 #include <stdio.h>
 #include <stdlib.h>
 #include <string.h>
 
-enum { MOST = 40, RECORD = 410, VALUE = 112 };
+enum { MOST = 40, RECORD = 410, VALUE = 112, ITEM = 28, SUBSPACES = 4 };
 
 /* A path is one component `n` and `more` components of 16 bytes, so one prefixes another if `n` is the same and `more` not greater. */
 typedef struct {
     uint64_t n, time;
-    int more;
+    int more, subspace;
     size_t len[2];
     uint8_t record[2][RECORD];
 } Copy;
@@ -21,11 +21,15 @@ typedef struct {
 static Copy copies[MOST + 1];
 static size_t copied;
 
-static uint8_t tree[2][RECORD * MOST], want[RECORD * MOST];
+/* Subspaces by number, ascending: the second differs from the third in its high half only. */
+static const vb_subspace subspaces[SUBSPACES] = {{0, 0}, {0, 9}, {1, 9}, {UINT64_MAX, 0}};
+
+static uint8_t tree[2][RECORD * MOST], want[RECORD * MOST], tally[ITEM * MOST], want_tally[ITEM * MOST];
 static uint32_t dir[2][2 * MOST], want_dir[2 * MOST];
 static vb_pair prune[MOST], want_prune[MOST];
 static vb_state state;
-#define STORE tree[0], RECORD * state.limit, dir[0], 2 * state.limit, tree[1], RECORD * state.limit, dir[1], 2 * state.limit
+#define READ tree[0], RECORD * state.limit, dir[0], 2 * state.limit, tree[1], RECORD * state.limit, dir[1], 2 * state.limit
+#define STORE READ, tally, ITEM * state.limit
 
 static uint8_t *put64(uint8_t *p, uint64_t x) {
     for (int i = 7; i >= 0; i--) *p++ = (uint8_t)(x >> (8 * i));
@@ -47,7 +51,7 @@ static void write_records(Copy *c) {
     for (int t = 0; t < 2; t++) {
         uint8_t *p = c->record[t];
         if (t) p = put64(p, c->time);
-        p = put_path(put64(put64(p, 0), 0), c);
+        p = put_path(put64(put64(p, subspaces[c->subspace].high), subspaces[c->subspace].low), c);
         if (!t) p = put64(p, c->time);
         p = put64(p, 7);
         for (int i = 0; i < 96; i++) *p++ = i;
@@ -61,6 +65,7 @@ static vb_entry entry(const Copy *c) {
     for (int i = 3; i >= 0; i--) e.path.bytes[3 - i] = 1 + (c->n >> (7 * i) & 127);
     memset(e.path.bytes + 4, 0xaa, 16 * c->more);
     for (int i = 0; i <= c->more; i++) e.path.ends[i] = 4 + 16 * i;
+    e.subspace_id = subspaces[c->subspace];
     e.path.count = c->more + 1, e.timestamp = c->time, e.payload_length = 7;
     for (int i = 0; i < 32; i++) e.payload_digest[i] = i;
     return e;
@@ -72,22 +77,25 @@ static int compare(const Copy *a, const Copy *b, int t) {
     return c ? c : (m > n) - (m < n);
 }
 
+/* Whether a copy's path is that of another of its subspace, or prefixes it. */
+static bool covers(const Copy *a, const Copy *b) { return a->subspace == b->subspace && a->n == b->n && a->more <= b->more; }
+
 static void take_out(size_t k) { memmove(copies + k, copies + k + 1, (--copied - k) * sizeof(Copy)); }
 
 /* 0 if taken, 8 if full, -1 if obsolete; the pairs of what it prunes. */
 static int put_in(const Copy *c, size_t *pruned) {
     size_t at = 0;
     for (size_t k = 0; k < copied; k++)
-        if (copies[k].n == c->n && copies[k].more <= c->more && copies[k].time > c->time) return -1;
+        if (covers(copies + k, c) && copies[k].time > c->time) return -1;
     *pruned = 0;
     for (size_t k = 0, offset = 0; k < copied; k++) {
-        if (copies[k].n == c->n && c->more <= copies[k].more && copies[k].time <= c->time)
+        if (covers(c, copies + k) && copies[k].time <= c->time)
             want_prune[*pruned].offset = (uint32_t)offset, want_prune[(*pruned)++].length = (uint32_t)copies[k].len[0];
         offset += copies[k].len[0];
     }
     if (copied - *pruned == state.limit) return 8;
     for (size_t k = copied; k-- > 0;)
-        if (copies[k].n == c->n && c->more <= copies[k].more && copies[k].time <= c->time) take_out(k);
+        if (covers(c, copies + k) && copies[k].time <= c->time) take_out(k);
     while (at < copied && compare(copies + at, c, 0) < 0) at++;
     memmove(copies + at + 1, copies + at, (copied++ - at) * sizeof(Copy));
     copies[at] = *c;
@@ -119,6 +127,18 @@ static const char *laid(void) {
         if (memcmp(want, tree[t], RECORD * state.limit)) return "a tree's bytes";
         if (memcmp(want_dir, dir[t], 8 * state.limit)) return "a directory's numbers";
     }
+    uint8_t *at = want_tally;
+    memset(want_tally, 0, ITEM * state.limit);
+    for (int s = 0; s < SUBSPACES; s++) {
+        uint64_t count = 0, newest = 0;
+        for (size_t k = 0; k < copied; k++)
+            if (copies[k].subspace == s) count++, newest = copies[k].time > newest ? copies[k].time : newest;
+        if (!count) continue;
+        at = put64(put64(at, subspaces[s].high), subspaces[s].low);
+        for (int i = 3; i >= 0; i--) *at++ = (uint8_t)(count >> (8 * i));
+        at = put64(at, newest);
+    }
+    if (memcmp(want_tally, tally, ITEM * state.limit)) return "the tally";
     return state.count == copied ? NULL : "the count";
 }
 
@@ -126,19 +146,25 @@ static const char *damaged(void) {
     int t = rand() % 2;
     size_t end = copied ? dir[t][2 * copied - 2] + dir[t][2 * copied - 1] : 0, k = copied ? rand() % copied : 0;
     vb_area all = area(NULL, 0, UINT64_MAX);
-    if (vb_count_area(state, STORE, all).refusal) return "a sound store";
+    if (vb_count_area(state, READ, all).refusal) return "a sound store";
+    if (vb_forget_area(state, STORE, all, 1, all).refusal) return "a sound store with its tally";
+    size_t byte = rand() % (ITEM * state.limit);
+    tally[byte] ^= 1;
+    if (vb_forget_area(state, STORE, all, 1, all).refusal != 10) return "a byte of the tally";
+    if (vb_count_area(state, READ, all).refusal) return "a count, which is not lent the tally";
+    tally[byte] ^= 1;
     if (end < RECORD * state.limit) {
         tree[t][end] ^= 1;
-        if (vb_count_area(state, STORE, all).refusal != 3) return "a byte behind the last record";
+        if (vb_count_area(state, READ, all).refusal != 3) return "a byte behind the last record";
         tree[t][end] ^= 1;
     }
     if (!copied) return NULL;
     dir[t][2 * k] ^= 1;
-    if (vb_count_area(state, STORE, all).refusal != 3) return "an offset";
+    if (vb_count_area(state, READ, all).refusal != 3) return "an offset";
     dir[t][2 * k] ^= 1;
     size_t last = dir[t][2 * k] + dir[t][2 * k + 1] - VALUE - (t ? 1 : 9);
     tree[t][last] = 3;
-    if (vb_count_area(state, STORE, all).refusal != 3) return "a byte of a key's end";
+    if (vb_count_area(state, READ, all).refusal != 3) return "a byte of a key's end";
     tree[t][last] = 0;
     return NULL;
 }
@@ -146,7 +172,7 @@ static const char *damaged(void) {
 static const char *ingest(long *kinds) {
     Copy c;
     memset(&c, 0, sizeof c);
-    c.n = rand() % (rand() % 4 ? 1000 : 10), c.more = rand() % 4, c.time = rand() % 8;
+    c.n = rand() % (rand() % 5 > 1 ? 1000 : 10), c.more = rand() % 4, c.time = rand() % 8, c.subspace = rand() % 3 ? 1 : rand() % SUBSPACES;
     write_records(&c);
     vb_entry e = entry(&c);
     uint8_t token[64];

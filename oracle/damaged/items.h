@@ -13,7 +13,10 @@ enum {
     DIGEST_AT = 8,
     TOKEN_AT = 40,
     AVAILABLE_AT = 104,
-    LIMIT_LAST = 1024
+    LIMIT_LAST = 1024,
+    ITEM_BYTES = 28, /* "16 bytes subspace, 4 bytes count, 8 bytes newest timestamp, big-endian" */
+    COUNT_AT = 16,
+    NEWEST_AT = 20
 };
 
 typedef struct {
@@ -29,12 +32,16 @@ typedef struct {
 extern item judged_items[LIMIT_LAST];
 extern const lent *judged_store;
 extern int judged_refusal;
+extern bool judged_wrong_tally;
 
 static inline uint64_t be64(const uint8_t *p) {
     uint64_t x = 0;
     for (int i = 0; i < 8; i++) x = x << 8 | p[i];
     return x;
 }
+
+/* tally.c: the tally of some entries, in whatever order they stand, up to the limit's room. */
+void lay_tally(const item *const *entries, size_t n, size_t limit, uint8_t *tally);
 
 /* includes.c */
 void put64(uint8_t *p, uint64_t x);

@@ -1,6 +1,6 @@
-/* A judge of the store's calls, written from document 01 and sharing no code and no number with the port or with whoever makes the calls: of the header
-   it uses the shapes of values only. It reads a store once, as it was lent, and then says of each call on it what the answer is and what every byte
-   of the buffers is afterwards. */
+/* A judge of the store's calls, written from document 01 and from 02's U1 (the tally), and sharing no code and no number with the port or with whoever
+   makes the calls: of the header it uses the shapes of values only. It reads a store once, as it was lent, and then says of each call on it what the answer
+   is and what every byte of the buffers is afterwards. */
 #ifndef JUDGE_H
 #define JUDGE_H
 #include "virebony.h"
@@ -10,9 +10,9 @@
 /* A state and what is lent beside it. Trees and directories: subspace-first, then time-first. */
 typedef struct {
     vb_state state;
-    uint8_t *tree[2];
+    uint8_t *tree[2], *tally;
     uint32_t *dir[2], *prune;
-    size_t bytes[2], numbers[2], prune_numbers;
+    size_t bytes[2], numbers[2], tally_bytes, prune_numbers;
 } lent;
 
 enum call_kind {
@@ -42,7 +42,7 @@ typedef struct {
     vb_range range;
 } answer;
 
-/* Reads a store. Which of 1, 2, 3 a call must give that has no prune list, or 0. What is kept points into its buffers. */
+/* Reads a store. Which of 1, 2, 3 a call must give that has no prune list and no tally, or 0. What is kept points into its buffers. */
 int judge_reads(const lent *s);
 
 /* The answer to a call on the store that was read, by its kind; `after` is a copy of it, whose buffers become what the call leaves. */
@@ -54,6 +54,6 @@ const char *judge_differs(const call *c, const answer *want, const answer *got);
 /* Whether a path is legal. */
 bool judge_is_legal(const vb_path *p);
 
-/* The number that a call by its kind must be refused with on the store that was read, or 0: 1, 2 or 3. */
+/* The number that a call by its kind must be refused with on the store that was read, whatever else it is handed, or 0: 1, 2, 3 or 10. */
 int judge_refuses(enum call_kind kind, const lent *s);
 #endif

@@ -106,6 +106,38 @@ static void add_last(uint64_t n) {
     for (int i = 0; i < 2; i++) qsort(recs[i], held[i], sizeof(Rec), by_key);
 }
 
+/* The tally of a list of subspace-first records, up to the limit's room: each record is counted at its subspace's item, which is put in its place. */
+static void put_tally(const Rec *list, uint64_t n) {
+    size_t items = 0;
+    memset(store.tally, 0, VB_ITEM * store.state.limit);
+    for (uint64_t k = 0; k < n; k++) {
+        const uint8_t *subspace = list[k].b, *time = list[k].b + list[k].len - VB_VALUE - 8;
+        uint8_t *item = store.tally;
+        while (item < store.tally + VB_ITEM * items && memcmp(item, subspace, 16) < 0) item += VB_ITEM;
+        if (item == store.tally + VB_ITEM * items || memcmp(item, subspace, 16)) {
+            if (items == store.state.limit) return;
+            memmove(item + VB_ITEM, item, store.tally + VB_ITEM * items++ - item);
+            memcpy(item, subspace, 16), memset(item + 16, 0, VB_ITEM - 16);
+        }
+        for (int i = 19; !++item[i]; i--) {}
+        if (memcmp(item + 20, time, 8) < 0) memcpy(item + 20, time, 8);
+    }
+}
+
+/* Of a store that is well-formed, where the tally has room. */
+static void right_tally(void) {
+    if (store.tally_bytes < VB_ITEM * store.state.limit) return;
+    take_apart();
+    put_tally(recs[0], held[0]);
+}
+
+/* How many items the tally has, as it was reached. */
+static size_t items_held(void) {
+    size_t n = 0;
+    while (n < store.state.limit && (store.tally[VB_ITEM * n + 18] || store.tally[VB_ITEM * n + 19])) n++;
+    return n;
+}
+
 /* Available lengths up to the payload's, in both trees, as no call of this edition writes them. */
 static void poke_available(void) {
     take_apart();

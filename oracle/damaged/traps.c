@@ -1,24 +1,27 @@
-/* Stores and calls on which a plausible wrong port fails, each answer written by hand from 01. Ends with 1 if one is not as written. */
+/* Stores and calls on which a plausible wrong port fails, each answer written by hand from 01, and from 02's U1 for the tally. Ends with 1 if one is not as
+   written. */
 #include "virebony.h"
 #include <stdbool.h>
 #include <stdio.h>
 #include <string.h>
 
-enum { MOST = 8, RECORD = 410, ANY = 1 };
+enum { MOST = 8, RECORD = 410, ITEM = 28, ANY = 1 };
 #define GREATEST UINT64_MAX
 
 static vb_state state;
-static uint8_t tree[2][RECORD * MOST + 8], token[64];
+static uint8_t tree[2][RECORD * MOST + 8], tally[ITEM * MOST + 8], token[64];
 static uint32_t dir[2][2 * MOST + 8];
 static vb_pair prune[MOST + 4];
-static size_t room = sizeof tree[0], lent = MOST; /* bytes lent of the subspace-first tree, pairs of the prune list */
+/* Bytes lent of the subspace-first tree and of the tally, pairs of the prune list. */
+static size_t room = sizeof tree[0], tally_room = sizeof tally, lent = MOST;
 static int wrong, asked;
-#define STORE tree[0], room, dir[0], 2 * MOST + 8, tree[1], sizeof tree[1], dir[1], 2 * MOST + 8
+#define READ tree[0], room, dir[0], 2 * MOST + 8, tree[1], sizeof tree[1], dir[1], 2 * MOST + 8
+#define STORE READ, tally, tally_room
 
 static void expect(const char *what, uint64_t got, uint64_t want) {
     asked++;
     if (got == want) return;
-    printf("%s: %llu, by 01 %llu\n", what, (unsigned long long)got, (unsigned long long)want);
+    printf("%s: %llu, by the papers %llu\n", what, (unsigned long long)got, (unsigned long long)want);
     wrong++;
 }
 
@@ -76,7 +79,7 @@ static void open_store(const char *what, size_t limit, int refusal) {
 }
 
 static void fresh(size_t limit) {
-    memset(tree, 7, sizeof tree), memset(dir, 7, sizeof dir), memset(prune, 7, sizeof prune);
+    memset(tree, 7, sizeof tree), memset(dir, 7, sizeof dir), memset(tally, 7, sizeof tally), memset(prune, 7, sizeof prune);
     open_store("opened", limit, 0);
 }
 
@@ -99,15 +102,15 @@ static void in(const char *p, uint64_t time, uint64_t length, uint8_t digest) {
 }
 
 static void counts(const char *what, vb_area a, int refusal, size_t count) {
-    vb_counted c = vb_count_area(state, STORE, a);
+    vb_counted c = vb_count_area(state, READ, a);
     expect(what, c.refusal, refusal);
     expect(what, c.count, count);
 }
 
 /* An area's and a range's listing from a place, of everything: the match's place, or finished; the part's length. */
 static void lists(const char *what, vb_ignore i, size_t place, bool found, size_t at, size_t length) {
-    vb_listed a = vb_query_area_place(state, STORE, all(), i, place), r = vb_query_range_place(state, STORE, whole(), i, place);
-    vb_part p = vb_query_area(state, STORE, all(), i, place), q = vb_query_range(state, STORE, whole(), i, place);
+    vb_listed a = vb_query_area_place(state, READ, all(), i, place), r = vb_query_range_place(state, READ, whole(), i, place);
+    vb_part p = vb_query_area(state, READ, all(), i, place), q = vb_query_range(state, READ, whole(), i, place);
     expect(what, a.refusal | r.refusal, 0);
     expect(what, a.found, found), expect(what, r.found, found);
     expect(what, a.place, at), expect(what, r.place, at);
@@ -175,11 +178,11 @@ static void interest(void) {
     vb_interest i = {all(), 0, 0};
     for (size_t k = 0; k < sizeof asks / sizeof *asks; k++) {
         i.max_count = asks[k].count, i.max_size = asks[k].size;
-        vb_area_range r = vb_area_of_interest_to_range(state, STORE, i);
+        vb_area_range r = vb_area_of_interest_to_range(state, READ, i);
         expect("area of interest", r.refusal, 0), expect("area of interest", r.range.times.start, asks[k].start);
     }
     i.area.times.start = 20, i.area.times.end = 10, i.area.times.open = 0;
-    expect("times as given", vb_area_of_interest_to_range(state, STORE, i).range.times.start, 20);
+    expect("times as given", vb_area_of_interest_to_range(state, READ, i).range.times.start, 20);
     counts("no match is counted", i.area, 0, 0);
 }
 
@@ -233,8 +236,190 @@ static void shapes(void) {
     counts("buffers untouched", all(), 0, 1);
 }
 
+/* The tally */
+
+/* The item at a place, and, with `last`, that zeros follow it up to the limit's room and what lies beyond is untouched. */
+static void item(const char *what, size_t place, uint64_t high, uint64_t low, uint32_t count, uint64_t newest, bool last) {
+    const uint8_t *p = tally + ITEM * place;
+    for (int i = 0; i < 8; i++) {
+        expect(what, p[i], high >> (56 - 8 * i) & 255), expect(what, p[8 + i], low >> (56 - 8 * i) & 255);
+        expect(what, p[20 + i], newest >> (56 - 8 * i) & 255);
+    }
+    for (int i = 0; i < 4; i++) expect(what, p[16 + i], count >> (24 - 8 * i) & 255);
+    if (!last) return;
+    for (size_t i = ITEM * (place + 1); i < sizeof tally; i++) expect(what, tally[i], i < ITEM * state.limit ? 0 : 7);
+}
+
+static void in_subspace(vb_subspace s, const char *p, uint64_t time) {
+    vb_entry e = named(entry(p, time, 3, 1));
+    e.subspace_id = s;
+    ingests(p, e, false, 0, false, 0);
+}
+
+static void forgets(const char *what, uint64_t low, const char *p, int refusal) {
+    static const uint8_t digest[32];
+    vb_entry_forgotten f = vb_forget_entry(state, STORE, subspace(low), path(p), 0, digest);
+    expect(what, f.refusal, refusal);
+    state = f.state;
+}
+
+/* Subspace all 0, one entry at time 0: the item is 19 zeros, 01, 8 zeros. Nothing takes zeros for the end of the items: another item follows it. */
+static void zeros(void) {
+    fresh(3), in_subspace(subspace(0), "a", 0);
+    for (int i = 0; i < ITEM; i++) expect("19 zeros, 01, 8 zeros", tally[i], i == 19);
+    item("one item", 0, 0, 0, 1, 0, true);
+    in_subspace(subspace(1), "a", 0);
+    item("item of zeros", 0, 0, 0, 1, 0, false), item("the next", 1, 0, 1, 1, 0, true);
+    tally[19] = 0;
+    forgets("no item of zeros", 1, "a", 10);
+    tally[19] = 1;
+    forgets("with it", 1, "a", 0);
+    item("again one item", 0, 0, 0, 1, 0, true);
+}
+
+/* Entries of one subspace at 5 and 9, and the one at 9 is forgotten: newest 5. What an entry prunes is not newer than it, so that pruning lowers nothing:
+   [61] at 9 stays when [62] at 5 is pruned by one at 6. */
+static void lowered(void) {
+    fresh(4), in("a", 5, 3, 1), in("b", 9, 3, 1);
+    item("5 and 9", 0, 0, 1, 2, 9, true);
+    forgets("the newest is forgotten", 1, "b", 0);
+    item("newest 5", 0, 0, 1, 1, 5, true);
+    in("b", 9, 3, 1);
+    ingests("one that prunes", named(entry("a", 6, 3, 1)), false, 0, false, 1);
+    item("pruned", 0, 0, 1, 2, 9, true);
+    ingests("one that prunes both", named(entry("", 9, 4, 1)), false, 0, false, 2);
+    item("pruned both", 0, 0, 1, 1, 9, true);
+    ingests("obsolete", named(entry("c", 8, 3, 1)), false, 0, true, 0);
+    item("obsolete leaves it", 0, 0, 1, 1, 9, true);
+    vb_area late = all();
+    late.times.start = 9;
+    in("d", 10, 3, 1), in_subspace(subspace(2), "d", 3);
+    vb_area_forgotten f = vb_forget_area(state, STORE, late, 0, late);
+    expect("from 9 on", f.forgotten, 2), state = f.state;
+    item("an area's forgetting", 0, 0, 2, 1, 3, true);
+}
+
+/* The only entry of the middle one of three subspaces forgotten: the third item moves up, 28 zeros follow. */
+static void moved_up(void) {
+    fresh(3), in_subspace(subspace(7), "a", 3), in_subspace(subspace(5), "a", 2), in_subspace(subspace(3), "a", 1);
+    item("first", 0, 0, 3, 1, 1, false), item("second", 1, 0, 5, 1, 2, false), item("third", 2, 0, 7, 1, 3, true);
+    forgets("the middle one", 5, "a", 0);
+    item("first", 0, 0, 3, 1, 1, false), item("third, moved up", 1, 0, 7, 1, 3, true);
+}
+
+/* Subspaces that differ in the high half only, and in the low one; the greatest time. */
+static void halves(void) {
+    static const vb_subspace ascending[] = {{0, 0}, {0, GREATEST}, {1, 0}, {1, 1}, {GREATEST, 0}, {GREATEST, GREATEST}};
+    static const int order[] = {4, 1, 5, 0, 3, 2};
+    fresh(6);
+    for (int i = 0; i < 6; i++) in_subspace(ascending[order[i]], "a", GREATEST - (uint64_t)order[i]);
+    for (int i = 0; i < 6; i++) item("halves", (size_t)i, ascending[i].high, ascending[i].low, 1, GREATEST - (uint64_t)i, i == 5);
+}
+
+/* The greatest limit: 1,024 entries of one subspace (count 00 00 04 00), then 1,024 subspaces, from the last to the first. */
+static void most(void) {
+    enum { ALL = 1024 };
+    static uint8_t trees[2][RECORD * ALL], items[ITEM * ALL];
+    static uint32_t dirs[2][2 * ALL];
+    static vb_pair pairs[ALL];
+    static const uint8_t namespace_id[16], digest[32];
+#define MOST_STORE trees[0], sizeof trees[0], dirs[0], 2 * ALL, trees[1], sizeof trees[1], dirs[1], 2 * ALL, items, sizeof items
+    for (int many = 0; many < 2; many++) {
+        memset(items, 9, sizeof items);
+        vb_state s = vb_open(namespace_id, ALL, MOST_STORE).state;
+        expect("1,024 opened", s.limit, ALL);
+        vb_entry e = entry("ab", 0, 3, 1);
+        for (uint32_t i = 0; i < ALL; i++) {
+            e.path.bytes[0] = (uint8_t)(i >> 8), e.path.bytes[1] = (uint8_t)i;
+            e.subspace_id = subspace(many ? ALL - i : 5), e.timestamp = i;
+            vb_ingested r = vb_ingest_entry(s, MOST_STORE, pairs, ALL, e, token, 0);
+            expect("one of 1,024", r.refusal | r.obsolete, 0);
+            s = r.state;
+        }
+        expect("1,024 entries", s.count, ALL);
+        for (size_t k = 0; k < (many ? ALL : 1); k++) {
+            const uint8_t *p = items + ITEM * k;
+            const size_t low = many ? k + 1 : 5, time = many ? ALL - 1 - k : ALL - 1;
+            for (int i = 0; i < 14; i++) expect("its subspace", p[i], 0);
+            expect("its subspace", (uint64_t)p[14] << 8 | p[15], low);
+            expect("its count", (uint64_t)p[16] << 24 | (uint64_t)p[17] << 16 | (uint64_t)p[18] << 8 | p[19], many ? 1 : 0x400);
+            for (int i = 20; i < 26; i++) expect("its time", p[i], 0);
+            expect("its time", (uint64_t)p[26] << 8 | p[27], time);
+        }
+        for (size_t i = many ? sizeof items : ITEM; i < sizeof items; i++) expect("zeros behind one item", items[i], 0);
+        items[sizeof items - 1] ^= 1; /* the last byte within the room */
+        expect("the last byte of 28,672", vb_forget_entry(s, MOST_STORE, e.subspace_id, e.path, 0, digest).refusal, 10);
+        items[sizeof items - 1] ^= 1;
+        expect("1,023 are left", vb_forget_entry(s, MOST_STORE, e.subspace_id, e.path, 0, digest).state.count, ALL - 1);
+    }
+}
+
+/* A byte 1 at 28 x limit - 1: 10. At 28 x limit: nothing, and it stays. */
+static void behind(void) {
+    fresh(3), in("a", 5, 3, 1);
+    tally[ITEM * 3 - 1] = 1;
+    forgets("a byte behind the last item", 1, "b", 10);
+    ingests("a byte behind the last item", named(entry("b", 5, 3, 1)), false, 10, false, 0);
+    tally[ITEM * 3 - 1] = 0, tally[ITEM * 3] = 1;
+    ingests("a byte beyond the room", named(entry("b", 5, 3, 1)), false, 0, false, 0);
+    expect("it stays", tally[ITEM * 3], 1);
+    tally_room = ITEM * 3;
+    forgets("a tally of the room alone", 1, "b", 0);
+    tally_room--;
+    forgets("one byte less", 1, "a", 2);
+    open_store("opening, one byte less", 3, 2);
+    tally_room = sizeof tally;
+    item("untouched", 0, 0, 1, 1, 5, false);
+}
+
+/* Wrong tally and illegal path, another namespace, an entry that would be obsolete, one that would prune while that is prevented, a full store, another
+   digest: 10. Not well-formed and wrong tally: 3. Short tally and not well-formed: 2; a limit of 0 too: 1. Calls that read don't take it. An opening has
+   no 10. */
+static void turned_away(void) {
+    uint8_t digest[32] = {0};
+    fresh(1), in("a", 5, 3, 1);
+    tally[27] = 6; /* newest 6 in place of 5 */
+    vb_entry illegal = named(entry("a", 5, 3, 1)), elsewhere = named(entry("a", 5, 3, 1));
+    illegal.path.count = 9, elsewhere.namespace_id[15] = 1;
+    const uint32_t before = dir[0][1];
+    ingests("illegal path", illegal, false, 10, false, 0), ingests("another namespace", elsewhere, false, 10, false, 0);
+    ingests("would be obsolete", named(entry("a", 4, 3, 1)), false, 10, false, 0);
+    ingests("would be prevented", named(entry("a", 7, 3, 1)), true, 10, false, 0);
+    ingests("would be full", named(entry("b", 7, 3, 1)), false, 10, false, 0);
+    ingests("would be taken", named(entry("a", 7, 3, 1)), false, 10, false, 0);
+    expect("another digest", vb_forget_entry(state, STORE, subspace(1), path("a"), 1, digest).refusal, 10);
+    expect("illegal path", vb_forget_entry(state, STORE, subspace(1), illegal.path, 0, digest).refusal, 10);
+    vb_area bad = all();
+    bad.path = illegal.path;
+    vb_area_forgotten f = vb_forget_area(state, STORE, all(), 0, bad);
+    expect("everything", f.refusal, 10), expect("nothing is forgotten", f.forgotten, 0), expect("the state handed in", f.state.count, 1);
+    expect("illegal path", vb_forget_area(state, STORE, bad, 0, bad).refusal, 10);
+    expect("no byte changed", tally[27], 6), expect("no number changed", dir[0][1], before);
+    counts("reading calls don't take it", all(), 0, 1), counts("nor with an illegal path", bad, 4, 0);
+    lists("nor listings", ignore(false, false), 0, true, 0, before);
+    expect("nor lookups", vb_find_entry(state, READ, subspace(1), path("a"), ignore(false, false)).found, 1);
+    tree[1][RECORD - 1] = 1;
+    ingests("not well-formed, wrong tally", illegal, false, 3, false, 0), forgets("not well-formed, wrong tally", 1, "a", 3);
+    expect("not well-formed, wrong tally", vb_forget_area(state, STORE, bad, 0, bad).refusal, 3);
+    tally_room = ITEM - 1;
+    ingests("not well-formed, short tally", illegal, false, 2, false, 0), forgets("not well-formed, short tally", 1, "a", 2);
+    expect("not well-formed, short tally", vb_forget_area(state, STORE, bad, 0, bad).refusal, 2);
+    vb_state kept = state;
+    state.limit = 0;
+    ingests("a limit of 0 too", illegal, false, 1, false, 0), forgets("a limit of 0 too", 1, "a", 1);
+    open_store("a limit of 0 too", 0, 1);
+    state = kept, tally_room = sizeof tally, tree[1][RECORD - 1] = 0;
+    forgets("still wrong", 1, "a", 10);
+    tally[27] = 5;
+    forgets("right again", 1, "a", 0);
+    tally[0] = 9;
+    open_store("an opening has no 10", 1, 0);
+    expect("and clears", tally[0], 0);
+}
+
 int main(void) {
     ties(), full(), pruned(), interest(), listings(), shapes();
+    zeros(), lowered(), moved_up(), halves(), most(), behind(), turned_away();
     printf("traps: %d expectations, %d wrong\n", asked, wrong);
     return wrong != 0;
 }

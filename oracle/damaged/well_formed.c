@@ -1,10 +1,11 @@
-/* A well-formed store by document 01's words: which of refusals 1, 2, 3 a call must give. Every pair of entries is looked at, every byte of the
-   bounds, every key by the grammar. */
+/* A well-formed store by document 01's words, and its tally by 02's: which of refusals 1, 2, 3, 10 a call must give. Every pair of entries is looked at,
+   every byte of the bounds, every key by the grammar. */
 #include "items.h"
 
 item judged_items[LIMIT_LAST];
 const lent *judged_store;
 int judged_refusal;
+bool judged_wrong_tally;
 static item other_items[LIMIT_LAST];
 
 /* "Component byte 00 is written 00 02; other bytes as themselves. A component ends 00 01, a path 00 00." How many bytes the path at the
@@ -108,14 +109,28 @@ static int read_store(const lent *s) {
     return well_formed(s) ? 0 : 3;
 }
 
+static bool wrong_tally(const lent *s) {
+    static const item *all[LIMIT_LAST];
+    static uint8_t right[ITEM_BYTES * LIMIT_LAST];
+    for (size_t k = 0; k < s->state.count; k++) all[k] = judged_items + k;
+    lay_tally(all, s->state.count, s->state.limit, right);
+    return memcmp(s->tally, right, ITEM_BYTES * s->state.limit) != 0;
+}
+
 int judge_reads(const lent *s) {
     judged_store = s;
-    return judged_refusal = read_store(s);
+    judged_refusal = read_store(s);
+    judged_wrong_tally = !judged_refusal && s->tally_bytes >= ITEM_BYTES * s->state.limit && wrong_tally(s);
+    return judged_refusal;
 }
 
 int judge_refuses(enum call_kind kind, const lent *s) {
     bool lists = kind == INGEST || kind == INGEST_NUMBERS; /* a list by value is never short */
-    if (kind == OPEN && judged_refusal == 3) return 0;     /* an opening is handed no store */
-    if (lists && judged_refusal != 1 && s->prune_numbers < 2 * s->state.limit) return 2;
-    return judged_refusal;
+    bool tallies = kind < FIND_ENTRY;                      /* "opening, ingest_entry, forget_entry and forget_area take it, other calls don't" */
+    if (judged_refusal == 1) return 1;
+    if (lists && s->prune_numbers < 2 * s->state.limit) return 2;
+    if (tallies && s->tally_bytes < ITEM_BYTES * s->state.limit) return 2;
+    if (kind == OPEN && judged_refusal == 3) return 0; /* an opening is handed no store */
+    if (judged_refusal) return judged_refusal;
+    return tallies && kind != OPEN && judged_wrong_tally ? 10 : 0;
 }

@@ -4,6 +4,7 @@
 #include <string.h>
 
 #define ARGUMENTS spt, spt_len, spt_dir, spt_dir_len, tsp, tsp_len, tsp_dir, tsp_dir_len
+#define ALL_ARGUMENTS ARGUMENTS, tally, tally_len
 #ifdef __GNUC__
 #define MAY __attribute__((unused))
 #endif
@@ -47,6 +48,41 @@ MAY static vb_area_range lie_interest(vb_state state, VB_CONST_BUFFERS, vb_inter
     return r;
 }
 
+/* The tally as it was handed in. */
+static uint8_t kept_tally[VB_ITEM * VB_LIMIT_MOST + 64];
+MAY static void keep_tally(const uint8_t *tally, size_t tally_len) { memcpy(kept_tally, tally, tally_len < sizeof kept_tally ? tally_len : sizeof kept_tally); }
+
+MAY static const uint8_t *kept_item(const uint8_t *subspace, size_t limit) {
+    for (size_t i = 0; i < limit; i++)
+        if (!memcmp(kept_tally + VB_ITEM * i, subspace, 16) && (kept_tally[VB_ITEM * i + 18] | kept_tally[VB_ITEM * i + 19])) return kept_tally + VB_ITEM * i;
+    return NULL;
+}
+
+/* Lies in the tally of a call that answered so; answers the refusal. */
+MAY static uint8_t lie_about_tally(vb_state state, uint8_t refusal, int changed, vb_path path, uint8_t *tally, size_t tally_len) {
+    if (LIE == TEN_HIDDEN && refusal == 10) return 0;
+    if (LIE == TEN_BEHIND_FOUR && refusal == 10 && !vb_path_is_legal(path)) return 4;
+    if (LIE == TEN_WRITES && refusal == 10) memset(tally, 0, VB_ITEM);
+    if (!changed) return refusal;
+    if (LIE == TALLY_STALE) memcpy(tally, kept_tally, VB_ITEM * state.limit);
+    if (LIE == COUNT_OFF && tally[19] > 1) tally[19]++;
+    if (LIE == TALLY_BEYOND && tally_len > VB_ITEM * state.limit) tally[VB_ITEM * state.limit] = 0;
+    for (size_t i = 0; i < state.limit; i++) {
+        uint8_t *item = tally + VB_ITEM * i;
+        const uint8_t *kept = kept_item(item, state.limit);
+        if (LIE == NEWEST_NOT_LOWERED && kept && (item[18] | item[19]) && memcmp(kept + 20, item + 20, 8) > 0) memcpy(item + 20, kept + 20, 8);
+        if (LIE == ITEM_KEPT && !(item[18] | item[19]) && (kept_tally[VB_ITEM * i + 18] | kept_tally[VB_ITEM * i + 19])) memcpy(item, kept_tally + VB_ITEM * i, 16);
+    }
+    return refusal;
+}
+
+MAY static vb_opened lie_open(const uint8_t namespace_id[16], size_t limit, VB_BUFFERS) {
+    keep_tally(tally, tally_len);
+    vb_opened o = vb_open(namespace_id, limit, ALL_ARGUMENTS);
+    if (LIE == TALLY_NOT_CLEARED && !o.refusal) memcpy(tally, kept_tally, VB_ITEM * limit);
+    return o;
+}
+
 MAY static vb_entry_forgotten lie_forget_entry(vb_state state, VB_BUFFERS, vb_subspace subspace, vb_path path, uint8_t expects, const uint8_t digest[32]) {
     if (LIE == NOTHING_FORGOTTEN) {
         vb_ignore none = {0, 0};
@@ -57,8 +93,10 @@ MAY static vb_entry_forgotten lie_forget_entry(vb_state state, VB_BUFFERS, vb_su
         if (f.found && expects && memcmp(f.lengthy.entry.payload_digest, digest, 32)) r.refusal = 9;
         return r;
     }
-    vb_entry_forgotten r = vb_forget_entry(state, ARGUMENTS, subspace, path, expects, digest);
+    keep_tally(tally, tally_len);
+    vb_entry_forgotten r = vb_forget_entry(state, ALL_ARGUMENTS, subspace, path, expects, digest);
     if (LIE == NINE_HIDDEN && r.refusal == 9) r.refusal = 0;
+    r.refusal = lie_about_tally(state, r.refusal, !r.refusal && r.state.count < state.count, path, tally, tally_len);
     return r;
 }
 
@@ -70,8 +108,10 @@ MAY static vb_area_forgotten lie_forget_area(vb_state state, VB_BUFFERS, vb_area
         r.refusal = c.refusal, r.state = state, r.forgotten = c.count;
         return r;
     }
-    vb_area_forgotten r = vb_forget_area(state, ARGUMENTS, area, LIE == NOTHING_PROTECTED ? 0 : protects, protected_area);
+    keep_tally(tally, tally_len);
+    vb_area_forgotten r = vb_forget_area(state, ALL_ARGUMENTS, area, LIE == NOTHING_PROTECTED ? 0 : protects, protected_area);
     if (LIE == FORGOTTEN_MADE_UP && !r.refusal) r.forgotten = 1;
+    r.refusal = lie_about_tally(state, r.refusal, !r.refusal && r.forgotten, area.path, tally, tally_len);
     return r;
 }
 
@@ -80,7 +120,10 @@ MAY static vb_ingested lie_ingest_entry(vb_state state, VB_BUFFERS, vb_pair *pru
     static uint32_t kept_dir[2 * VB_LIMIT_MOST + 64];
     if (LIE == ONE_TREE_PRUNED) memcpy(kept, tsp, tsp_len), memcpy(kept_dir, tsp_dir, 4 * tsp_dir_len);
     if (LIE == NOTHING_FILED) return (vb_ingested){.state = state};
-    vb_ingested r = vb_ingest_entry(state, ARGUMENTS, prune, prune_len, entry, token, prevent);
+    keep_tally(tally, tally_len);
+    vb_ingested r = vb_ingest_entry(state, ALL_ARGUMENTS, prune, prune_len, entry, token, prevent);
+    if (LIE == TALLY_BEFORE_THE_CHANGE && r.pruned) tally[19] += (uint8_t)r.pruned;
+    r.refusal = lie_about_tally(state, r.refusal, !r.refusal && !r.obsolete, entry.path, tally, tally_len);
     if (LIE == FOUR_AND_SIX_HIDDEN && (r.refusal == 4 || r.refusal == 6)) r.refusal = 0;
     if (LIE == SIX_HIDDEN && r.refusal == 6) r.refusal = 0;
     if (LIE == WRONG_PAIR && r.pruned) prune[r.pruned - 1].offset++;
@@ -142,6 +185,7 @@ MAY static vb_encoded lie_encode(vb_subspace subspace, vb_path path, uint64_t ti
 #define vb_find_entry lie_find_entry
 #define vb_query_area_place lie_query_area_place
 #define vb_area_of_interest_to_range lie_interest
+#define vb_open lie_open
 #define vb_forget_entry lie_forget_entry
 #define vb_forget_area lie_forget_area
 #define vb_ingest_entry lie_ingest_entry

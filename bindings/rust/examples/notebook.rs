@@ -1,4 +1,4 @@
-//! Opens a store, files five readings, lists what it then holds, keeps it and takes it back, and drops an area.
+//! Opens a store, files five readings, lists what it then holds, keeps it and takes it back, asks how much each recorder has, and drops an area.
 use virebony::{Area, AreaSubspace, AuthorisedEntry, Entry, EntryIngestionSuccess, Path, Range, Refusal, Store, SubspaceId};
 
 const NAMESPACE: [u8; 16] = [1; 16];
@@ -10,7 +10,8 @@ fn path_of(text: &str) -> Result<Path, Refusal> {
 fn main() -> Result<(), Refusal> {
     let mut store = Store::open(NAMESPACE, 16)?;
     for (i, text) in ["ward/3/ann", "ward/3/bob", "ward/4", "ward/3", "ward/3/ann"].into_iter().enumerate() {
-        let entry = Entry::new(NAMESPACE, SubspaceId::default(), path_of(text)?, 100 + i as u64, 0, [0; 32]);
+        let recorder = SubspaceId { high: 0, low: if text == "ward/4" { 8 } else { 9 } };
+        let entry = Entry::new(NAMESPACE, recorder, path_of(text)?, 100 + i as u64, 0, [0; 32]);
         match store.ingest_entry(AuthorisedEntry::new(entry, [7; 64]), false)? {
             EntryIngestionSuccess::Success { pruned } => println!("{text}: taken, {pruned} pruned"), // the fourth prunes the first two
             EntryIngestionSuccess::Obsolete { newer, .. } => println!("{text}: obsolete since {}", newer.entry().timestamp()),
@@ -22,6 +23,9 @@ fn main() -> Result<(), Refusal> {
         let entry = stored.entry().entry();
         let text: Vec<_> = entry.path().components().map(String::from_utf8_lossy).collect();
         println!("/{} at {}", text.join("/"), entry.timestamp());
+    }
+    for item in store.tally() {
+        println!("recorder {} has {}, the newest at {}", item.subspace_id.low, item.count, item.newest);
     }
     let bed = Area::new(AreaSubspace::Any, path_of("ward/3")?, Range::new_open(0));
     println!("{} forgotten", store.forget_area(&bed, None)?);

@@ -16,7 +16,7 @@
 //! for stored in store.query_area(&Area::new_full(), Default::default())? {
 //!     println!("{} at {}", stored.entry().entry().path(), stored.entry().entry().timestamp());
 //! }
-//! assert_eq!(store.len(), 1);
+//! assert_eq!(store.tally().next().map(|item| (item.count, item.newest)), Some((1, 100))); // of each subspace, without a walk
 //! # Ok::<(), virebony::Refusal>(())
 //! ```
 #![deny(unsafe_code, missing_docs)]
@@ -29,6 +29,7 @@ pub mod raw;
 mod refusal;
 mod store;
 mod sys;
+mod tally;
 
 pub use entry::{AuthorisationToken, AuthorisedEntry, Entry, LengthyAuthorisedEntry, NamespaceId, PayloadDigest, SubspaceId, Timestamp};
 pub use grouping::{Area, AreaOfInterest, AreaSubspace, Range, Range3d, RangeEnd};
@@ -36,3 +37,4 @@ pub use listing::Listing;
 pub use path::Path;
 pub use refusal::Refusal;
 pub use store::{EntryIngestionSuccess, QueryIgnoreParams, Store};
+pub use tally::{Tally, TallyItem};

@@ -9,14 +9,14 @@
 //! ```
 //! use virebony::raw;
 //! let (mut spt, mut tsp) = (vec![7; 2 * raw::RECORD_MOST], vec![7; 2 * raw::RECORD_MOST]);
-//! let (mut spt_dir, mut tsp_dir) = ([7; 4], [7; 3]); // one number too short
-//! let mut store = raw::BuffersMut { spt: &mut spt, spt_dir: &mut spt_dir, tsp: &mut tsp, tsp_dir: &mut tsp_dir };
+//! let (mut spt_dir, mut tsp_dir, mut tally) = ([7; 4], [7; 3], [7; 2 * raw::ITEM]); // the second directory is one number too short
+//! let mut store = raw::BuffersMut { spt: &mut spt, spt_dir: &mut spt_dir, tsp: &mut tsp, tsp_dir: &mut tsp_dir, tally: &mut tally };
 //! assert_eq!(raw::open(&[0; 16], 2, &mut store).refusal, 2);
 //! let opened = raw::open(&[0; 16], 1, &mut store);
 //! assert_eq!(opened.state.limit, 1);
 //! let descends = raw::Path { ends: [2, 1, 0, 0, 0, 0, 0, 0], count: 2, ..raw::Path::default() };
 //! let area = raw::Area { any_subspace: 255, path: descends, ..raw::Area::default() };
 //! assert_eq!(raw::count_area(opened.state, store.as_buffers(), area).refusal, 4);
-//! assert_eq!((spt_dir, tsp_dir), ([0, 0, 7, 7], [0, 0, 7])); // what lies beyond stays
+//! assert_eq!((spt_dir, tsp_dir, &tally[27..29]), ([0, 0, 7, 7], [0, 0, 7], &[0, 7][..])); // what lies beyond stays
 //! ```
 pub use crate::sys::*;

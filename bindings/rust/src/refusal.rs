@@ -1,7 +1,8 @@
 //! Why a call was refused.
 use std::fmt;
 
-/// Why a call was refused. A call answers the first reason that applies, in the order of these numbers, and a refused call has changed nothing.
+/// Why a call was refused. A call answers the first reason that applies, in the order of these numbers but for 10, which is tested right after 3; and a
+/// refused call has changed nothing.
 ///
 /// ```
 /// use virebony::{Refusal, Store};
@@ -31,20 +32,23 @@ pub enum Refusal {
     Full = 8,
     /// The stored entry's digest is not the one expected.
     OtherDigest = 9,
+    /// The tally is not the one that the store gives. A [`Store`](crate::Store) keeps its own, and never answers this.
+    WrongTally = 10,
 }
 
 use Refusal::*;
 
 impl Refusal {
-    /// All nine, by number.
-    pub const ALL: [Refusal; 9] = [BadLimit, ShortBuffer, NotWellFormed, IllegalPath, NoKey, OtherNamespace, PruningPrevented, Full, OtherDigest];
+    /// All of them, by number.
+    pub const ALL: [Refusal; 10] =
+        [BadLimit, ShortBuffer, NotWellFormed, IllegalPath, NoKey, OtherNamespace, PruningPrevented, Full, OtherDigest, WrongTally];
 
     /// The number that [`crate::raw`] answers.
     pub fn number(self) -> u8 {
         self as u8
     }
 
-    /// The refusal of a number; none for 0, which says that a call was not refused, and for numbers from 10 on, which no call answers.
+    /// The refusal of a number; none for 0, which says that a call was not refused, and for numbers from 11 on, which no call answers.
     pub fn from_number(number: u8) -> Option<Refusal> {
         Refusal::ALL.into_iter().find(|refusal| refusal.number() == number)
     }
@@ -73,6 +77,7 @@ impl fmt::Display for Refusal {
             PruningPrevented => "pruning is prevented, and an entry would be removed",
             Full => "the store is full",
             OtherDigest => "the stored entry's digest is not the one expected",
+            WrongTally => "the tally is not the one that the store gives",
         })
     }
 }

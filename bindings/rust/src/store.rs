@@ -1,5 +1,6 @@
 //! The store, in buffers of its own.
 use crate::listing::{Listing, Query};
+use crate::tally::{tally_of, Tally};
 use crate::{
     raw, Area, AreaOfInterest, AuthorisedEntry, Entry, LengthyAuthorisedEntry, NamespaceId, Path, PayloadDigest, Range3d, Refusal, SubspaceId,
 };
@@ -68,6 +69,7 @@ pub struct Store {
     spt_dir: Vec<u32>,
     tsp: Vec<u8>,
     tsp_dir: Vec<u32>,
+    tally: Vec<u8>,
     prune: Vec<Pair>, // room for an ingestion's answer
 }
 
@@ -81,6 +83,7 @@ impl Store {
             spt_dir: vec![0; 2 * room],
             tsp: vec![0; raw::RECORD_MOST * room],
             tsp_dir: vec![0; 2 * room],
+            tally: vec![0; raw::ITEM * room],
             prune: vec![Pair::default(); room],
         };
         let opened = raw::open(&namespace_id, limit, &mut store.buffers_mut());
@@ -113,8 +116,9 @@ impl Store {
     /// `prevent_pruning`), 8.
     pub fn ingest_entry(&mut self, authorised_entry: AuthorisedEntry, prevent_pruning: bool) -> Result<EntryIngestionSuccess, Refusal> {
         let (entry, token) = authorised_entry.into_parts();
-        let mut store = BuffersMut { spt: &mut self.spt, spt_dir: &mut self.spt_dir, tsp: &mut self.tsp, tsp_dir: &mut self.tsp_dir };
-        let answer = raw::ingest_entry(self.state, &mut store, &mut self.prune, entry.to_raw(), &token, u8::from(prevent_pruning));
+        let Store { state, spt, spt_dir, tsp, tsp_dir, tally, prune } = self;
+        let mut store = BuffersMut { spt, spt_dir, tsp, tsp_dir, tally };
+        let answer = raw::ingest_entry(*state, &mut store, prune, entry.to_raw(), &token, u8::from(prevent_pruning));
         self.state = Refusal::check(answer.refusal, answer.state)?;
         Ok(if answer.obsolete == 0 {
             EntryIngestionSuccess::Success { pruned: answer.pruned }
@@ -177,7 +181,14 @@ impl Store {
         Refusal::check(answer.refusal, Range3d::of_answer(answer.range))
     }
 
-    /// The state and the buffers, to be kept in a file: `docs/FORMAT.md` shows how they lie in memory. [`Store::from_parts`] takes them back.
+    /// The items of the tally, in ascending order: how many entries each subspace has, and the newest of their timestamps. Every call that changes the
+    /// store has kept it right, so no entry is looked at here.
+    pub fn tally(&self) -> Tally<'_> {
+        Tally::new(&self.tally)
+    }
+
+    /// The state and the four buffers of the entries, to be kept in a file: `docs/FORMAT.md` shows how they lie in memory. [`Store::from_parts`] takes them
+    /// back. The tally is not among them, as they say what it is.
     ///
     /// ```
     /// # use virebony::Store;
@@ -194,11 +205,14 @@ impl Store {
         (self.state, self.buffers())
     }
 
-    /// The store of a state and buffers, if they are a well-formed one. Buffers may be longer than the limit asks. Refused: 1, 2, 3.
+    /// The store of a state and buffers, if they are a well-formed one. Buffers may be longer than the limit asks. The tally is worked out from the
+    /// subspace-first tree, and the archive compares it with its own. Refused: 1, 2, 3.
     pub fn from_parts(state: State, spt: Vec<u8>, spt_dir: Vec<u32>, tsp: Vec<u8>, tsp_dir: Vec<u32>) -> Result<Store, Refusal> {
-        let mut store = Store { state, spt, spt_dir, tsp, tsp_dir, prune: Vec::new() };
+        let mut store = Store { state, spt, spt_dir, tsp, tsp_dir, tally: Vec::new(), prune: Vec::new() };
         store.count_area(&Area::new_full())?;
+        store.tally = tally_of(state, store.buffers());
         store.prune = vec![Pair::default(); state.limit];
+        store.forget_area(&Area::new_full(), Some(&Area::new_full()))?; // drops nothing, and tests the tally
         Ok(store)
     }
 
@@ -207,6 +221,7 @@ impl Store {
     }
 
     fn buffers_mut(&mut self) -> BuffersMut<'_> {
-        BuffersMut { spt: &mut self.spt, spt_dir: &mut self.spt_dir, tsp: &mut self.tsp, tsp_dir: &mut self.tsp_dir }
+        let Store { spt, spt_dir, tsp, tsp_dir, tally, .. } = self;
+        BuffersMut { spt, spt_dir, tsp, tsp_dir, tally }
     }
 }

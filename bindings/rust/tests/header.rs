@@ -37,7 +37,8 @@ fn edition() {
 
 #[test]
 fn numbers() {
-    let named = [("LIMIT_MOST", raw::LIMIT_MOST), ("RECORD_MOST", raw::RECORD_MOST), ("KEY_MOST", raw::KEY_MOST), ("VALUE", raw::VALUE)];
+    let named =
+        [("LIMIT_MOST", raw::LIMIT_MOST), ("RECORD_MOST", raw::RECORD_MOST), ("KEY_MOST", raw::KEY_MOST), ("VALUE", raw::VALUE), ("ITEM", raw::ITEM)];
     for (name, number) in named.into_iter().chain([("MCL", raw::MCL), ("MCC", raw::MCC), ("MPL", raw::MPL)]) {
         let said = HEADER.lines().any(|line| {
             let line = line.trim();
@@ -58,7 +59,7 @@ fn sentences_of_refusals() {
         assert!(HEADER.contains(&format!("case VB{name}: return \"{refusal}\";")), "{name}");
         assert_eq!(Refusal::from_number(refusal.number()), Some(refusal));
     }
-    assert_eq!((Refusal::from_number(0), Refusal::from_number(10)), (None, None));
+    assert_eq!((Refusal::from_number(0), Refusal::from_number(11)), (None, None));
 }
 
 /// The header's asserts name a struct, its size and offsets; the crate's own asserts (src/sys) have the same.

@@ -66,6 +66,19 @@ fn listed(store: &Store) -> Vec<LengthyAuthorisedEntry> {
     store.query_area(&Area::new_full(), QueryIgnoreParams::default()).unwrap().collect()
 }
 
+/// The tally as the listing says it: each subspace once, counted and looked through entry by entry.
+fn counted(store: &Store) -> Vec<TallyItem> {
+    let entries: Vec<Entry> = listed(store).iter().map(|found| *found.entry().entry()).collect();
+    let mut subspaces: Vec<SubspaceId> = entries.iter().map(|entry| *entry.subspace_id()).collect();
+    subspaces.sort();
+    subspaces.dedup();
+    let item = |subspace_id| {
+        let times: Vec<_> = entries.iter().filter(|entry| *entry.subspace_id() == subspace_id).map(Entry::timestamp).collect();
+        TallyItem { subspace_id, count: times.len() as u32, newest: *times.iter().max().unwrap() }
+    };
+    subspaces.into_iter().map(item).collect()
+}
+
 #[test]
 fn parts_make_the_same_store() {
     let mut most = 0;
@@ -79,6 +92,8 @@ fn parts_make_the_same_store() {
             let mut again = parts.clone().store().unwrap();
             assert_eq!(Parts::of(&again), parts);
             assert_eq!(listed(&again), listed(&store));
+            assert_eq!(again.tally().collect::<Vec<_>>(), counted(&store));
+            assert_eq!(again.tally().as_bytes(), store.tally().as_bytes());
             assert_eq!((again.len(), again.limit(), again.namespace_id()), (store.len(), limit, &[5; 16]));
             // What comes next is the same too.
             let state = random.0;

@@ -11,7 +11,11 @@ fn opening_writes_zeros_up_to_the_limit() {
         let refused = raw::Opened { refusal: 1, state: raw::State::default() };
         assert_eq!(raw::open(&[0xaa; 16], limit, &mut kept.buffers_mut()), refused);
     }
-    assert_eq!(raw::open(&[0xaa; 16], 4, &mut kept.buffers_mut()), raw::Opened { refusal: 2, state: raw::State::default() });
+    let short = raw::Opened { refusal: 2, state: raw::State::default() };
+    assert_eq!(raw::open(&[0xaa; 16], 4, &mut kept.buffers_mut()), short);
+    let mut lent = kept.buffers_mut();
+    lent.tally = &mut lent.tally[..83];
+    assert_eq!(raw::open(&[0xaa; 16], 3, &mut lent), short);
     assert_eq!(kept, before);
     let opened = raw::open(&[0xaa; 16], 2, &mut kept.buffers_mut());
     assert_eq!(opened, raw::Opened { refusal: 0, state: raw::State { namespace_id: [0xaa; 16], count: 0, limit: 2 } });
@@ -19,12 +23,13 @@ fn opening_writes_zeros_up_to_the_limit() {
     assert_eq!([&kept.spt_dir[..4], &kept.tsp_dir[..4]], [[0; 4]; 2]);
     assert_eq!((&kept.spt[820..], &kept.spt_dir[4..]), (&before.spt[820..], &before.spt_dir[4..])); // what lies beyond stays
     assert_eq!((&kept.tsp[820..], &kept.tsp_dir[4..]), (&before.tsp[820..], &before.tsp_dir[4..]));
+    assert_eq!((&kept.tally[..56], &kept.tally[56..]), (&[0; 56][..], &before.tally[56..]));
 }
 
-/// Each of the four buffers one element too short, and all of them empty.
+/// Each of the five buffers one element too short, and all of them empty.
 #[test]
 fn short_buffers() {
-    for which in 0..5 {
+    for which in 0..6 {
         let mut kept = Kept::lent(1);
         let mut lent = kept.buffers_mut();
         match which {
@@ -32,9 +37,13 @@ fn short_buffers() {
             1 => lent.spt_dir = &mut lent.spt_dir[1..],
             2 => lent.tsp = &mut lent.tsp[1..],
             3 => lent.tsp_dir = &mut lent.tsp_dir[1..],
-            _ => lent = raw::BuffersMut { spt: &mut [], spt_dir: &mut [], tsp: &mut [], tsp_dir: &mut [] },
+            4 => lent.tally = &mut lent.tally[1..],
+            _ => lent = raw::BuffersMut { spt: &mut [], spt_dir: &mut [], tsp: &mut [], tsp_dir: &mut [], tally: &mut [] },
         }
         assert_eq!(raw::open(&[0; 16], 1, &mut lent).refusal, 2);
+        if which == 4 {
+            continue; // a call that reads is not lent the tally
+        }
         let state = raw::State { limit: 1, ..Default::default() };
         assert_eq!(raw::count_area(state, lent.as_buffers(), everything()), raw::Counted { refusal: 2, count: 0 });
     }
@@ -228,5 +237,77 @@ fn forgetting() {
     let done = raw::forget_area(done.state, &mut kept.buffers_mut(), everything(), 0, bad); // an absent protected area is not looked at
     assert_eq!((done.refusal, done.forgotten, done.state.count), (0, 1, 0));
     let empty = Kept::open(5);
-    assert_eq!((kept.spt, kept.spt_dir, kept.tsp, kept.tsp_dir), (empty.spt, empty.spt_dir, empty.tsp, empty.tsp_dir));
+    assert_eq!((kept.spt, kept.spt_dir, kept.tsp, kept.tsp_dir, kept.tally), (empty.spt, empty.spt_dir, empty.tsp, empty.tsp_dir, empty.tally));
+}
+
+/// A tally's bytes: these items, and zeros up to 28 × limit.
+fn items(limit: usize, items: &[(u64, u64, u32, u64)]) -> Vec<u8> {
+    let parts =
+        |item: &(u64, u64, u32, u64)| [&item.0.to_be_bytes()[..], &item.1.to_be_bytes(), &item.2.to_be_bytes(), &item.3.to_be_bytes()].concat();
+    let mut bytes: Vec<u8> = items.iter().flat_map(parts).collect();
+    bytes.resize(28 * limit, 0);
+    bytes
+}
+
+#[test]
+fn the_tally_after_each_call() {
+    let mut kept = Kept::open(5);
+    kept.ingest(entry(0, "", 0, 0, 9), 0); // an item that begins with 19 zeros and ends with 8
+    assert_eq!(kept.tally, items(5, &[(0, 0, 1, 0)]));
+    kept.ingest(raw::Entry { subspace_id: raw::Subspace { high: 1, low: 0 }, ..entry(0, "61", u64::MAX, 0, 9) }, 0);
+    kept.ingest(entry(7, "61", 5, 0, 9), 0);
+    kept.ingest(entry(7, "62", 9, 0, 9), 0);
+    let three = items(5, &[(0, 0, 1, 0), (0, 7, 2, 9), (1, 0, 1, u64::MAX)]);
+    assert_eq!(kept.tally, three);
+    assert_eq!((kept.ingest(entry(7, "62", 8, 0, 9), 0).obsolete, &kept.tally), (1, &three));
+    assert_eq!((kept.ingest(entry(7, "", 8, 0, 9), 0).pruned, &kept.tally), (1, &three)); // one more, one less
+    let done = raw::forget_entry(kept.state, &mut kept.buffers_mut(), subspace(7), path("62"), 0, &[0; 32]); // the newest goes
+    assert_eq!(kept.tally, items(5, &[(0, 0, 1, 0), (0, 7, 1, 8), (1, 0, 1, u64::MAX)]));
+    let done = raw::forget_entry(done.state, &mut kept.buffers_mut(), subspace(7), path(""), 0, &[0; 32]); // an item goes with its last entry
+    assert_eq!(kept.tally, items(5, &[(0, 0, 1, 0), (1, 0, 1, u64::MAX)]));
+    let done = raw::forget_area(done.state, &mut kept.buffers_mut(), area(0, 0, "", times(0, 0, 1)), 0, everything());
+    assert_eq!((done.forgotten, kept.tally), (1, items(5, &[(1, 0, 1, u64::MAX)])));
+}
+
+/// Refusal 10 of the calls that change a store: behind 1, 2 and 3 and before all others, and no byte is changed. Calls that read do not look.
+#[test]
+fn wrong_tallies() {
+    let mut kept = Kept::open(2);
+    kept.ingest(entry(1, "61", 5, 3, 9), 0);
+    let bad_path = illegal()[1];
+    let older = raw::Entry { namespace_id: [1; 16], ..entry(1, "61", 4, 3, 8) };
+    let no_path = raw::Entry { path: bad_path, ..older };
+    for at in 0..56 {
+        kept.tally[at] ^= 0x80;
+        let before = kept.clone();
+        for (short, count, want) in [(0, 1, 10), (1, 1, 2), (0, 0, 3), (56, 0, 2)] {
+            let state = raw::State { count, ..kept.state };
+            let mut lent = kept.buffers_mut();
+            lent.tally = &mut lent.tally[..56 - short];
+            for e in [older, no_path] {
+                let refused = raw::Ingested { refusal: want, obsolete: 0, pruned: 0, state, newer: raw::Entry::default(), token: [0; 64] };
+                assert_eq!(raw::ingest_entry(state, &mut lent, &mut [UNTOUCHED; 2], e, &TOKEN, 1), refused);
+                assert_eq!(raw::ingest_entry_numbers(state, &mut lent, &mut [7; 4], e, &TOKEN, 1), refused);
+                let by_value = raw::ingest_entry_by_value(state, &mut lent, raw::Pairs { pairs: [UNTOUCHED; 1024] }, e, &TOKEN, 1);
+                assert_eq!(by_value, raw::PairsIngested { ingested: refused, pairs: [UNTOUCHED; 1024] });
+                let forgotten = raw::forget_entry(state, &mut lent, subspace(1), e.path, 1, &e.payload_digest);
+                assert_eq!(forgotten, raw::EntryForgotten { refusal: want, state });
+                let here = raw::Area { path: e.path, ..everything() };
+                assert_eq!(raw::forget_area(state, &mut lent, here, 1, here), raw::AreaForgotten { refusal: want, state, forgotten: 0 });
+            }
+        }
+        assert_eq!(kept, before);
+        assert_eq!(raw::count_area(kept.state, kept.buffers(), everything()), raw::Counted { refusal: 0, count: 1 });
+        kept.tally[at] ^= 0x80;
+    }
+    assert_eq!(kept.ingest(entry(1, "62", 5, 3, 9), 0).refusal, 0);
+}
+
+/// What lies beyond 28 × limit is not looked at, and stays.
+#[test]
+fn a_longer_tally() {
+    let mut kept = Kept::open(2);
+    kept.tally.extend([7; 3]);
+    assert_eq!(kept.ingest(entry(1, "61", 5, 3, 9), 0).refusal, 0);
+    assert_eq!((&kept.tally[..56], &kept.tally[56..]), (&items(2, &[(0, 1, 1, 5)])[..], &[7; 3][..]));
 }

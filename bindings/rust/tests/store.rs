@@ -197,6 +197,39 @@ fn forgetting() {
 }
 
 #[test]
+fn tallies() {
+    let item = |low, count, newest| TallyItem { subspace_id: subspace(low), count, newest };
+    let (mut store, _) = four();
+    assert_eq!(store.tally().collect::<Vec<_>>(), [item(1, 3, 50), item(2, 1, 10)]);
+    assert_eq!((store.tally().len(), store.tally().as_bytes().len()), (2, 56));
+    assert_eq!([0, 1, 2, 3].map(|low| store.tally().of(subspace(low))), [None, Some(item(1, 3, 50)), Some(item(2, 1, 10)), None]);
+    let mut walked = store.tally();
+    assert_eq!((walked.next(), walked.len(), walked.of(subspace(1))), (Some(item(1, 3, 50)), 1, Some(item(1, 3, 50))));
+    store.forget_entry(&subspace(1), &path(&[b"a", b"b"]), None).unwrap(); // the newest goes
+    assert_eq!(store.tally().of(subspace(1)), Some(item(1, 2, 40)));
+    store.forget_area(&Area::new_subspace(subspace(1)), None).unwrap(); // an item goes with its last entry
+    assert_eq!(store.tally().collect::<Vec<_>>(), [item(2, 1, 10)]);
+    store.ingest_entry(entry(0, &[], 0, 0, 0), false).unwrap(); // subspace 0 at time 0: its item is no end of the items
+    assert_eq!(store.tally().collect::<Vec<_>>(), [item(0, 1, 0), item(2, 1, 10)]);
+    store.forget_area(&Area::new_full(), None).unwrap();
+    assert_eq!((store.tally().next(), store.tally().of(subspace(0))), (None, None));
+}
+
+/// Every number of subspaces up to the limit, so that halving meets every one.
+#[test]
+fn an_item_for_each_subspace() {
+    let mut store = Store::open(NAMESPACE, 20).unwrap();
+    for n in 0..20 {
+        store.ingest_entry(entry(2 * n, &[b"a"], n, 0, 0), false).unwrap();
+        assert_eq!(store.tally().len(), n as usize + 1);
+        for low in 0..41 {
+            let there = low % 2 == 0 && low <= 2 * n;
+            assert_eq!(store.tally().of(subspace(low)).map(|item| (item.count, item.newest)), there.then_some((1, low / 2)));
+        }
+    }
+}
+
+#[test]
 fn what_a_store_refuses() {
     for limit in [0, 1025, usize::MAX] {
         assert_eq!(Store::open(NAMESPACE, limit).unwrap_err(), Refusal::BadLimit);

@@ -120,12 +120,12 @@ fn answer(f: &[&str]) -> Option<String> {
     Some(if refusal != 0 { format!("refused {refusal}") } else { text })
 }
 
-/// How many lines an answer takes: a listing says how many entries follow, a dump has two lists.
+/// How many lines an answer takes: a listing says how many entries follow, a dump has three lists.
 fn lines(call: &str, want: &[&str]) -> usize {
     let list = |line: &str| line.rsplit(' ').next().unwrap().parse::<usize>().unwrap() + 1;
     match call {
         _ if want[0].starts_with("list ") => list(want[0]),
-        "dump" => list(want[0]) + list(want[list(want[0])]),
+        "dump" => (0..3).fold(0, |at, _| at + list(want[at])),
         _ => 1,
     }
 }

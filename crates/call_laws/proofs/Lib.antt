@@ -1,6 +1,8 @@
 pub mod WellFormedFacts
+pub mod EitherTree
 pub mod Checked
 pub mod Did
+pub mod TallyKept
 pub mod Stands
 pub mod Right
 pub mod Kept

@@ -27,11 +27,11 @@ use Rattle.store.specs.Ingest.{sptLess, filing, stays, lessIn, filedIn, filed, 
 use Rattle.store.proofs.WellStore.{held-fit}
 use Rattle.store.proofs.Recorded.{Proper}
 use Rattle.store.proofs.Lifted.{listOf, Fit, bears-held, holding-bears}
+use Rattle.store.proofs.FitLaws.{fit-filed}
 use Rattle.store.proofs.IngestLaws.{first-absent}
 use Rattle.store.proofs.Meaning.{SoundHeld, removes-view, removes-make, before-irrefl, before-trans, spt-linear}
 use Rattle.call_laws.specs.Calls.{Tied}
 use Rattle.call_laws.specs.Resend.{Resent}
-use Rattle.call_laws.proofs.Stands.{fit-filed}
 
 -- Of an ascending list two that are not ordered are one.
 ascends-one : {A : Type 0} (test : A → A → Bool) {x y : A} (l : List A) → Ascends test l → x ∈ l → y ∈ l → test x y ≡ false → test y x ≡ false → x ≡ y
@@ -103,7 +103,7 @@ module _ (f : Figures) (s : Store) (w : wellFormedStore f s ≡ true) (bytes : (
           λ n. ⊎-elim (λ (e : y ≡ x). subst (λ (z : Stored). z ∈ keep (removes (x .entry)) (held f Spt s)) (sym e) (keep-make (removes (x .entry)) (held f Spt s) m own)) (λ k. absurd (none-in k)) (uncons n),
         )
 
-  module _ (token : List ℕ) (long : length token ≡ 64) (in-bytes : Bytes token) where
+  module _ (token : List ℕ) (long : length token ≡ 64) where
     abbrev after : Held
     after = filed (filing (x .entry) token) (heldBy f s)
 
@@ -117,9 +117,7 @@ module _ (f : Figures) (s : Store) (w : wellFormedStore f s ≡ true) (bytes : (
             sized = l .sized;
             payload = l .payload;
             digest = l .digest;
-            digestBytes = l .digestBytes;
             token = long;
-            tokenBytes = in-bytes;
             available = omega arith;
           };
           available = omega arith;

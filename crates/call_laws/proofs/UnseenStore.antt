@@ -23,10 +23,10 @@ use Rattle.tree.specs.Matching.{standsAt, inArea, inRange, isForgotten, letThro
 use Rattle.tree.specs.Interest.{interestFrom}
 use Rattle.data_model.specs.declared.«query_ignore_params».QueryIgnoreParams.{QueryIgnoreParams}
 use Rattle.tree.specs.declared.stored.KeyOrder.the-variants.{Spt, Tsp}
-use Rattle.store.specs.Store.{Store, dirRoom, held, heldBy, holding}
-use Rattle.store.specs.Refusal.{unless, _orElse_, storeRefusal}
+use Rattle.store.specs.Store.{Store, dirRoom, held, Tallied}
+use Rattle.store.specs.Refusal.{unless, _orElse_, storeRefusal, talliedRefusal}
 use Rattle.store.specs.Ingest.{refuse, decided, ingestRefusal, judged, carried, IngestOutcome, ingested}
-use Rattle.store.specs.Forget.{without, unexpected, forgetEntryRefusal, forgetAreaRefusal, ForgetEntryOutcome, ForgetAreaOutcome, entryForgotten, areaForgotten}
+use Rattle.store.specs.Forget.{talliedWithout, unexpected, forgetEntryRefusal, forgetAreaRefusal, ForgetEntryOutcome, ForgetAreaOutcome, entryForgotten, areaForgotten}
 use Rattle.pairs.specs.Pairs.{numbersOf, inPairs, pairsIngested}
 use Rattle.pairs.specs.declared.Pair.{Pair}
 use Rattle.query.specs.Reading.{readRefusal}
@@ -106,45 +106,45 @@ module _ (f : Figures) (s : Store) where
       (behind-area-range f (a .area) (b .area) (h .area) l))
 
 -- Changes.
-abbrev entryAnswer : Figures → Store → (prune token : List ℕ) → (prevent : Bool) → (namespace : List ℕ) → (lawful : Bool) → Entry → IngestOutcome
-entryAnswer f s prune token prevent namespace lawful e =
-    let n = storeRefusal f s (leb (dirRoom (s .state .limit)) (length prune)) orElse unless lawful illegalPath orElse
-    unless (sameList sameNumber namespace (s .state .«namespace_id»)) otherNamespace in
-    carried f s prune e token (cond (eqb n 0) (decided (s .state .limit) (held f Spt s) e prevent) (refuse n))
+abbrev entryAnswer : Figures → Tallied → (prune token : List ℕ) → (prevent : Bool) → (namespace : List ℕ) → (lawful : Bool) → Entry → IngestOutcome
+entryAnswer f w prune token prevent namespace lawful e =
+    let n = talliedRefusal f w (leb (dirRoom (w .store .state .limit)) (length prune)) orElse unless lawful illegalPath orElse
+    unless (sameList sameNumber namespace (w .store .state .«namespace_id»)) otherNamespace in
+    carried f w prune e token (cond (eqb n 0) (decided (w .store .state .limit) (held f Spt (w .store)) e prevent) (refuse n))
 
-module _ (f : Figures) (s : Store) where
-  pub ingested-same : (prune : List ℕ) → SameFor IngestionsAgree (ingested f s prune)
+module _ (f : Figures) (w : Tallied) where
+  pub ingested-same : (prune : List ℕ) → SameFor IngestionsAgree (ingested f w prune)
   unfolding ingested judged ingestRefusal
   ingested-same prune a b h =
-      guarded (entryAnswer f s prune (a .token) (a .«prevent_pruning») (a .entry .«namespace_id»)) blind _ _ _ _ (behind-legal f (a .entry .path) (b .entry .path) (h .entry .path)) (behind-entry (a .entry) (b .entry) (h .entry) f)
-      ∙ (λ i. entryAnswer f s prune (h .token i) (h .prevents i) (h .entry .namespace i) (legal f (b .entry .path)) (entryOf (b .entry)))
+      guarded (entryAnswer f w prune (a .token) (a .«prevent_pruning») (a .entry .«namespace_id»)) blind _ _ _ _ (behind-legal f (a .entry .path) (b .entry .path) (h .entry .path)) (behind-entry (a .entry) (b .entry) (h .entry) f)
+      ∙ (λ i. entryAnswer f w prune (h .token i) (h .prevents i) (h .entry .namespace i) (legal f (b .entry .path)) (entryOf (b .entry)))
     where
-      blind : (x y : Entry) → entryAnswer f s prune (a .token) (a .«prevent_pruning») (a .entry .«namespace_id») false x ≡ entryAnswer f s prune (a .token) (a .«prevent_pruning») (a .entry .«namespace_id») false y
-      blind x y = unfold carried unless _orElse_ in rw (illegal-first (storeRefusal f s (leb (dirRoom (s .state .limit)) (length prune)))) refl
+      blind : (x y : Entry) → entryAnswer f w prune (a .token) (a .«prevent_pruning») (a .entry .«namespace_id») false x ≡ entryAnswer f w prune (a .token) (a .«prevent_pruning») (a .entry .«namespace_id») false y
+      blind x y = unfold carried unless _orElse_ in rw (illegal-first (talliedRefusal f w (leb (dirRoom (w .store .state .limit)) (length prune)))) refl
 
-  pub pairs-same : (prune : List Pair) → SameFor IngestionsAgree (pairsIngested f s prune)
+  pub pairs-same : (prune : List Pair) → SameFor IngestionsAgree (pairsIngested f w prune)
   unfolding pairsIngested
   pairs-same prune a b h = ap inPairs (ingested-same (numbersOf prune) a b h)
 
-  pub forgotten-same : (subspace : Subspace) (expects : Bool) (digest : List ℕ) → SameFor PathsAgree (λ p. entryForgotten f s subspace p expects digest)
+  pub forgotten-same : (subspace : Subspace) (expects : Bool) (digest : List ℕ) → SameFor PathsAgree (λ p. entryForgotten f w subspace p expects digest)
   unfolding entryForgotten forgetEntryRefusal
   forgotten-same subspace expects digest p q h = guarded answer blind _ _ _ _ (behind-legal f p q h) (behind-components f p q h)
     where
       number : Bool → Components → ℕ
-      number lawful cs = storeRefusal f s true orElse unless lawful illegalPath orElse unless (not (any (unexpected subspace cs expects digest) (held f Spt s))) otherDigest
+      number lawful cs = talliedRefusal f w true orElse unless lawful illegalPath orElse unless (not (any (unexpected subspace cs expects digest) (held f Spt (w .store)))) otherDigest
 
-      after : Components → Store
-      after cs = holding f (without (standsAt subspace cs) (heldBy f s)) s
+      after : Components → Tallied
+      after cs = talliedWithout f (standsAt subspace cs) w
 
       answer : Bool → Components → ForgetEntryOutcome
       answer lawful cs =
-          cond (eqb (number lawful cs) 0) (record { answer = record { refusal = 0; state = after cs .state }; store = after cs })
-          (record { answer = record { refusal = number lawful cs; state = s .state }; store = s })
+          cond (eqb (number lawful cs) 0) (record { answer = record { refusal = 0; state = after cs .store .state }; left = after cs })
+          (record { answer = record { refusal = number lawful cs; state = w .store .state }; left = w })
 
       blind : (x y : Components) → answer false x ≡ answer false y
-      blind x y = unfold unless _orElse_ in rw (illegal-first (storeRefusal f s true)) refl
+      blind x y = unfold unless _orElse_ in rw (illegal-first (talliedRefusal f w true)) refl
 
-  pub area-forgotten-same : (protects : Bool) → SameForBoth AreasAgree (ProtectedAgree protects) (λ a protected. areaForgotten f s a protects protected)
+  pub area-forgotten-same : (protects : Bool) → SameForBoth AreasAgree (ProtectedAgree protects) (λ a protected. areaForgotten f w a protects protected)
   unfolding areaForgotten forgetAreaRefusal
   area-forgotten-same protects a b x y h k = guarded answer blind _ _ _ _ (ap₂ _&&_ (behind-legal f (a .path) (b .path) (h .path)) (lawful protects k))
       (λ l. let z = and-true (legal f (a .path)) (cond protects (legal f (x .path)) true) l in fun-ext (forgotten protects k (z .0) (z .1)))
@@ -158,16 +158,16 @@ module _ (f : Figures) (s : Store) where
       forgotten false k l m z = unfold isForgotten in ap (_&& not false) (area-test f a b h l z)
 
       number : Bool → ℕ
-      number lawful = storeRefusal f s true orElse unless lawful illegalPath
+      number lawful = talliedRefusal f w true orElse unless lawful illegalPath
 
-      after : (Stored → Bool) → Store
-      after test = holding f (without test (heldBy f s)) s
+      after : (Stored → Bool) → Tallied
+      after test = talliedWithout f test w
 
       answer : Bool → (Stored → Bool) → ForgetAreaOutcome
       answer lawful test =
           cond (eqb (number lawful) 0)
-          (record { answer = record { refusal = 0; state = after test .state; forgotten = length (keep test (held f Spt s)) }; store = after test })
-          (record { answer = record { refusal = number lawful; state = s .state; forgotten = 0 }; store = s })
+          (record { answer = record { refusal = 0; state = after test .store .state; forgotten = length (keep test (held f Spt (w .store))) }; left = after test })
+          (record { answer = record { refusal = number lawful; state = w .store .state; forgotten = 0 }; left = w })
 
       blind : (x y : Stored → Bool) → answer false x ≡ answer false y
-      blind x y = unfold unless _orElse_ in rw (illegal-first (storeRefusal f s true)) refl
+      blind x y = unfold unless _orElse_ in rw (illegal-first (talliedRefusal f w true)) refl

@@ -28,6 +28,7 @@ pub record Opening : Type 0 where
   pub sptDir : List ℕ
   pub tsp : List ℕ
   pub tspDir : List ℕ
+  pub tally : List ℕ
 
 pub record Alike (o p : Opening) : Type 0 where
   pub namespace : o .namespace ≡ p .namespace
@@ -109,7 +110,7 @@ ingestVerdict (refuses n) = refused n
 unfoldable pub numberVerdict : ℕ → Verdict
 numberVerdict n = cond (eqb n 0) done (refused n)
 
--- What every value of its type is, in the language: arrays have their lengths, bytes are below 256, numbers below 2 ^ 64.
+-- What every value of its type is, in the language, as far as it is needed: arrays have their lengths, a path's bytes are below 256, numbers below 2 ^ 64.
 pub record IngestionIsValue (f : Figures) (i : Ingestion) : Type 0 where
   pub path-room : f .mpl ≤ length (i .entry .path .bytes)
   pub path-bytes : Bytes (i .entry .path .bytes)
@@ -118,9 +119,7 @@ pub record IngestionIsValue (f : Figures) (i : Ingestion) : Type 0 where
   pub time : i .entry .timestamp < 2 ^ 64
   pub payload : i .entry .«payload_length» < 2 ^ 64
   pub digest : length (i .entry .«payload_digest») ≡ 32
-  pub digest-bytes : Bytes (i .entry .«payload_digest»)
   pub token : length (i .token) ≡ 64
-  pub token-bytes : Bytes (i .token)
 
 abbrev pub IsValue : Figures → Call → Type 0
 IsValue f c = (i : IngestCall) → i ∈ input c .ingestions → IngestionIsValue f (i .handed)

@@ -1,4 +1,4 @@
--- 01, "When a call says no, in checking order": what each call looks for, in which order, and in words where each case holds.
+-- 01, "When a call says no, in checking order", and 02's refusals among them: what each call looks for, in which order, and in words where each case holds.
 use Prim.Native.Nat.{_≤_, _<_}
 use mathlib.Core.Path.{_≡_}
 use mathlib.Core.List.{List, [], _∷_}
@@ -13,7 +13,8 @@ use Rattle.tree.specs.Stored.{Stored}
 use Rattle.tree.specs.Tree.{WellFormed}
 use Rattle.tree.specs.declared.stored.KeyOrder.{KeyOrder}
 use Rattle.tree.specs.declared.stored.KeyOrder.the-variants.{Spt, Tsp}
-use Rattle.store.specs.Store.{Store, storeOf, limitMost, treeRoom, dirRoom, treeOf, dirOf, held}
+use Rattle.tally.specs.Tally.{tallyRoom, tallyBytes}
+use Rattle.store.specs.Store.{Store, limitMost, treeRoom, dirRoom, treeOf, dirOf, held, Tallied, talliedOf, tallyPart}
 use Rattle.store.specs.Open.{emptyState}
 use Rattle.store.specs.Ingest.{stays}
 use Rattle.call_laws.specs.Calls.{Opening, IngestCall, Target, Call, ingest, forget-entry, forget-area, Room, Input, input, Verdict, refused, obsolete, done}
@@ -31,11 +32,18 @@ pub record WellFormedStore (f : Figures) (s : Store) : Type 0 where
   pub no-twice : NoTwice (held f Spt s)
   pub apart : (x y : Stored) → x ∈ held f Spt s → y ∈ held f Spt s → prunes (x .entry) (y .entry) ≡ false
 
--- A lent buffer is shorter than 410 × limit bytes for a tree, 2 × limit numbers for a directory.
-abbrev pub ShortBuffer : Figures → Store → Type 0
-ShortBuffer f s =
+-- A lent buffer is shorter than 410 × limit bytes for a tree, 2 × limit numbers for a directory, 28 × limit bytes for the tally.
+abbrev pub ShortBuffer : Figures → Tallied → Type 0
+ShortBuffer f w =
+    let s = w .store in
     let n = s .state .limit in
-    (length (s .spt) < treeRoom f n) ⊎ ((length (s .sptDir) < dirRoom n) ⊎ ((length (s .tsp) < treeRoom f n) ⊎ (length (s .tspDir) < dirRoom n)))
+    ((length (s .spt) < treeRoom f n) ⊎ ((length (s .sptDir) < dirRoom n) ⊎ ((length (s .tsp) < treeRoom f n) ⊎ (length (s .tspDir) < dirRoom n))))
+    ⊎ (length (w .tally) < tallyRoom n)
+
+-- 02, U1: the tally is the one that its store gives, worked out afresh: the items of what is held (`tally-said` says which), and zeros behind them up to the
+-- limit's room. It does not matter from which of the trees (`either-tree`).
+abbrev pub TallyRight : Figures → Tallied → Type 0
+TallyRight f w = tallyPart w ≡ tallyBytes (w .store .state .limit) (held f Spt (w .store))
 
 -- Stored, which is to say held by the subspace-first tree: an entry of the subspace, at a prefix of the path or the path itself, that is newer.
 abbrev pub Outdated : Figures → Store → Entry → Type 0
@@ -51,12 +59,13 @@ OtherDigest f s p = (x : Stored) × x ∈ held f Spt s × (x .entry .subspace �
 
 -- What a call may find, and the verdict that it then gives.
 pub data Case : Type 0 where
-  limit-outside short-buffer not-well-formed illegal-path other-namespace outdated prevented full other-digest : Case
+  limit-outside short-buffer not-well-formed wrong-tally illegal-path other-namespace outdated prevented full other-digest : Case
 
 unfoldable pub verdictOf : Case → Verdict
 verdictOf limit-outside = refused 1
 verdictOf short-buffer = refused 2
 verdictOf not-well-formed = refused 3
+verdictOf wrong-tally = refused 10
 verdictOf illegal-path = refused 4
 verdictOf other-namespace = refused 6
 verdictOf outdated = obsolete
@@ -66,33 +75,34 @@ verdictOf other-digest = refused 9
 
 -- What each call looks for, in checking order.
 unfoldable pub checks : Call → List Case
-checks (ingest i) = limit-outside ∷ short-buffer ∷ not-well-formed ∷ illegal-path ∷ other-namespace ∷ outdated ∷ prevented ∷ full ∷ []
-checks (forget-entry p) = limit-outside ∷ short-buffer ∷ not-well-formed ∷ illegal-path ∷ other-digest ∷ []
-checks (forget-area a) = limit-outside ∷ short-buffer ∷ not-well-formed ∷ illegal-path ∷ []
+checks (ingest i) = limit-outside ∷ short-buffer ∷ not-well-formed ∷ wrong-tally ∷ illegal-path ∷ other-namespace ∷ outdated ∷ prevented ∷ full ∷ []
+checks (forget-entry p) = limit-outside ∷ short-buffer ∷ not-well-formed ∷ wrong-tally ∷ illegal-path ∷ other-digest ∷ []
+checks (forget-area a) = limit-outside ∷ short-buffer ∷ not-well-formed ∷ wrong-tally ∷ illegal-path ∷ []
 
--- Where each case holds, of a store and what a call hands in.
-unfoldable pub Holds : Figures → Store → Input → Case → Type 0
-Holds f s h limit-outside = (s .state .limit < 1) ⊎ (limitMost < s .state .limit)
-Holds f s h short-buffer = ShortBuffer f s ⊎ ((b : Room) × b ∈ h .rooms (s .state .limit) × (b .has < b .needs))
-Holds f s h not-well-formed = WellFormedStore f s → ⊥
-Holds f s h illegal-path = (p : Path) × p ∈ h .paths × (legal f p ≡ false)
-Holds f s h other-namespace = (i : IngestCall) × i ∈ h .ingestions × (i .handed .entry .«namespace_id» ≡ s .state .«namespace_id» → ⊥)
-Holds f s h outdated = (i : IngestCall) × i ∈ h .ingestions × Outdated f s (entryOf (i .handed .entry))
-Holds f s h prevented = (i : IngestCall) × i ∈ h .ingestions × ((i .handed .«prevent_pruning» ≡ true) × Removes f s (entryOf (i .handed .entry)))
-Holds f s h full = (i : IngestCall) × i ∈ h .ingestions × (s .state .limit ≤ length (keep (stays (entryOf (i .handed .entry))) (held f Spt s)))
-Holds f s h other-digest = (p : Target) × p ∈ h .expected × OtherDigest f s p
+-- Where each case holds, of a store with its tally and what a call hands in.
+unfoldable pub Holds : Figures → Tallied → Input → Case → Type 0
+Holds f w h limit-outside = (w .store .state .limit < 1) ⊎ (limitMost < w .store .state .limit)
+Holds f w h short-buffer = ShortBuffer f w ⊎ ((b : Room) × b ∈ h .rooms (w .store .state .limit) × (b .has < b .needs))
+Holds f w h not-well-formed = WellFormedStore f (w .store) → ⊥
+Holds f w h wrong-tally = TallyRight f w → ⊥
+Holds f w h illegal-path = (p : Path) × p ∈ h .paths × (legal f p ≡ false)
+Holds f w h other-namespace = (i : IngestCall) × i ∈ h .ingestions × (i .handed .entry .«namespace_id» ≡ w .store .state .«namespace_id» → ⊥)
+Holds f w h outdated = (i : IngestCall) × i ∈ h .ingestions × Outdated f (w .store) (entryOf (i .handed .entry))
+Holds f w h prevented = (i : IngestCall) × i ∈ h .ingestions × ((i .handed .«prevent_pruning» ≡ true) × Removes f (w .store) (entryOf (i .handed .entry)))
+Holds f w h full = (i : IngestCall) × i ∈ h .ingestions × (w .store .state .limit ≤ length (keep (stays (entryOf (i .handed .entry))) (held f Spt (w .store))))
+Holds f w h other-digest = (p : Target) × p ∈ h .expected × OtherDigest f (w .store) p
 
 -- The first case that holds decides the verdict; done, if none does. One verdict is right: `decides-one`.
 unfoldable pub Decides : (Case → Type 0) → List Case → Verdict → Type 0
 Decides H [] v = v ≡ done
 Decides H (k ∷ ks) v = (H k × (v ≡ verdictOf k)) ⊎ ((H k → ⊥) × Decides H ks v)
 
-abbrev pub VerdictRight : Figures → Store → Call → Verdict → Type 0
-VerdictRight f s c v = Decides (Holds f s (input c)) (checks c) v
+abbrev pub VerdictRight : Figures → Tallied → Call → Verdict → Type 0
+VerdictRight f w c v = Decides (Holds f w (input c)) (checks c) v
 
 -- An opening looks at the limit and the buffers that it asks for, as a store with the state that it would have; it hands in nothing else.
-abbrev pub asked : Opening → Store
-asked o = storeOf (emptyState (o .namespace) (o .limit)) (o .spt) (o .sptDir) (o .tsp) (o .tspDir)
+abbrev pub asked : Opening → Tallied
+asked o = talliedOf (emptyState (o .namespace) (o .limit)) (o .spt) (o .sptDir) (o .tsp) (o .tspDir) (o .tally)
 
 abbrev pub OpeningVerdictRight : Figures → Opening → Verdict → Type 0
 OpeningVerdictRight f o v = Decides (Holds f (asked o) (record { paths = []; rooms = λ limit. []; ingestions = []; expected = [] })) (limit-outside ∷ short-buffer ∷ []) v

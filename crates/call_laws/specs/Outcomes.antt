@@ -11,60 +11,68 @@ use Rattle.data_model.specs.Entry.{entryOf, prunes, noEntry}
 use Rattle.tree.specs.Stored.{Stored, lengthy}
 use Rattle.tree.specs.declared.stored.KeyOrder.{KeyOrder}
 use Rattle.tree.specs.declared.stored.KeyOrder.the-variants.{Spt}
-use Rattle.store.specs.Store.{Store, storeOf, treeRoom, dirRoom, held, Lent}
+use Rattle.tally.specs.Tally.{tallyRoom}
+use Rattle.store.specs.Store.{Store, treeRoom, dirRoom, held, Tallied, talliedOf, Lent}
 use Rattle.store.specs.Open.{opening, noState}
 use Rattle.store.specs.Ingest.{IngestOutcome, ingested, prunedPairs}
 use Rattle.store.specs.Forget.{entryForgotten, areaForgotten}
 use Rattle.store.specs.declared.state.State.{State}
 use Rattle.pairs.specs.Pairs.{prunedCount}
 use Rattle.call_laws.specs.Calls.{Opening, IngestCall, Call, ingest, forget-entry, forget-area, counted, Verdict, obsolete, done, ingestVerdict, numberVerdict}
-use Rattle.call_laws.specs.Checks.{WellFormedStore, VerdictRight, OpeningVerdictRight}
+use Rattle.call_laws.specs.Checks.{WellFormedStore, TallyRight, VerdictRight, OpeningVerdictRight}
 
 -- The verdict, the number in the answer (0 if it has none), and the store that is left: its state is the one that is answered.
 pub record Outcome (S : Type 0) : Type 0 where
   pub verdict : Verdict
   pub number : ℕ
-  pub store : S
+  pub left : S
 
--- Ours: what is answered and left on a store, and by an opening.
-unfoldable pub outcome : Figures → Store → Call → Outcome Store
-outcome f s (ingest i) = let r = ingested f s (i .prune) (i .handed) in record { verdict = ingestVerdict (r .answer .verdict); number = prunedCount (r .answer .verdict); store = r .store }
-outcome f s (forget-entry p) = let r = entryForgotten f s (p .subspace) (p .path) (p .expects) (p .digest) in record { verdict = numberVerdict (r .answer .refusal); number = 0; store = r .store }
-outcome f s (forget-area a) = let r = areaForgotten f s (a .area) (a .protects) (a .protected) in record { verdict = numberVerdict (r .answer .refusal); number = r .answer .forgotten; store = r .store }
+-- Ours: what is answered and left on a store with its tally, and by an opening.
+unfoldable pub outcome : Figures → Tallied → Call → Outcome Tallied
+outcome f w (ingest i) = let r = ingested f w (i .prune) (i .handed) in record { verdict = ingestVerdict (r .answer .verdict); number = prunedCount (r .answer .verdict); left = r .left }
+outcome f w (forget-entry p) = let r = entryForgotten f w (p .subspace) (p .path) (p .expects) (p .digest) in record { verdict = numberVerdict (r .answer .refusal); number = 0; left = r .left }
+outcome f w (forget-area a) = let r = areaForgotten f w (a .area) (a .protects) (a .protected) in record { verdict = numberVerdict (r .answer .refusal); number = r .answer .forgotten; left = r .left }
 
-unfoldable pub opens : Figures → Opening → Outcome Store
-opens f o = let r = opening f (o .namespace) (o .limit) (o .spt) (o .sptDir) (o .tsp) (o .tspDir) in record { verdict = numberVerdict (r .answer .refusal); number = 0; store = r .store }
+unfoldable pub opens : Figures → Opening → Outcome Tallied
+opens f o = let r = opening f (o .namespace) (o .limit) (o .spt) (o .sptDir) (o .tsp) (o .tspDir) (o .tally) in record { verdict = numberVerdict (r .answer .refusal); number = 0; left = r .left }
 
 -- What a call answered and left: a verdict and a number, with the state in the answer and the buffers as they then are. What an opening is handed.
-abbrev pub outcomeOf : Verdict → ℕ → State → (spt sptDir tsp tspDir : List ℕ) → Outcome Store
-outcomeOf v n s spt sptDir tsp tspDir = record { verdict = v; number = n; store = storeOf s spt sptDir tsp tspDir }
+abbrev pub outcomeOf : Verdict → ℕ → State → (spt sptDir tsp tspDir tally : List ℕ) → Outcome Tallied
+outcomeOf v n s spt sptDir tsp tspDir tally = record { verdict = v; number = n; left = talliedOf s spt sptDir tsp tspDir tally }
 
-abbrev pub openingOf : (namespace : List ℕ) → (limit : ℕ) → (spt sptDir tsp tspDir : List ℕ) → Opening
-openingOf namespace limit spt sptDir tsp tspDir = record { namespace = namespace; limit = limit; spt = spt; sptDir = sptDir; tsp = tsp; tspDir = tspDir }
+abbrev pub openingOf : (namespace : List ℕ) → (limit : ℕ) → (spt sptDir tsp tspDir tally : List ℕ) → Opening
+openingOf namespace limit spt sptDir tsp tspDir tally = record { namespace = namespace; limit = limit; spt = spt; sptDir = sptDir; tsp = tsp; tspDir = tspDir; tally = tally }
 
--- Each call on any store: the verdict is right. Done, the number counts what it says it counts. Not done, the store is the one that was handed in, and the number 0.
-pub record CallRight (f : Figures) (s : Store) (c : Call) (r : Outcome Store) : Type 0 where
-  pub verdict : VerdictRight f s c (r .verdict)
-  pub number : r .verdict ≡ done → r .number ≡ length (keep (counted c) (held f Spt s))
-  pub unchanged : (r .verdict ≡ done → ⊥) → (r .store ≡ s) × (r .number ≡ 0)
+-- Each call on any store: the verdict is right. Done, the number counts what it says it counts. Not done, the store and its tally are those that were handed in,
+-- and the number is 0.
+pub record CallRight (f : Figures) (w : Tallied) (c : Call) (r : Outcome Tallied) : Type 0 where
+  pub verdict : VerdictRight f w c (r .verdict)
+  pub number : r .verdict ≡ done → r .number ≡ length (keep (counted c) (held f Spt (w .store)))
+  pub unchanged : (r .verdict ≡ done → ⊥) → (r .left ≡ w) × (r .number ≡ 0)
 
--- A store keeps what it was opened with: namespace, limit, the length of each buffer and what stands in it beyond the limit's room.
-pub record Keeps (f : Figures) (o : Opening) (s : Store) : Type 0 where
-  pub namespace : s .state .«namespace_id» ≡ o .namespace
-  pub limit : s .state .limit ≡ o .limit
-  pub spt : Lent (treeRoom f (o .limit)) (o .spt) (s .spt)
-  pub sptDir : Lent (dirRoom (o .limit)) (o .sptDir) (s .sptDir)
-  pub tsp : Lent (treeRoom f (o .limit)) (o .tsp) (s .tsp)
-  pub tspDir : Lent (dirRoom (o .limit)) (o .tspDir) (s .tspDir)
+-- A store keeps what it was opened with: namespace, limit, the length of each buffer, its tally's too, and what stands in it beyond the limit's room.
+pub record Keeps (f : Figures) (o : Opening) (w : Tallied) : Type 0 where
+  pub namespace : w .store .state .«namespace_id» ≡ o .namespace
+  pub limit : w .store .state .limit ≡ o .limit
+  pub spt : Lent (treeRoom f (o .limit)) (o .spt) (w .store .spt)
+  pub sptDir : Lent (dirRoom (o .limit)) (o .sptDir) (w .store .sptDir)
+  pub tsp : Lent (treeRoom f (o .limit)) (o .tsp) (w .store .tsp)
+  pub tspDir : Lent (dirRoom (o .limit)) (o .tspDir) (w .store .tspDir)
+  pub tally : Lent (tallyRoom (o .limit)) (o .tally) (w .tally)
 
--- Each opening: the verdict is right. Done, the store holds nothing, is well-formed and keeps what it was opened with. Refused, every byte of the buffers is
--- as before and the state is all 0.
-pub record OpeningRight (f : Figures) (o : Opening) (r : Outcome Store) : Type 0 where
+-- A sound store: well-formed, and its tally is the one that it gives.
+pub record Sound (f : Figures) (w : Tallied) : Type 0 where
+  pub well-formed : WellFormedStore f (w .store)
+  pub tallied : TallyRight f w
+
+-- Each opening: the verdict is right. Done, the store holds nothing, is sound and keeps what it was opened with. Refused, every byte of the buffers is as
+-- before and the state is all 0.
+pub record OpeningRight (f : Figures) (o : Opening) (r : Outcome Tallied) : Type 0 where
   pub verdict : OpeningVerdictRight f o (r .verdict)
-  pub unchanged : (r .verdict ≡ done → ⊥) → r .store ≡ storeOf noState (o .spt) (o .sptDir) (o .tsp) (o .tspDir)
-  pub empty : r .verdict ≡ done → (k : KeyOrder) → held f k (r .store) ≡ []
-  pub well-formed : r .verdict ≡ done → WellFormedStore f (r .store)
-  pub keeps : r .verdict ≡ done → Keeps f o (r .store)
+  pub unchanged : (r .verdict ≡ done → ⊥) → r .left ≡ talliedOf noState (o .spt) (o .sptDir) (o .tsp) (o .tspDir) (o .tally)
+  pub empty : r .verdict ≡ done → (k : KeyOrder) → held f k (r .left .store) ≡ []
+  pub sound : r .verdict ≡ done → Sound f (r .left)
+  pub keeps : r .verdict ≡ done → Keeps f o (r .left)
 
 -- What else an ingestion answers. Done: the pairs of what it removes stand in the prune list, which nothing else writes to. Obsolete: a stored entry that is
 -- newer, of the subspace, at a prefix of the path or the path itself. Zeros where none is shown.

@@ -15,7 +15,7 @@ use Rattle.data_model.specs.declared.parameters.Subspace.{Subspace}
 use Rattle.keys.specs.Encode.{triple, sptKey, tspKey, roomy, encoded, encodedIn}
 use Rattle.key_laws.specs.Agree.{PathsAgree, EntriesAgree, AreasAgree, PathRangesAgree, RangesAgree, InterestsAgree, ProtectedAgree, SameFor, SameForBoth}
 use Rattle.data_model.specs.declared.«query_ignore_params».QueryIgnoreParams.{QueryIgnoreParams}
-use Rattle.store.specs.Store.{Store}
+use Rattle.store.specs.Store.{Store, Tallied}
 use Rattle.store.specs.Ingest.{ingested}
 use Rattle.store.specs.Forget.{entryForgotten, areaForgotten}
 use Rattle.store.specs.declared.ingest.Ingestion.{Ingestion}
@@ -59,11 +59,11 @@ pub record Unseen (f : Figures) : Type 0 where
   pub encode-spt-in : (s : Subspace) (t : ℕ) (out : List ℕ) → SameFor PathsAgree (λ p. encodedIn (roomy f out) (legal f p) (sptKey (triple s (components p) t)) out)
   pub encode-tsp : (s : Subspace) (t : ℕ) (out : List ℕ) → SameFor PathsAgree (λ p. encoded (roomy f out) (legal f p) (tspKey (triple s (components p) t)))
   pub encode-tsp-in : (s : Subspace) (t : ℕ) (out : List ℕ) → SameFor PathsAgree (λ p. encodedIn (roomy f out) (legal f p) (tspKey (triple s (components p) t)) out)
-  -- Changes of a store: the answer, the store's buffers and the prune list. `ingest_entry_by_value` answers as `ingest_entry` does
-  pub ingest-entry-numbers : (s : Store) (prune : List ℕ) → SameFor IngestionsAgree (ingested f s prune)
-  pub ingest-entry : (s : Store) (prune : List Pair) → SameFor IngestionsAgree (pairsIngested f s prune)
-  pub forget-entry : (s : Store) (subspace : Subspace) (expects : Bool) (digest : List ℕ) → SameFor PathsAgree (λ p. entryForgotten f s subspace p expects digest)
-  pub forget-area : (s : Store) (protects : Bool) → SameForBoth AreasAgree (ProtectedAgree protects) (λ a protected. areaForgotten f s a protects protected)
+  -- Changes of a store: the answer, the store's buffers, its tally and the prune list. `ingest_entry_by_value` answers as `ingest_entry` does
+  pub ingest-entry-numbers : (w : Tallied) (prune : List ℕ) → SameFor IngestionsAgree (ingested f w prune)
+  pub ingest-entry : (w : Tallied) (prune : List Pair) → SameFor IngestionsAgree (pairsIngested f w prune)
+  pub forget-entry : (w : Tallied) (subspace : Subspace) (expects : Bool) (digest : List ℕ) → SameFor PathsAgree (λ p. entryForgotten f w subspace p expects digest)
+  pub forget-area : (w : Tallied) (protects : Bool) → SameForBoth AreasAgree (ProtectedAgree protects) (λ a protected. areaForgotten f w a protects protected)
   -- Readings of a store
   pub entry : (s : Store) (subspace : Subspace) (ignore : QueryIgnoreParams) → SameFor PathsAgree (λ p. entryFound f s subspace p ignore)
   pub query-area-place : (s : Store) (ignore : QueryIgnoreParams) (place : ℕ) → SameFor AreasAgree (λ a. areaListed f s a ignore place)

@@ -14,7 +14,7 @@ use Rattle.key_laws.proofs.EntryLaws.{prunes-irrefl}
 use Rattle.tree.specs.Stored.{Stored, recordOf, keyBelow}
 use Rattle.tree.specs.declared.stored.KeyOrder.{KeyOrder}
 use Rattle.tree.specs.declared.stored.KeyOrder.the-variants.{Spt, Tsp}
-use Rattle.store.specs.Store.{Store, treeRoom, dirRoom, treeOf, dirOf, held, heldBy, holding}
+use Rattle.store.specs.Store.{Store, treeRoom, dirRoom, treeOf, dirOf, held, heldBy, Tallied, talliedHolding}
 use Rattle.store.specs.Refusal.{limitOk}
 use Rattle.store.specs.Open.{nothing}
 use Rattle.store.specs.Ingest.{filed}
@@ -37,24 +37,24 @@ unfolding limitOk
 ok-2 = refl
 
 -- The store that is opened, and ours after one entry: of bytes that can be computed.
-abbrev begun : Store
-begun = holding field nothing (asked (atLimit 2))
+abbrev begun : Tallied
+begun = talliedHolding field nothing (asked (atLimit 2))
 
-abbrev pub t0 : Store
-t0 = opens field (atLimit 2) .store
+abbrev pub t0 : Tallied
+t0 = opens field (atLimit 2) .left
 
 begins : t0 ≡ begun
 begins = opened-store field (atLimit 2) (opens-fine 2 ok-2)
 
-abbrev next : Store
-next = holding field (record { spt = filedAs one ∷ []; tsp = filedAs one ∷ [] }) begun
+abbrev next : Tallied
+next = talliedHolding field (record { spt = filedAs one ∷ []; tsp = filedAs one ∷ [] }) begun
 
 -- The verdicts of ours.
 pub first-done : (x : IngestCall) → map verdictIn (history (ours field) t0 (ingest x ∷ [])) ≡ done ∷ [] → outcome field t0 (ingest x) .verdict ≡ done
 unfolding history
 first-done x e = ap (λ (l : List Verdict). getD l 0 obsolete) e
 
-second-done : (x : IngestCall) → map verdictIn (history (ours field) t0 (ingest one ∷ ingest x ∷ [])) ≡ done ∷ done ∷ [] → outcome field (outcome field t0 (ingest one) .store) (ingest x) .verdict ≡ done
+second-done : (x : IngestCall) → map verdictIn (history (ours field) t0 (ingest one ∷ ingest x ∷ [])) ≡ done ∷ done ∷ [] → outcome field (outcome field t0 (ingest one) .left) (ingest x) .verdict ≡ done
 unfolding history
 second-done x e = ap (λ (l : List Verdict). getD l 1 obsolete) e
 
@@ -67,48 +67,48 @@ unfolding computing
 done-token = first-done other-token (computed 2 refl (other-token ∷ []) refl .says-all)
 
 -- What ours files is what it leaves.
-pub ours-files : (s : Store) (i : IngestCall) → outcome field s (ingest i) .verdict ≡ done → outcome field s (ingest i) .store ≡ makes filed i s
+pub ours-files : (s : Tallied) (i : IngestCall) → outcome field s (ingest i) .verdict ≡ done → outcome field s (ingest i) .left ≡ makes filed i s
 ours-files s i d = go (did field s (ingest i))
   where
-    told : {a : Verdict} {n : ℕ} {t : Store} → outcome field s (ingest i) ≡ so a n t → a ≡ done
-    told e = sym (ap (λ (o : Outcome Store). o .verdict) e) ∙ d
+    told : {a : Verdict} {n : ℕ} {t : Tallied} → outcome field s (ingest i) ≡ so a n t → a ≡ done
+    told e = sym (ap (λ (o : Outcome Tallied). o .verdict) e) ∙ d
 
     same : {j : IngestCall} → ingest i ≡ ingest j → j ≡ i
     same q = cc
 
-    go : Did field s (ingest i) → outcome field s (ingest i) .store ≡ makes filed i s
+    go : Did field s (ingest i) → outcome field s (ingest i) .left ≡ makes filed i s
     go (was-refused n e) = refused-done (told e)
     go (was-obsolete j q y m o e) = obsolete-done (told e)
-    go (has-filed j q t e) = ap (λ (o : Outcome Store). o .store) e ∙ ap (λ (k : IngestCall). makes filed k s) (same q)
+    go (has-filed j q t e) = ap (λ (o : Outcome Tallied). o .left) e ∙ ap (λ (k : IngestCall). makes filed k s) (same q)
     go (has-forgotten p q e) = not-forgets i p q
 
 makes-next : makes filed one begun ≡ next
 unfolding computing reading heldBy
 makes-next = refl
 
-ours-next : outcome field t0 (ingest one) .store ≡ next
+ours-next : outcome field t0 (ingest one) .left ≡ next
 ours-next = ours-files t0 one done-one ∙ ap (makes filed one) begins ∙ makes-next
 
 done-later : outcome field next (ingest later) .verdict ≡ done
 unfolding computing
-done-later = subst (λ (s : Store). outcome field s (ingest later) .verdict ≡ done) ours-next (second-done later (computed 2 refl (one ∷ later ∷ []) refl .says-all))
+done-later = subst (λ (s : Tallied). outcome field s (ingest later) .verdict ≡ done) ours-next (second-done later (computed 2 refl (one ∷ later ∷ []) refl .says-all))
 
 done-two : outcome field next (ingest two) .verdict ≡ done
 unfolding computing
-done-two = subst (λ (s : Store). outcome field s (ingest two) .verdict ≡ done) ours-next (second-done two (computed 2 refl (one ∷ two ∷ []) refl .says-all))
+done-two = subst (λ (s : Tallied). outcome field s (ingest two) .verdict ≡ done) ours-next (second-done two (computed 2 refl (one ∷ two ∷ []) refl .says-all))
 
 -- What a store with a flaw leaves after one entry, and after `one` and another where the flaw does not show on the first.
-step : (w : Flaw) (s : Store) (i : IngestCall) → outcome field s (ingest i) .verdict ≡ done → with-flaw w .call s (ingest i) .store ≡ flawed w i s
+step : (w : Flaw) (s : Tallied) (i : IngestCall) → outcome field s (ingest i) .verdict ≡ done → with-flaw w .call s (ingest i) .left ≡ flawed w i s
 unfolding instead ifDone
 step w s i d = rw d refl
 
-after-one : (w : Flaw) (x : IngestCall) → outcome field t0 (ingest x) .verdict ≡ done → leaves w (x ∷ []) ≡ flawed w x begun
+after-one : (w : Flaw) (x : IngestCall) → outcome field t0 (ingest x) .verdict ≡ done → leaves w (x ∷ []) ≡ flawed w x begun .store
 unfolding afterAll
-after-one w x d = step w t0 x d ∙ ap (flawed w x) begins
+after-one w x d = ap (λ (s : Tallied). s .store) (step w t0 x d ∙ ap (flawed w x) begins)
 
-after-two : (w : Flaw) (x : IngestCall) → flawed w one begun ≡ next → outcome field next (ingest x) .verdict ≡ done → leaves w (one ∷ x ∷ []) ≡ flawed w x next
+after-two : (w : Flaw) (x : IngestCall) → flawed w one begun ≡ next → outcome field next (ingest x) .verdict ≡ done → leaves w (one ∷ x ∷ []) ≡ flawed w x next .store
 unfolding afterAll
-after-two w x q d = ap (λ (s : Store). with-flaw w .call s (ingest x) .store) (step w t0 one done-one ∙ ap (flawed w one) begins ∙ q) ∙ step w next x d
+after-two w x q d = ap (λ (s : Tallied). with-flaw w .call s (ingest x) .left .store) (step w t0 one done-one ∙ ap (flawed w one) begins ∙ q) ∙ ap (λ (s : Tallied). s .store) (step w next x d)
 
 -- The flaws.
 alone : (x : IngestCall) → Current (receiptOf x ∷ []) (receiptOf x)
@@ -117,7 +117,7 @@ alone x = record { among = here refl; unpruned = λ q n. rw (only n) (prunes-irr
 only-counted : Exactly (held field Spt (leaves counts-only (one ∷ []))) (map receiptOf (one ∷ [])) → ⊥
 unfolding flawed computing reading
 only-counted h =
-    let m : receiptOf one ∈ map receiptIn (held field Spt (flawed counts-only one begun)) = rw (after-one counts-only one done-one) at (h (receiptOf one) .1 (alone one)) in
+    let m : receiptOf one ∈ map receiptIn (held field Spt (flawed counts-only one begun .store)) = rw (after-one counts-only one done-one) at (h (receiptOf one) .1 (alone one)) in
     let z : _≡_ {A = ℕ} 1 0 = ap (λ (r : Receipt). r .entry .subspace .low) (only m) in
     omega arith
 
@@ -131,7 +131,7 @@ bytes-left h =
 token-lost : Exactly (held field Spt (leaves loses-token (other-token ∷ []))) (map receiptOf (other-token ∷ [])) → ⊥
 unfolding flawed computing reading heldBy
 token-lost h =
-    let m : receiptOf other-token ∈ map receiptIn (held field Spt (flawed loses-token other-token begun)) = rw (after-one loses-token other-token done-token) at (h (receiptOf other-token) .1 (alone other-token)) in
+    let m : receiptOf other-token ∈ map receiptIn (held field Spt (flawed loses-token other-token begun .store)) = rw (after-one loses-token other-token done-token) at (h (receiptOf other-token) .1 (alone other-token)) in
     let z : _≡_ {A = ℕ} 1 0 = ap (λ (r : Receipt). getD (r .token) 0 0) (only m) in
     omega arith
 
@@ -192,8 +192,8 @@ got-one w x d = rw d refl
 got-two : (w : Flaw) (x : IngestCall) → flawed w one begun ≡ next → outcome field next (ingest x) .verdict ≡ done → received (history (with-flaw w) t0 (map ingest (one ∷ x ∷ []))) ≡ map receiptOf (one ∷ x ∷ [])
 unfolding history received receipts notRefused input
 got-two w x q d =
-    let e : with-flaw w .call t0 (ingest one) .store ≡ next = step w t0 one done-one ∙ ap (flawed w one) begins ∙ q in
-    let f : outcome field (with-flaw w .call t0 (ingest one) .store) (ingest x) .verdict ≡ done = ap (λ (s : Store). outcome field s (ingest x) .verdict) e ∙ d in
+    let e : with-flaw w .call t0 (ingest one) .left ≡ next = step w t0 one done-one ∙ ap (flawed w one) begins ∙ q in
+    let f : outcome field (with-flaw w .call t0 (ingest one) .left) (ingest x) .verdict ≡ done = ap (λ (s : Tallied). outcome field s (ingest x) .verdict) e ∙ d in
     rw (f, done-one) refl
 
 plain-1 : (x : IngestCall) → Plain (map receiptOf (x ∷ []))

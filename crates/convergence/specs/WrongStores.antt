@@ -15,7 +15,8 @@ use Rattle.tree.specs.Stored.{Stored, recordOf, keyBelow}
 use Rattle.tree.specs.Matching.{isForgotten}
 use Rattle.tree.specs.declared.stored.KeyOrder.{KeyOrder}
 use Rattle.tree.specs.declared.stored.KeyOrder.the-variants.{Spt, Tsp}
-use Rattle.store.specs.Store.{stateWith, Store, storeOf, treeRoom, dirRoom, treeOf, dirOf, held, Held, heldBy, holding}
+use Rattle.tally.specs.Tally.{tallyHolding}
+use Rattle.store.specs.Store.{stateWith, Store, storeOf, treeRoom, dirRoom, treeOf, dirOf, held, Held, heldBy, Tallied, talliedHolding}
 use Rattle.store.specs.Open.{nothing}
 use Rattle.store.specs.Ingest.{filing, sptLess, tspLess, stays, filedIn, filed}
 use Rattle.call_laws.specs.Calls.{Opening, IngestCall, AreaForgetting, Call, ingest, forget-entry, forget-area, filedAs, forgets, Verdict, refused, obsolete, done}
@@ -24,71 +25,78 @@ use Rattle.call_laws.specs.Outcomes.{Outcome, outcome, opens}
 use Rattle.convergence.specs.Demand.{Machine, Event, afterAll, receiptOf, notRefused, Run, throughout, events, end, receiptIn, Exactly, Demand3}
 use Rattle.convergence.specs.Examples.{atLimit, one, two, later, other-token}
 
--- A store, right or wrong: whatever it answers, and leaves of a state and four buffers.
+-- A store, right or wrong: whatever it answers, and leaves of a state, four buffers and a tally.
 abbrev pub AStore : Type 0
-AStore = Machine Opening Store
+AStore = Machine Opening Tallied
 
 -- It opens what 01 says, and refuses the rest.
 abbrev pub OpensRight : AStore → Type 0
 OpensRight m = (o : Opening) → OpeningVerdictRight field o (m .opening o .verdict)
 
 -- What a run of it leaves; and what happens in some run of it.
-abbrev pub Reached : AStore → Store → Type 0
+abbrev pub Reached : AStore → Tallied → Type 0
 Reached m s = (r : Run (throughout field) m) × (end r ≡ s)
 
-abbrev pub Happens : AStore → (Event Store → Type 0) → Type 0
-Happens m P = (r : Run (throughout field) m) × (e : Event Store) × e ∈ events r × P e
+abbrev pub Happens : AStore → (Event Tallied → Type 0) → Type 0
+Happens m P = (r : Run (throughout field) m) × (e : Event Tallied) × e ∈ events r × P e
 
 -- Kinds of stores. What an ingestion that is done was handed stands in neither tree afterwards.
 abbrev pub FilesNothing : AStore → Type 0
-FilesNothing m = (s : Store) → Reached m s → (i : IngestCall) (k : KeyOrder) → m .call s (ingest i) .verdict ≡ done → receiptOf i ∈ map receiptIn (held field k (m .call s (ingest i) .store)) → ⊥
+FilesNothing m = (s : Tallied) → Reached m s → (i : IngestCall) (k : KeyOrder) → m .call s (ingest i) .verdict ≡ done → receiptOf i ∈ map receiptIn (held field k (m .call s (ingest i) .left .store)) → ⊥
 
 -- Once its count is not 0 it calls obsolete all that would not be refused.
 abbrev pub FirstOnly : AStore → Type 0
-FirstOnly m = (s : Store) → Reached m s → (i : IngestCall) → (s .state .count ≡ 0 → ⊥) → notRefused (outcome field s (ingest i) .verdict) ≡ true → m .call s (ingest i) .verdict ≡ obsolete
+FirstOnly m = (s : Tallied) → Reached m s → (i : IngestCall) → (s .store .state .count ≡ 0 → ⊥) → notRefused (outcome field s (ingest i) .verdict) ≡ true → m .call s (ingest i) .verdict ≡ obsolete
 
 -- It says 8 although fewer than the limit are left after pruning.
 abbrev pub FullBelow : AStore → Type 0
 FullBelow m = (i : IngestCall)
-    × Happens m λ e. (e .call ≡ ingest i) × (e .outcome .verdict ≡ refused 8) × (length (keep (stays (entryOf (i .handed .entry))) (held field Spt (e .before))) < e .before .state .limit)
+    × Happens m λ e. (e .call ≡ ingest i) × (e .outcome .verdict ≡ refused 8) × (length (keep (stays (entryOf (i .handed .entry))) (held field Spt (e .before .store))) < e .before .store .state .limit)
 
 -- It refuses every call; it has one verdict for all ingestions.
 abbrev pub RefusesAll : AStore → Type 0
-RefusesAll m = (s : Store) → Reached m s → (c : Call) → notRefused (m .call s c .verdict) ≡ false
+RefusesAll m = (s : Tallied) → Reached m s → (c : Call) → notRefused (m .call s c .verdict) ≡ false
 
 abbrev pub OneVerdict : AStore → Type 0
-OneVerdict m = (v : Verdict) × ((s : Store) → Reached m s → (i : IngestCall) → m .call s (ingest i) .verdict ≡ v)
+OneVerdict m = (v : Verdict) × ((s : Tallied) → Reached m s → (i : IngestCall) → m .call s (ingest i) .verdict ≡ v)
 
 -- It forgets nothing, whatever it says; its forgettings write nothing in the time-first tree.
 abbrev pub ForgetsNothing : AStore → Type 0
-ForgetsNothing m = (s : Store) → Reached m s → (c : Call) (p : Stored → Bool) → forgets c ≡ some p → m .call s c .store ≡ s
+ForgetsNothing m = (s : Tallied) → Reached m s → (c : Call) (p : Stored → Bool) → forgets c ≡ some p → m .call s c .left ≡ s
 
 abbrev pub ForgetsOneTree : AStore → Type 0
-ForgetsOneTree m = (s : Store) → Reached m s → (c : Call) (p : Stored → Bool) → forgets c ≡ some p → treeOf field Tsp (m .call s c .store) ≡ treeOf field Tsp s
+ForgetsOneTree m = (s : Tallied) → Reached m s → (c : Call) (p : Stored → Bool) → forgets c ≡ some p → treeOf field Tsp (m .call s c .left .store) ≡ treeOf field Tsp (s .store)
 
 -- An area's forgetting is done, and its number is not that of the entries that it forgets.
 abbrev pub MadeUpCount : AStore → Type 0
 MadeUpCount m = (a : AreaForgetting)
-    × Happens m λ e. (e .call ≡ forget-area a) × (e .outcome .verdict ≡ done) × (e .outcome .number ≡ length (keep (isForgotten (a .area) (a .protects) (a .protected)) (held field Spt (e .before))) → ⊥)
+    × Happens m λ e. (e .call ≡ forget-area a) × (e .outcome .verdict ≡ done) × (e .outcome .number ≡ length (keep (isForgotten (a .area) (a .protects) (a .protected)) (held field Spt (e .before .store))) → ⊥)
 
--- It changes the store though the call is refused; it opens a store of limit 0.
+-- It changes the store or its tally though the call is refused; it opens a store of limit 0.
 abbrev pub ChangesRefused : AStore → Type 0
-ChangesRefused m = Happens m λ e. (notRefused (e .outcome .verdict) ≡ false) × (e .outcome .store ≡ e .before → ⊥)
+ChangesRefused m = Happens m λ e. (notRefused (e .outcome .verdict) ≡ false) × (e .outcome .left ≡ e .before → ⊥)
 
 abbrev pub OpensNone : AStore → Type 0
 OpensNone m = m .opening (atLimit 0) .verdict ≡ done
 
+-- It never writes its tally; what a call that is done writes there is the tally of the store before the change.
+abbrev pub TalliesNothing : AStore → Type 0
+TalliesNothing m = (s : Tallied) → Reached m s → (c : Call) → m .call s c .left .tally ≡ s .tally
+
+abbrev pub TalliesBefore : AStore → Type 0
+TalliesBefore m = (s : Tallied) → Reached m s → (c : Call) → m .call s c .verdict ≡ done → m .call s c .left .tally ≡ tallyHolding (s .store .state .limit) (held field Spt (s .store)) (s .tally)
+
 -- One of each: it has this verdict and number for all and does nothing; it is as ours until it holds something; as ours, but it forgets nothing, or in one tree,
 -- or forgets all when it is refused.
 abbrev pub always : Verdict → ℕ → AStore
-always v n = record { opening = opens field; call = λ s c. record { verdict = v; number = n; store = s } }
+always v n = record { opening = opens field; call = λ s c. record { verdict = v; number = n; left = s } }
 
 abbrev pub until-one : AStore
-until-one = record { opening = opens field; call = λ s c. cond (eqb (s .state .count) 0) (outcome field s c) (record { verdict = obsolete; number = 0; store = s }) }
+until-one = record { opening = opens field; call = λ s c. cond (eqb (s .store .state .count) 0) (outcome field s c) (record { verdict = obsolete; number = 0; left = s }) }
 
 -- As ours, but for the store that a call leaves.
-abbrev pub leaving : (Store → Call → Outcome Store → Store) → AStore
-leaving g = record { opening = opens field; call = λ s c. let o = outcome field s c in record { verdict = o .verdict; number = o .number; store = g s c o } }
+abbrev pub leaving : (Tallied → Call → Outcome Tallied → Tallied) → AStore
+leaving g = record { opening = opens field; call = λ s c. let o = outcome field s c in record { verdict = o .verdict; number = o .number; left = g s c o } }
 
 -- The one kind of call, or the other.
 unfoldable pub onForgetting : {A : Type 0} → Call → A → A → A
@@ -97,16 +105,23 @@ onForgetting (forget-entry p) a b = a
 onForgetting (forget-area x) a b = a
 
 abbrev pub idle : AStore
-idle = leaving λ s c o. onForgetting c s (o .store)
+idle = leaving λ s c o. onForgetting c s (o .left)
 
 abbrev pub haunted : AStore
-haunted = leaving λ s c o. onForgetting c (storeOf (o .store .state) (o .store .spt) (o .store .sptDir) (s .tsp) (s .tspDir)) (o .store)
+haunted = leaving λ s c o. onForgetting c (record { store = storeOf (o .left .store .state) (o .left .store .spt) (o .left .store .sptDir) (s .store .tsp) (s .store .tspDir); tally = o .left .tally }) (o .left)
 
 abbrev pub wiping : AStore
-wiping = leaving λ s c o. cond (notRefused (o .verdict)) (o .store) (holding field nothing s)
+wiping = leaving λ s c o. cond (notRefused (o .verdict)) (o .left) (talliedHolding field nothing s)
 
 abbrev pub opening-all : AStore
-opening-all = record { opening = λ o. record { verdict = done; number = 0; store = opens field o .store }; call = outcome field }
+opening-all = record { opening = λ o. record { verdict = done; number = 0; left = opens field o .left }; call = outcome field }
+
+-- As ours, but for the tally: it is never written; it is written before the change.
+abbrev pub silent : AStore
+silent = leaving λ s c o. record { store = o .left .store; tally = s .tally }
+
+abbrev pub hasty : AStore
+hasty = leaving λ s c o. record { store = o .left .store; tally = tallyHolding (s .store .state .limit) (held field Spt (s .store)) (s .tally) }
 
 -- As ours, but for what an ingestion that is done leaves.
 unfoldable pub ifDone : {A : Type 0} → Verdict → A → A → A
@@ -114,21 +129,21 @@ ifDone (refused n) a b = b
 ifDone obsolete a b = b
 ifDone done a b = a
 
-unfoldable pub instead : (IngestCall → Store → Store) → Store → Call → Outcome Store → Store
+unfoldable pub instead : (IngestCall → Tallied → Tallied) → Tallied → Call → Outcome Tallied → Tallied
 instead g s (ingest i) o = ifDone (o .verdict) (g i s) s
-instead g s (forget-entry p) o = o .store
-instead g s (forget-area a) o = o .store
+instead g s (forget-entry p) o = o .left
+instead g s (forget-area a) o = o .left
 
 -- One thing wrong with what it leaves; all but the first two by what the trees are made to hold.
 pub data Flaw : Type 0 where
   counts-only leaves-bytes loses-token available-1 prunes-nothing prunes-one-tree in-order-of-arrival : Flaw
 
-abbrev pub makes : (Stored → Held → Held) → IngestCall → Store → Store
-makes g i s = holding field (g (filedAs i) (heldBy field s)) s
+abbrev pub makes : (Stored → Held → Held) → IngestCall → Tallied → Tallied
+makes g i s = talliedHolding field (g (filedAs i) (heldBy field (s .store))) s
 
-unfoldable pub flawed : Flaw → IngestCall → Store → Store
-flawed counts-only i s = storeOf (stateWith (s .state) (suc (s .state .count))) (s .spt) (s .sptDir) (s .tsp) (s .tspDir)
-flawed leaves-bytes i s = let t = makes filed i s in storeOf (t .state) (take 200 (t .spt) ++ 1 ∷ drop 201 (t .spt)) (t .sptDir) (t .tsp) (t .tspDir)
+unfoldable pub flawed : Flaw → IngestCall → Tallied → Tallied
+flawed counts-only i s = let t = s .store in record { store = storeOf (stateWith (t .state) (suc (t .state .count))) (t .spt) (t .sptDir) (t .tsp) (t .tspDir); tally = makes filed i s .tally }
+flawed leaves-bytes i s = let t = makes filed i s .store in record { store = storeOf (t .state) (take 200 (t .spt) ++ 1 ∷ drop 201 (t .spt)) (t .sptDir) (t .tsp) (t .tspDir); tally = makes filed i s .tally }
 flawed loses-token i s = makes (λ x h. filed (filing (x .entry) (replicate 64 0)) h) i s
 flawed available-1 i s = makes (λ x h. filed (record { entry = x .entry; token = x .token; available = 1 }) h) i s
 flawed prunes-nothing i s = makes (λ x h. record { spt = insert sptLess x (h .spt); tsp = insert tspLess x (h .tsp) }) i s
@@ -140,7 +155,7 @@ with-flaw w = leaving (instead (flawed w))
 
 -- What it leaves of a store of limit 2 after these.
 abbrev pub leaves : Flaw → List IngestCall → Store
-leaves w handed = afterAll (with-flaw w) (opens field (atLimit 2) .store) (map ingest handed)
+leaves w handed = afterAll (with-flaw w) (opens field (atLimit 2) .left) (map ingest handed) .store
 
 -- The clause of `Contents` that each of them breaks, all of it having been received.
 pub record Broken : Type 0 where
@@ -166,6 +181,8 @@ pub record ShutOut : Type 0 where
   pub made-up-count : (m : AStore) → MadeUpCount m → Refuted m
   pub changing-refused : (m : AStore) → ChangesRefused m → Refuted m
   pub opening-none : (m : AStore) → OpensNone m → Refuted m
+  pub tallying-nothing : (m : AStore) → OpensRight m → TalliesNothing m → Refuted m
+  pub tallying-before : (m : AStore) → OpensRight m → TalliesBefore m → Refuted m
   -- With demand 1: it opens nothing.
   pub opening-nothing : (m : AStore) → ((o : Opening) → m .opening o .verdict ≡ done → ⊥) → OpensRight m → ⊥
   -- There are such, and others that are as ours but for one thing.
@@ -179,5 +196,7 @@ pub record ShutOut : Type 0 where
   pub one-makes-it-up : MadeUpCount (always done 1)
   pub one-changes-refused : ChangesRefused wiping
   pub one-opens-none : OpensNone opening-all
+  pub one-tallies-nothing : OpensRight silent × TalliesNothing silent
+  pub one-tallies-before : OpensRight hasty × TalliesBefore hasty
   pub broken : Broken
   pub having-a-flaw : (w : Flaw) → Refuted (with-flaw w)

@@ -1,4 +1,4 @@
--- The refusals of every layer, by 01's numbers, and what the data model's answers say.
+-- The refusals of every layer, by the papers' numbers, and what the data model's answers say.
 use Prim.Native.Nat.{ℕ}
 use mathlib.Core.Bool.{Bool, true, false}
 use Rattle.laws.specs.Order.{Order, less, same, greater}
@@ -45,6 +45,10 @@ full = 8
 -- The stored entry's digest is not the one expected.
 abbrev pub otherDigest : ℕ
 otherDigest = 9
+
+-- The tally handed in is not the one its store gives.
+abbrev pub wrongTally : ℕ
+wrongTally = 10
 
 -- What each case of an answer says: its number and its values. A question: yes or no.
 unfoldable pub answerSays : Answer → Said Bool

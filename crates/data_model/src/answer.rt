@@ -31,6 +31,9 @@ pub const FULL: u8 = 8;
 // The stored entry's digest is not the one expected.
 pub const OTHER_DIGEST: u8 = 9;
 
+// The tally handed in is not the one its store gives.
+pub const WRONG_TALLY: u8 = 10;
+
 pub enum Answer {
     Yes,
     No,

@@ -140,15 +140,21 @@ cut-bytes bytes b from [] = refl
 cut-bytes bytes b from (e ∷ es) =
     rw (bytes-all (piece from e bytes) (bytes-take (e - from) (drop from bytes) (bytes-drop from bytes b))) (cut-bytes bytes b e es)
 
-pub legal-fits : (f : Figures) (p : Path) → f .mpl ≤ length (p .bytes) → Bytes (p .bytes) → legal f p ≡ true → isPath f (components p) ≡ true
+legal-fitting : (f : Figures) (p : Path) → f .mpl ≤ length (p .bytes) → legal f p ≡ true → fitting (f .mcl) (f .mpl) (f .mcc) (components p) ≡ true
 unfolding components
-legal-fits f p l b h =
+legal-fitting f p l h =
     let c = legal-count f p h in
     let es = take (p .count) (p .ends) in
     let k : length es ≤ f .mcc = omega (arith, length-take (p .count) (p .ends)) in
-    fits-path f (components p)
-    (rw sub-zero at (cut-fits (p .bytes) (f .mcl) (f .mpl) l 0 (f .mcc) es (legal-these f p h) k))
-    (cut-bytes (p .bytes) b 0 es)
+    rw sub-zero at (cut-fits (p .bytes) (f .mcl) (f .mpl) l 0 (f .mcc) es (legal-these f p h) k)
+
+-- A legal path whose components are bytes is one.
+pub legal-bytes : (f : Figures) (p : Path) → f .mpl ≤ length (p .bytes) → legal f p ≡ true → all (all isByte) (components p) ≡ true → isPath f (components p) ≡ true
+legal-bytes f p l h b = fits-path f (components p) (legal-fitting f p l h) b
+
+pub legal-fits : (f : Figures) (p : Path) → f .mpl ≤ length (p .bytes) → Bytes (p .bytes) → legal f p ≡ true → isPath f (components p) ≡ true
+unfolding components
+legal-fits f p l b h = legal-bytes f p l h (cut-bytes (p .bytes) b 0 (take (p .count) (p .ends)))
 
 -- The ends of components cut their bytes into them again.
 cut-joined : (before after : List ℕ) (cs : Components) → cut (before ++ (joined cs ++ after)) (length before) (endsFrom (length before) cs) ≡ cs

@@ -189,7 +189,8 @@ component-bytes [] e = refl
 component-bytes (zero ∷ c) e = component-bytes c e
 component-bytes (suc b ∷ c) e = let k = and-true (isByte (suc b)) (all isByte (componentKey c)) e in rw (k .0) (component-bytes c (k .1))
 
-path-bytes : (cs : Components) → all isByte (pathKey cs) ≡ true → all (all isByte) cs ≡ true
+-- Of a key that is bytes the components are.
+pub path-bytes : (cs : Components) → all isByte (pathKey cs) ≡ true → all (all isByte) cs ≡ true
 unfolding all pathKey
 path-bytes [] e = refl
 path-bytes (c ∷ cs) e = let k = all-append (componentKey c) (pathKey cs) e in rw (component-bytes c (k .0)) (path-bytes cs (k .1))

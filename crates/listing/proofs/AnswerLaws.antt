@@ -10,7 +10,7 @@ use Rattle.laws.specs.Lists.{put, piece}
 use Rattle.laws.proofs.Lists.{Wrote, wrote-none, wrote-first, wrote-lent, wrote-last, wrote-length, wrote-all}
 use Rattle.data_model.specs.Path.{Figures, field}
 use Rattle.tree.specs.declared.stored.KeyOrder.the-variants.{Spt}
-use Rattle.store.specs.Store.{Store, held}
+use Rattle.store.specs.Store.{held, Tallied}
 use Rattle.text.specs.Fields.{front}
 use Rattle.text.specs.declared.entry_line.EntryLine.{EntryLine}
 use Rattle.text.proofs.FieldLaws.{front-take}
@@ -27,19 +27,19 @@ module _ (f : Figures) where
   pub lines-append : (w : Left) (ks ls : List (List ℕ)) → linesCarried f w (ks ++ ls) ≡ linesCarried f (linesCarried f w ks) ls
   unfolding linesCarried
   lines-append w [] ls = refl
-  lines-append w (k ∷ ks) ls = lines-append (leftIn (lineCarried f (w .store) (w .prune) k)) ks ls
+  lines-append w (k ∷ ks) ls = lines-append (leftIn (lineCarried f (w .tallied) (w .prune) k)) ks ls
 
   pub text-append : (w : Left) (ks ls : List (List ℕ)) → answersText f w (ks ++ ls) ≡ answersText f w ks ++ answersText f (linesCarried f w ks) ls
   unfolding linesCarried answersText
   text-append w [] ls = refl
   text-append w (k ∷ ks) ls =
-      let o = lineCarried f (w .store) (w .prune) k in
+      let o = lineCarried f (w .tallied) (w .prune) k in
       ap (λ (x : List ℕ). answerText (o .answer) ++ x) (text-append (leftIn o) ks ls)
       ∙ sym (append-assoc (answerText (o .answer)) (answersText f (leftIn o) ks) (answersText f (linesCarried f (leftIn o) ks) ls))
 
 -- A line over 1,024 bytes is of another form, and so is what is kept of it: lines are carried out alike if they are cut.
 module _ (f : Figures) where
-  carried-cut : (s : Store) (prune l : List ℕ) → lineCarried f s prune (take keptMost l) ≡ lineCarried f s prune l
+  carried-cut : (s : Tallied) (prune l : List ℕ) → lineCarried f s prune (take keptMost l) ≡ lineCarried f s prune l
   unfolding lineCarried
   carried-cut s prune l = ap (λ (x : EntryLine). carriedBy f s prune x (x .outcome)) (line-cut l keptMost (omega arith))
 
@@ -47,15 +47,15 @@ module _ (f : Figures) where
   unfolding linesCarried
   lines-cut w [] = refl
   lines-cut w (l ∷ ls) =
-      ap (λ (o : LineOutcome). linesCarried f (leftIn o) (map (take keptMost) ls)) (carried-cut (w .store) (w .prune) l)
-      ∙ lines-cut (leftIn (lineCarried f (w .store) (w .prune) l)) ls
+      ap (λ (o : LineOutcome). linesCarried f (leftIn o) (map (take keptMost) ls)) (carried-cut (w .tallied) (w .prune) l)
+      ∙ lines-cut (leftIn (lineCarried f (w .tallied) (w .prune) l)) ls
 
   pub text-cut : (w : Left) (ls : List (List ℕ)) → answersText f w (map (take keptMost) ls) ≡ answersText f w ls
   unfolding answersText
   text-cut w [] = refl
   text-cut w (l ∷ ls) =
-      let o = lineCarried f (w .store) (w .prune) l in
-      ap (λ (o : LineOutcome). answerText (o .answer) ++ answersText f (leftIn o) (map (take keptMost) ls)) (carried-cut (w .store) (w .prune) l)
+      let o = lineCarried f (w .tallied) (w .prune) l in
+      ap (λ (o : LineOutcome). answerText (o .answer) ++ answersText f (leftIn o) (map (take keptMost) ls)) (carried-cut (w .tallied) (w .prune) l)
       ∙ ap (λ (x : List ℕ). answerText (o .answer) ++ x) (text-cut (leftIn o) ls)
 
   pub lines-alike : (w : Left) (ks ls : List (List ℕ)) → map (take keptMost) ks ≡ map (take keptMost) ls → linesCarried f w ks ≡ linesCarried f w ls
@@ -69,12 +69,12 @@ written-is : {v w : Left} {m n : ℕ} {out old : List ℕ} → v ≡ w → m ≡
     → _≡_ {A = Written} (record { left = v; written = m; out = out }) (record { left = w; written = n; out = old })
 written-is a b c = cc
 
-pub line-written : (w : Left) (l old out : List ℕ) (o : LineOutcome) (n : ℕ) → o ≡ lineCarried field (w .store) (w .prune) l → n ≡ length (answerText (o .answer)) → out ≡ put (answerText (o .answer)) old
+pub line-written : (w : Left) (l old out : List ℕ) (o : LineOutcome) (n : ℕ) → o ≡ lineCarried field (w .tallied) (w .prune) l → n ≡ length (answerText (o .answer)) → out ≡ put (answerText (o .answer)) old
     → _≡_ {A = Written} (record { left = leftIn o; written = n; out = out }) (linesWritten field w (l ∷ []) old)
 unfolding linesCarried answersText
 line-written w l old out o n e en eo =
-    let t : answerText (o .answer) ≡ answerText (lineCarried field (w .store) (w .prune) l .answer) ++ []
-    = ap (λ (x : LineOutcome). answerText (x .answer)) e ∙ sym (append-nil (answerText (lineCarried field (w .store) (w .prune) l .answer))) in
+    let t : answerText (o .answer) ≡ answerText (lineCarried field (w .tallied) (w .prune) l .answer) ++ []
+    = ap (λ (x : LineOutcome). answerText (x .answer)) e ∙ sym (append-nil (answerText (lineCarried field (w .tallied) (w .prune) l .answer))) in
     written-is (ap leftIn e) (en ∙ ap length t) (eo ∙ ap (λ (x : List ℕ). put x old) t)
 
 -- A part of the input as it is answered: what is left of it, behind the line that has begun, gives the rest of what the whole part leaves and prints.
@@ -98,10 +98,10 @@ module _ {w₀ : Left} {line₀ bytes old : List ℕ} (w : Left) (line rest out 
       → Answering w₀ line₀ bytes old v [] rest′ (putMid to (length out - to) out last) (to + n)
   unfolding linesCarried answersText
   answering-turn p rest′ l e b k v n last r fits =
-      let o = lineCarried field (w .store) (w .prune) (line ++ p) in
-      let c : lineCarried field (w .store) (w .prune) l ≡ o = ap (lineCarried field (w .store) (w .prune)) k ∙ carried-cut field (w .store) (w .prune) (line ++ p) in
-      let t : answerText (lineCarried field (w .store) (w .prune) l .answer) ++ [] ≡ answerText (o .answer)
-      = append-nil (answerText (lineCarried field (w .store) (w .prune) l .answer)) ∙ ap (λ (x : LineOutcome). answerText (x .answer)) c in
+      let o = lineCarried field (w .tallied) (w .prune) (line ++ p) in
+      let c : lineCarried field (w .tallied) (w .prune) l ≡ o = ap (lineCarried field (w .tallied) (w .prune)) k ∙ carried-cut field (w .tallied) (w .prune) (line ++ p) in
+      let t : answerText (lineCarried field (w .tallied) (w .prune) l .answer) ++ [] ≡ answerText (o .answer)
+      = append-nil (answerText (lineCarried field (w .tallied) (w .prune) l .answer)) ∙ ap (λ (x : LineOutcome). answerText (x .answer)) c in
       let ev : leftIn o ≡ v = sym (ap (λ (x : Written). x .left) r ∙ ap leftIn c) in
       let en : n ≡ length (answerText (o .answer)) = ap (λ (x : Written). x .written) r ∙ ap length t in
       let el : last ≡ put (answerText (o .answer)) (midOf to (length out - to) out) = ap (λ (x : Written). x .out) r ∙ ap (λ (x : List ℕ). put x (midOf to (length out - to) out)) t in
@@ -172,11 +172,11 @@ last-some (b ∷ l) h = refl
 
 -- The list behind the answers.
 pub end-written : (w v : Left) (ls : List (List ℕ)) (old out last : List ℕ) (n m : ℕ) → n ≤ length old → _≡_ {A = Written} (record { left = v; written = n; out = out }) (linesWritten field w ls old)
-    → n + m ≤ length out → m ≡ length (listText (held field Spt (v .store))) → last ≡ put (listText (held field Spt (v .store))) (midOf n (length out - n) out)
+    → n + m ≤ length out → m ≡ length (listText (held field Spt (v .tallied .store))) → last ≡ put (listText (held field Spt (v .tallied .store))) (midOf n (length out - n) out)
     → (n + m ≡ length (answersAndList w ls)) × (putMid n (length out - n) out last ≡ put (answersAndList w ls) old)
 unfolding answersAndList
 end-written w v ls old out last n m h r fits em el =
     let ev : v ≡ linesCarried field w ls = ap (λ (x : Written). x .left) r in
-    let first = wrote-first (answersText field w ls) (listText (held field Spt (v .store))) old out n h (ap (λ (x : Written). x .written) r) (ap (λ (x : Written). x .out) r) in
-    subst (λ (x : Left). (n + m ≡ length (answersText field w ls ++ listText (held field Spt (x .store)))) × (putMid n (length out - n) out last ≡ put (answersText field w ls ++ listText (held field Spt (x .store))) old)) ev
-    (wrote-last (answersText field w ls ++ listText (held field Spt (v .store))) (listText (held field Spt (v .store))) old out last n m first fits em el)
+    let first = wrote-first (answersText field w ls) (listText (held field Spt (v .tallied .store))) old out n h (ap (λ (x : Written). x .written) r) (ap (λ (x : Written). x .out) r) in
+    subst (λ (x : Left). (n + m ≡ length (answersText field w ls ++ listText (held field Spt (x .tallied .store)))) × (putMid n (length out - n) out last ≡ put (answersText field w ls ++ listText (held field Spt (x .tallied .store))) old)) ev
+    (wrote-last (answersText field w ls ++ listText (held field Spt (v .tallied .store))) (listText (held field Spt (v .tallied .store))) old out last n m first fits em el)

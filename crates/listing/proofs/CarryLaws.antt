@@ -3,7 +3,7 @@ use Prim.Native.Nat.{ℕ}
 use mathlib.Core.Path.{_≡_, refl, sym, ap, _∙_}
 use mathlib.Core.List.{List}
 use Rattle.data_model.specs.Path.{field}
-use Rattle.store.specs.Store.{Store}
+use Rattle.store.specs.Store.{Tallied}
 use Rattle.store.specs.Ingest.{IngestOutcome, ingested}
 use Rattle.store.specs.declared.ingest.Ingestion.{Ingestion}
 use Rattle.text.specs.EntryLine.{lineRead}
@@ -12,7 +12,7 @@ use Rattle.text.specs.declared.path.Outcome.the-variants as outcome
 use Rattle.text.specs.declared.entry_line.EntryLine.{EntryLine}
 use Rattle.listing.specs.Carry.{ingestionOfLine, answerWithout, afterIngest, carriedBy, lineCarried}
 
-module _ (s : Store) (prune line : List ℕ) (e : EntryLine) (read : e ≡ lineRead line) where
+module _ (s : Tallied) (prune line : List ℕ) (e : EntryLine) (read : e ≡ lineRead line) where
   line-is : carriedBy field s prune e (e .outcome) ≡ lineCarried field s prune line
   unfolding lineCarried
   line-is = ap (λ (x : EntryLine). carriedBy field s prune x (x .outcome)) read
@@ -26,11 +26,11 @@ module _ (s : Store) (prune line : List ℕ) (e : EntryLine) (read : e ≡ lineR
       ∙ line-is
 
   -- A line that says no entry leaves all as it is.
-  left : (o : Outcome) → (o ≡ outcome.Good → ⊥) → record { answer = answerWithout o; store = s; prune = prune } ≡ carriedBy field s prune e o
+  left : (o : Outcome) → (o ≡ outcome.Good → ⊥) → record { answer = answerWithout o; tallied = s; prune = prune } ≡ carriedBy field s prune e o
   unfolding carriedBy
   left outcome.Good n = absurd (n refl)
   left outcome.Illegal n = refl
   left outcome.Bad n = refl
 
-  pub line-left : (e .outcome ≡ outcome.Good → ⊥) → record { answer = answerWithout (e .outcome); store = s; prune = prune } ≡ lineCarried field s prune line
+  pub line-left : (e .outcome ≡ outcome.Good → ⊥) → record { answer = answerWithout (e .outcome); tallied = s; prune = prune } ≡ lineCarried field s prune line
   line-left n = left (e .outcome) n ∙ line-is

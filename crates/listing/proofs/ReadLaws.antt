@@ -75,8 +75,8 @@ module _ (opened : Left) where
       = ap₂ _++_ (h .text) (text-alike field (r .left) ks ls a ∙ ap (λ (w : Left). answersText field w ls) (h .left)) ∙ sym (text-append field opened es ls) in
       let w : linesCarried field (r .left) ks ≡ linesCarried field opened (es ++ ls)
       = lines-alike field (r .left) ks ls a ∙ ap (λ (w : Left). linesCarried field w ls) (h .left) ∙ sym (lines-append field opened es ls) in
-      sym (append-assoc (r .text) (answersText field (r .left) ks) (listText (held field Spt (linesCarried field (r .left) ks .store))))
-      ∙ ap₂ (λ (x : List ℕ) (v : Left). x ++ listText (held field Spt (v .store))) t w
+      sym (append-assoc (r .text) (answersText field (r .left) ks) (listText (held field Spt (linesCarried field (r .left) ks .tallied .store))))
+      ∙ ap₂ (λ (x : List ℕ) (v : Left). x ++ listText (held field Spt (v .tallied .store))) t w
 
 -- No read, and one more.
 pub by-none : (opened : Left) (line : List ℕ) → line ≡ [] → ByReads opened opened line

@@ -1,4 +1,4 @@
--- A line carried out on a store: the answer that is printed, and what the store and the prune list are afterwards.
+-- A line carried out on a store: the answer that is printed, and what the store, its tally and the prune list are afterwards.
 use Prim.Native.Nat.{ℕ}
 use mathlib.Core.List.{List, [], _∷_}
 use mathlib.Core.Bool.{false}
@@ -7,7 +7,7 @@ use Rattle.data_model.specs.Said.{Said, refuses, says}
 use Rattle.data_model.specs.Path.{Figures}
 use Rattle.data_model.specs.Refusal.{illegalPath}
 use Rattle.data_model.specs.declared.entry.Entry.{Entry as EntryValue}
-use Rattle.store.specs.Store.{Store, storeOf}
+use Rattle.store.specs.Store.{Tallied, talliedOf}
 use Rattle.store.specs.Ingest.{Verdict, succeeds, is-obsolete, IngestOutcome, ingested}
 use Rattle.store.specs.declared.state.State.{State}
 use Rattle.store.specs.declared.ingest.Ingestion.{Ingestion}
@@ -48,35 +48,35 @@ answerWithout outcome.Bad = answer.Bad
 
 pub record LineOutcome : Type 0 where
   pub answer : Answer
-  pub store : Store
+  pub tallied : Tallied
   pub prune : List ℕ
 
-abbrev pub lineOutcome : Carried → List ℕ → List ℕ → List ℕ → List ℕ → List ℕ → LineOutcome
-lineOutcome r a b c d prune = record { answer = r .answer; store = storeOf (r .state) a b c d; prune = prune }
+abbrev pub lineOutcome : Carried → (spt sptDir tsp tspDir tally prune : List ℕ) → LineOutcome
+lineOutcome r a b c d t prune = record { answer = r .answer; tallied = talliedOf (r .state) a b c d t; prune = prune }
 
 abbrev pub afterIngest : IngestOutcome → LineOutcome
-afterIngest o = record { answer = answerOf (o .answer .verdict); store = o .store; prune = o .prune }
+afterIngest o = record { answer = answerOf (o .answer .verdict); tallied = o .left; prune = o .prune }
 
 -- The entry of a good line is ingested; a line that is answered `bad` or `refused 4` leaves all as it is.
-unfoldable pub carriedBy : Figures → Store → (prune : List ℕ) → EntryLine → Outcome → LineOutcome
+unfoldable pub carriedBy : Figures → Tallied → (prune : List ℕ) → EntryLine → Outcome → LineOutcome
 carriedBy f s prune e outcome.Good = afterIngest (ingested f s prune (ingestionOfLine e))
-carriedBy f s prune e outcome.Illegal = record { answer = answerWithout outcome.Illegal; store = s; prune = prune }
-carriedBy f s prune e outcome.Bad = record { answer = answerWithout outcome.Bad; store = s; prune = prune }
+carriedBy f s prune e outcome.Illegal = record { answer = answerWithout outcome.Illegal; tallied = s; prune = prune }
+carriedBy f s prune e outcome.Bad = record { answer = answerWithout outcome.Bad; tallied = s; prune = prune }
 
-unfoldable pub lineCarried : Figures → Store → (prune line : List ℕ) → LineOutcome
+unfoldable pub lineCarried : Figures → Tallied → (prune line : List ℕ) → LineOutcome
 lineCarried f s prune line = carriedBy f s prune (lineRead line) (lineRead line .outcome)
 
--- Lines carried out one after another, each on what the one before it left: a store and a prune list.
+-- Lines carried out one after another, each on what the one before it left: a store with its tally, and a prune list.
 pub record Left : Type 0 where
-  pub store : Store
+  pub tallied : Tallied
   pub prune : List ℕ
 
-abbrev pub leaving : State → (spt sptDir tsp tspDir prune : List ℕ) → Left
-leaving s a b c d prune = record { store = storeOf s a b c d; prune = prune }
+abbrev pub leaving : State → (spt sptDir tsp tspDir tally prune : List ℕ) → Left
+leaving s a b c d t prune = record { tallied = talliedOf s a b c d t; prune = prune }
 
 abbrev pub leftIn : LineOutcome → Left
-leftIn o = record { store = o .store; prune = o .prune }
+leftIn o = record { tallied = o .tallied; prune = o .prune }
 
 unfoldable pub linesCarried : Figures → Left → List (List ℕ) → Left
 linesCarried f w [] = w
-linesCarried f w (l ∷ ls) = linesCarried f (leftIn (lineCarried f (w .store) (w .prune) l)) ls
+linesCarried f w (l ∷ ls) = linesCarried f (leftIn (lineCarried f (w .tallied) (w .prune) l)) ls

@@ -51,13 +51,14 @@ fn answer_line(
     spt_dir: &mut [u32],
     tsp: &mut [u8],
     tsp_dir: &mut [u32],
+    tally: &mut [u8],
     prune: &mut [u32],
     out: &mut [u8],
 ) -> Answered
     requires { ⌜ answerTextMost ≤ length (now out) ⌝ }
-    ensures { λ r. ⌜ (r .written ≤ answerTextMost) × (asWritten r (now (spt .exit)) (now («spt_dir» .exit)) (now (tsp .exit)) (now («tsp_dir» .exit)) (now (prune .exit)) (now (out .exit)) ≡ linesWritten field (leaving given (now (spt .entry)) (now («spt_dir» .entry)) (now (tsp .entry)) (now («tsp_dir» .entry)) (now (prune .entry))) (now (line .entry) ∷ []) (now (out .entry))) ⌝ }
+    ensures { λ r. ⌜ (r .written ≤ answerTextMost) × (asWritten r (now (spt .exit)) (now («spt_dir» .exit)) (now (tsp .exit)) (now («tsp_dir» .exit)) (now (tally .exit)) (now (prune .exit)) (now (out .exit)) ≡ linesWritten field (leaving given (now (spt .entry)) (now («spt_dir» .entry)) (now (tsp .entry)) (now («tsp_dir» .entry)) (now (tally .entry)) (now (prune .entry))) (now (line .entry) ∷ []) (now (out .entry))) ⌝ }
 {
-    let a = carry_out(line, given, spt, spt_dir, tsp, tsp_dir, prune);
+    let a = carry_out(line, given, spt, spt_dir, tsp, tsp_dir, tally, prune);
     let answer = a.answer;
     let state = a.state;
     let n = write_answer(answer, out);
@@ -73,13 +74,14 @@ pub fn answer_part(
     spt_dir: &mut [u32],
     tsp: &mut [u8],
     tsp_dir: &mut [u32],
+    tally: &mut [u8],
     prune: &mut [u32],
     line: &mut [u8],
     so_far: usize,
     out: &mut [u8],
 ) -> Part
     requires { ⌜ (length (now line) ≡ keptMost) × («so_far» ≤ keptMost) × (answerTextMost * length (now bytes) ≤ length (now out)) ⌝ }
-    ensures { λ r. ⌜ (r .kept ≤ keptMost) × (r .written ≤ length (now (out .entry))) × (asWrittenPart r (now (spt .exit)) (now («spt_dir» .exit)) (now (tsp .exit)) (now («tsp_dir» .exit)) (now (prune .exit)) (now (line .exit)) (now (out .exit)) ≡ partWritten field (leaving given (now (spt .entry)) (now («spt_dir» .entry)) (now (tsp .entry)) (now («tsp_dir» .entry)) (now (prune .entry))) (take «so_far» (now (line .entry))) (now (bytes .entry)) (now (out .entry))) ⌝ }
+    ensures { λ r. ⌜ (r .kept ≤ keptMost) × (r .written ≤ length (now (out .entry))) × (asWrittenPart r (now (spt .exit)) (now («spt_dir» .exit)) (now (tsp .exit)) (now («tsp_dir» .exit)) (now (tally .exit)) (now (prune .exit)) (now (line .exit)) (now (out .exit)) ≡ partWritten field (leaving given (now (spt .entry)) (now («spt_dir» .entry)) (now (tsp .entry)) (now («tsp_dir» .entry)) (now (tally .entry)) (now (prune .entry))) (take «so_far» (now (line .entry))) (now (bytes .entry)) (now (out .entry))) ⌝ }
 {
     let mut state = given;
     let mut n = so_far;
@@ -89,7 +91,17 @@ pub fn answer_part(
     while stop < bytes.len() {
         let m = append(line, n, &bytes[at..stop]);
         let l = &line[..m];
-        let a = answer_line(l, state, spt, spt_dir, tsp, tsp_dir, prune, &mut out[to..]);
+        let a = answer_line(
+            l,
+            state,
+            spt,
+            spt_dir,
+            tsp,
+            tsp_dir,
+            tally,
+            prune,
+            &mut out[to..],
+        );
         let after = a.state;
         state = after;
         to += a.written;
@@ -113,11 +125,12 @@ fn answer_last(
     spt_dir: &mut [u32],
     tsp: &mut [u8],
     tsp_dir: &mut [u32],
+    tally: &mut [u8],
     prune: &mut [u32],
     out: &mut [u8],
 ) -> Answered
     requires { ⌜ answerTextMost ≤ length (now out) ⌝ }
-    ensures { λ r. ⌜ (r .written ≤ answerTextMost) × (asWritten r (now (spt .exit)) (now («spt_dir» .exit)) (now (tsp .exit)) (now («tsp_dir» .exit)) (now (prune .exit)) (now (out .exit)) ≡ linesWritten field (leaving given (now (spt .entry)) (now («spt_dir» .entry)) (now (tsp .entry)) (now («tsp_dir» .entry)) (now (prune .entry))) (lastLine (now (line .entry))) (now (out .entry))) ⌝ }
+    ensures { λ r. ⌜ (r .written ≤ answerTextMost) × (asWritten r (now (spt .exit)) (now («spt_dir» .exit)) (now (tsp .exit)) (now («tsp_dir» .exit)) (now (tally .exit)) (now (prune .exit)) (now (out .exit)) ≡ linesWritten field (leaving given (now (spt .entry)) (now («spt_dir» .entry)) (now (tsp .entry)) (now («tsp_dir» .entry)) (now (tally .entry)) (now (prune .entry))) (lastLine (now (line .entry))) (now (out .entry))) ⌝ }
 {
     if line.len() == 0 {
         return Answered {
@@ -125,7 +138,7 @@ fn answer_last(
             written: 0,
         };
     }
-    answer_line(line, given, spt, spt_dir, tsp, tsp_dir, prune, out)
+    answer_line(line, given, spt, spt_dir, tsp, tsp_dir, tally, prune, out)
 }
 
 // The end of the input: the answer to its last line, and the list.
@@ -136,13 +149,14 @@ pub fn answer_end(
     spt_dir: &mut [u32],
     tsp: &mut [u8],
     tsp_dir: &mut [u32],
+    tally: &mut [u8],
     prune: &mut [u32],
     out: &mut [u8],
 ) -> usize
-    requires { ⌜ AfterReads (leaving given (now spt) (now «spt_dir») (now tsp) (now «tsp_dir») (now prune)) (now line) × (answerTextMost + listTextMost programLimit ≤ length (now out)) ⌝ }
-    ensures { λ r. ⌜ (r ≡ length (answersAndList (leaving given (now (spt .entry)) (now («spt_dir» .entry)) (now (tsp .entry)) (now («tsp_dir» .entry)) (now (prune .entry))) (lastLine (now (line .entry))))) × (r ≤ length (now (out .entry))) × (now (out .exit) ≡ put (answersAndList (leaving given (now (spt .entry)) (now («spt_dir» .entry)) (now (tsp .entry)) (now («tsp_dir» .entry)) (now (prune .entry))) (lastLine (now (line .entry)))) (now (out .entry))) ⌝ }
+    requires { ⌜ AfterReads (leaving given (now spt) (now «spt_dir») (now tsp) (now «tsp_dir») (now tally) (now prune)) (now line) × (answerTextMost + listTextMost programLimit ≤ length (now out)) ⌝ }
+    ensures { λ r. ⌜ (r ≡ length (answersAndList (leaving given (now (spt .entry)) (now («spt_dir» .entry)) (now (tsp .entry)) (now («tsp_dir» .entry)) (now (tally .entry)) (now (prune .entry))) (lastLine (now (line .entry))))) × (r ≤ length (now (out .entry))) × (now (out .exit) ≡ put (answersAndList (leaving given (now (spt .entry)) (now («spt_dir» .entry)) (now (tsp .entry)) (now («tsp_dir» .entry)) (now (tally .entry)) (now (prune .entry))) (lastLine (now (line .entry)))) (now (out .entry))) ⌝ }
 {
-    let a = answer_last(line, given, spt, spt_dir, tsp, tsp_dir, prune, out);
+    let a = answer_last(line, given, spt, spt_dir, tsp, tsp_dir, tally, prune, out);
     let state = a.state;
     let n = a.written;
     n + write_list(state, spt, spt_dir, tsp, tsp_dir, &mut out[n..])

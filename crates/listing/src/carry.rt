@@ -12,7 +12,7 @@ use text::entry_line::read_line;
 use text::path::Outcome;
 ghost use mathlib.Core.Path.{_≡_};
 ghost use Rattle.data_model.specs.Path.{field};
-ghost use Rattle.store.specs.Store.{storeOf};
+ghost use Rattle.store.specs.Store.{talliedOf};
 ghost use Rattle.store.specs.Ingest.{verdictSays};
 ghost use Rattle.listing.specs.Carry.{entryOfLine, ingestionOfLine, answerOf, answerWithout, lineOutcome, lineCarried};
 
@@ -88,9 +88,10 @@ pub fn carry_out(
     spt_dir: &mut [u32],
     tsp: &mut [u8],
     tsp_dir: &mut [u32],
+    tally: &mut [u8],
     prune: &mut [u32],
 ) -> Carried
-    ensures { λ r. ⌜ lineOutcome r (now (spt .exit)) (now («spt_dir» .exit)) (now (tsp .exit)) (now («tsp_dir» .exit)) (now (prune .exit)) ≡ lineCarried field (storeOf state (now (spt .entry)) (now («spt_dir» .entry)) (now (tsp .entry)) (now («tsp_dir» .entry))) (now (prune .entry)) (now (line .entry)) ⌝ }
+    ensures { λ r. ⌜ lineOutcome r (now (spt .exit)) (now («spt_dir» .exit)) (now (tsp .exit)) (now («tsp_dir» .exit)) (now (tally .exit)) (now (prune .exit)) ≡ lineCarried field (talliedOf state (now (spt .entry)) (now («spt_dir» .entry)) (now (tsp .entry)) (now («tsp_dir» .entry)) (now (tally .entry))) (now (prune .entry)) (now (line .entry)) ⌝ }
 {
     let e = read_line(line);
     let outcome = e.outcome;
@@ -101,6 +102,7 @@ pub fn carry_out(
             spt_dir,
             tsp,
             tsp_dir,
+            tally,
             prune,
             ingestion_of_line(e),
         );

@@ -8,6 +8,7 @@ use libc::STDOUT_FILENO;
 use store::open::open;
 use store::state::RECORD_MOST;
 use store::state::State;
+use tally::item::ITEM;
 use text::entry_line::LINE_MOST;
 ghost use mathlib.Core.Path.{_≡_};
 ghost use mathlib.Core.Bool.{cond};
@@ -15,6 +16,7 @@ ghost use Prim.Native.Nat.{_*_, _-_, _≤_, _<_};
 ghost use lib.Dec.{ltb};
 ghost use lib.ListN.{length, take};
 ghost use Rattle.data_model.specs.Path.{field};
+ghost use Rattle.tally.specs.Tally.{tallyRoom};
 ghost use Rattle.store.specs.Store.{treeRoom, dirRoom};
 ghost use Rattle.listing.specs.Carry.{leaving};
 ghost use Rattle.listing.specs.Say.{answerTextMost};
@@ -31,6 +33,8 @@ const LIMIT: usize = 64;
 const TREE: usize = RECORD_MOST * LIMIT;
 
 const NUMBERS: usize = 2 * LIMIT;
+
+const TALLY: usize = ITEM * LIMIT;
 
 // The most bytes of a read, of its answers, and of a line that is kept.
 const READ: usize = 2048;
@@ -55,6 +59,12 @@ fn numbers() -> [u32; NUMBERS]
     ensures { λ r. ⌜ length r ≡ dirRoom programLimit ⌝ }
 {
     [0; NUMBERS]
+}
+
+fn tally_bytes() -> [u8; TALLY]
+    ensures { λ r. ⌜ length r ≡ tallyRoom programLimit ⌝ }
+{
+    [0; TALLY]
 }
 
 fn read_bytes() -> [u8; READ]
@@ -94,12 +104,13 @@ fn answer_reads(
     spt_dir: &mut [u32],
     tsp: &mut [u8],
     tsp_dir: &mut [u32],
+    tally: &mut [u8],
     prune: &mut [u32],
     line: &mut [u8],
     out: &mut [u8],
 ) -> Begun
     requires { ⌜ (length (now line) ≡ keptMost) × (answerTextMost * readMost ≤ length (now out)) ⌝ }
-    ensures { λ r. ⌜ (r .kept ≤ keptMost) × ByReads (leaving opened (now (spt .entry)) (now («spt_dir» .entry)) (now (tsp .entry)) (now («tsp_dir» .entry)) (now (prune .entry))) (leaving (r .state) (now (spt .exit)) (now («spt_dir» .exit)) (now (tsp .exit)) (now («tsp_dir» .exit)) (now (prune .exit))) (take (r .kept) (now (line .exit))) ⌝ }
+    ensures { λ r. ⌜ (r .kept ≤ keptMost) × ByReads (leaving opened (now (spt .entry)) (now («spt_dir» .entry)) (now (tsp .entry)) (now («tsp_dir» .entry)) (now (tally .entry)) (now (prune .entry))) (leaving (r .state) (now (spt .exit)) (now («spt_dir» .exit)) (now (tsp .exit)) (now («tsp_dir» .exit)) (now (tally .exit)) (now (prune .exit))) (take (r .kept) (now (line .exit))) ⌝ }
 {
     let mut state = opened;
     let mut n: usize = 0;
@@ -114,6 +125,7 @@ fn answer_reads(
             spt_dir,
             tsp,
             tsp_dir,
+            tally,
             prune,
             line,
             n,
@@ -129,24 +141,35 @@ fn answer_reads(
     Begun { state, kept: n }
 }
 
-// The program over its buffers: the store's and the prune list, with the limit's room, the line's, and the answers'.
+// The program over its buffers: the store's, its tally and the prune list, with the limit's room, the line's, and the answers'.
 fn run(
     spt: &mut [u8],
     spt_dir: &mut [u32],
     tsp: &mut [u8],
     tsp_dir: &mut [u32],
+    tally: &mut [u8],
     prune: &mut [u32],
     line: &mut [u8],
     out: &mut [u8],
 )
-    requires { ⌜ (treeRoom field programLimit ≤ length (now spt)) × (dirRoom programLimit ≤ length (now «spt_dir»)) × (treeRoom field programLimit ≤ length (now tsp)) × (dirRoom programLimit ≤ length (now «tsp_dir»)) × (dirRoom programLimit ≤ length (now prune)) × (length (now line) ≡ keptMost) × (answerTextMost * readMost ≤ length (now out)) ⌝ }
+    requires { ⌜ (treeRoom field programLimit ≤ length (now spt)) × (dirRoom programLimit ≤ length (now «spt_dir»)) × (treeRoom field programLimit ≤ length (now tsp)) × (dirRoom programLimit ≤ length (now «tsp_dir»)) × (tallyRoom programLimit ≤ length (now tally)) × (dirRoom programLimit ≤ length (now prune)) × (length (now line) ≡ keptMost) × (answerTextMost * readMost ≤ length (now out)) ⌝ }
 {
-    let o = open([0; 16], LIMIT, spt, spt_dir, tsp, tsp_dir);
+    let o = open([0; 16], LIMIT, spt, spt_dir, tsp, tsp_dir, tally);
     let opened = o.state;
-    let b = answer_reads(opened, spt, spt_dir, tsp, tsp_dir, prune, line, out);
+    let b = answer_reads(opened, spt, spt_dir, tsp, tsp_dir, tally, prune, line, out);
     let state = b.state;
     let kept = b.kept;
-    let n = answer_end(&line[..kept], state, spt, spt_dir, tsp, tsp_dir, prune, out);
+    let n = answer_end(
+        &line[..kept],
+        state,
+        spt,
+        spt_dir,
+        tsp,
+        tsp_dir,
+        tally,
+        prune,
+        out,
+    );
     io::write_all(STDOUT_FILENO, &out[..n]);
 }
 
@@ -155,6 +178,7 @@ fn main() {
     let mut spt_dir = numbers();
     let mut tsp = tree_bytes();
     let mut tsp_dir = numbers();
+    let mut tally = tally_bytes();
     let mut prune = numbers();
     let mut line = line_bytes();
     let mut out = answer_bytes();
@@ -163,6 +187,7 @@ fn main() {
         &mut spt_dir,
         &mut tsp,
         &mut tsp_dir,
+        &mut tally,
         &mut prune,
         &mut line,
         &mut out,

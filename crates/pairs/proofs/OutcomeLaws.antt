@@ -21,8 +21,8 @@ use Rattle.data_model.specs.declared.entry.Entry.{Entry as EntryValue}
 use Rattle.tree.specs.Matching.{removes}
 use Rattle.tree.specs.declared.stored.KeyOrder.the-variants.{Spt}
 use Rattle.tree.proofs.FormedContents.{formed-many}
-use Rattle.store.specs.Store.{Store, limitMost, dirRoom, dirOf, held}
-use Rattle.store.specs.Refusal.{unless, _orElse_, limitOk, storeRefusal}
+use Rattle.store.specs.Store.{Store, limitMost, dirRoom, dirOf, held, Tallied}
+use Rattle.store.specs.Refusal.{unless, _orElse_, limitOk, storeRefusal, talliedRefusal}
 use Rattle.store.specs.Ingest.{succeeds, IngestSaid, Decision, refuse, obsolete, take-it, ingestRefusal, judged, MayFile, IngestOutcome, ingestOutcome, prunedPairs, carried, ingested}
 use Rattle.store.specs.declared.ingest.Ingestion.{Ingestion}
 use Rattle.store.proofs.CheckLaws.{limit-most}
@@ -41,24 +41,24 @@ zeros-front (suc i) zero g = absurd (let y : suc i ≤ 0 = g in omega arith)
 zeros-front (suc i) (suc j) g = ap (0 ∷_) (zeros-front i j (omega arith))
 
 -- The front of an array of zeros that the core was lent, and is back.
-pub with-front : (r : IngestSaid) (a b c d part : List ℕ) (n m : ℕ) (s : Store) (i : Ingestion)
+pub with-front : (r : IngestSaid) (a b c d t part : List ℕ) (n m : ℕ) (w : Tallied) (i : Ingestion)
     → n ≡ m → n ≤ 2 * limitMost → length part ≡ length (take n (zeros 2048))
-    → ingestOutcome r a b c d part ≡ ingested field s (take n (zeros 2048)) i
-    → ingestOutcome r a b c d (take m (part ++ drop n (zeros 2048))) ≡ ingested field s (zeros m) i
-with-front r a b c d part n m s i q h l eq =
+    → ingestOutcome r a b c d t part ≡ ingested field w (take n (zeros 2048)) i
+    → ingestOutcome r a b c d t (take m (part ++ drop n (zeros 2048))) ≡ ingested field w (zeros m) i
+with-front r a b c d t part n m w i q h l eq =
     let z : length (zeros 2048) ≡ 2048 = length-replicate {A = ℕ} 2048 0 in
     let k : length part ≡ m = l ∙ length-take-le n (zeros 2048) (omega arith) ∙ q in
-    ap (ingestOutcome r a b c d) (take-at part (drop n (zeros 2048)) m k)
+    ap (ingestOutcome r a b c d t) (take-at part (drop n (zeros 2048)) m k)
     ∙ eq
-    ∙ ap (λ (p : List ℕ). ingested field s p i) (ap (λ (j : ℕ). take j (zeros 2048)) q ∙ zeros-front m 2048 (omega arith))
+    ∙ ap (λ (p : List ℕ). ingested field w p i) (ap (λ (j : ℕ). take j (zeros 2048)) q ∙ zeros-front m 2048 (omega arith))
 
 -- Of a prune list the refusals look at its room alone.
-module _ (s : Store) (p p′ : List ℕ) (e : EntryValue) (prevent : Bool) where
-  same-refusal : (limitOk (s .state .limit) ≡ true → leb (dirRoom (s .state .limit)) (length p) ≡ leb (dirRoom (s .state .limit)) (length p′)) → ingestRefusal field s p e ≡ ingestRefusal field s p′ e
-  unfolding ingestRefusal storeRefusal unless _orElse_
-  same-refusal h = split (limitOk (s .state .limit)) (λ q. rw (h q)) (λ q. rw q)
+module _ (w : Tallied) (p p′ : List ℕ) (e : EntryValue) (prevent : Bool) where
+  same-refusal : (limitOk (w .store .state .limit) ≡ true → leb (dirRoom (w .store .state .limit)) (length p) ≡ leb (dirRoom (w .store .state .limit)) (length p′)) → ingestRefusal field w p e ≡ ingestRefusal field w p′ e
+  unfolding ingestRefusal talliedRefusal storeRefusal unless _orElse_
+  same-refusal h = split (limitOk (w .store .state .limit)) (λ q. rw (h q)) (λ q. rw q)
 
-  same-judged : ingestRefusal field s p e ≡ ingestRefusal field s p′ e → judged field s p e prevent ≡ judged field s p′ e prevent
+  same-judged : ingestRefusal field w p e ≡ ingestRefusal field w p′ e → judged field w p e prevent ≡ judged field w p′ e prevent
   unfolding judged
   same-judged h = rw h
 
@@ -105,23 +105,23 @@ module _ (s : Store) (prune : List ℕ) (e : EntryValue) (may : MayFile field s 
       omega (arith, holds)
 
 -- The outcome with pairs, and that the pairs have room for what is counted.
-pub record Layered (s : Store) (ps : List Pair) (i : Ingestion) (r : IngestSaid) (a b c d ns : List ℕ) (n : ℕ) : Type 0 where
+pub record Layered (w : Tallied) (ps : List Pair) (i : Ingestion) (r : IngestSaid) (a b c d t ns : List ℕ) (n : ℕ) : Type 0 where
   pub few : 2 * n ≤ numbersUsed (length ps)
-  pub done : (w : List Pair) → w ≡ put (pairsOf (take (2 * n) ns)) ps → pairsOutcome r a b c d w ≡ pairsIngested field s ps i
+  pub done : (now : List Pair) → now ≡ put (pairsOf (take (2 * n) ns)) ps → pairsOutcome r a b c d t now ≡ pairsIngested field w ps i
 
-module _ (s : Store) (ps : List Pair) (i : Ingestion) (r : IngestSaid) (a b c d ns : List ℕ) (n : ℕ)
-    (eq : ingestOutcome r a b c d (take (numbersUsed (length ps)) ns) ≡ ingested field s (zeros (numbersUsed (length ps))) i) (en : n ≡ prunedCount (r .verdict)) where
+module _ (w : Tallied) (ps : List Pair) (i : Ingestion) (r : IngestSaid) (a b c d t ns : List ℕ) (n : ℕ)
+    (eq : ingestOutcome r a b c d t (take (numbersUsed (length ps)) ns) ≡ ingested field w (zeros (numbersUsed (length ps))) i) (en : n ≡ prunedCount (r .verdict)) where
   abbrev own : List ℕ
   own = zeros (numbersUsed (length ps))
 
   -- Both prune lists lead to one decision.
-  decides : judged field s own (i .entry) (i .«prevent_pruning») ≡ judged field s (numbersOf ps) (i .entry) (i .«prevent_pruning»)
-  decides = same-judged s own (numbersOf ps) (i .entry) (i .«prevent_pruning») (same-refusal s own (numbersOf ps) (i .entry) (i .«prevent_pruning») (same-room (s .state .limit) ps))
+  decides : judged field w own (i .entry) (i .«prevent_pruning») ≡ judged field w (numbersOf ps) (i .entry) (i .«prevent_pruning»)
+  decides = same-judged w own (numbersOf ps) (i .entry) (i .«prevent_pruning») (same-refusal w own (numbersOf ps) (i .entry) (i .«prevent_pruning») (same-room (w .store .state .limit) ps))
 
   -- Nothing is pruned: the pairs are as they were.
-  nothing-put : (w : List Pair) → n ≡ 0 → w ≡ put (pairsOf (take (2 * n) ns)) ps → w ≡ pairsOf (numbersOf ps)
+  nothing-put : (now : List Pair) → n ≡ 0 → now ≡ put (pairsOf (take (2 * n) ns)) ps → now ≡ pairsOf (numbersOf ps)
   unfolding put pairsOf
-  nothing-put w z q = q ∙ ap (λ (m : ℕ). put (pairsOf (take (2 * m) ns)) ps) z ∙ sym (pairs-again ps)
+  nothing-put now z q = q ∙ ap (λ (m : ℕ). put (pairsOf (take (2 * m) ns)) ps) z ∙ sym (pairs-again ps)
 
   -- What was put at the front of the numbers.
   front : (xs old : List ℕ) (m : ℕ) → length xs ≡ 2 * m → 2 * m ≤ numbersUsed (length ps) → take (numbersUsed (length ps)) ns ≡ put xs old → take (2 * m) ns ≡ xs
@@ -129,48 +129,48 @@ module _ (s : Store) (ps : List Pair) (i : Ingestion) (r : IngestSaid) (a b c d 
   front xs old m l f q =
       sym (take-take (2 * m) (numbersUsed (length ps)) ns f) ∙ ap (take (2 * m)) q ∙ take-at xs (drop (length xs) old) (2 * m) l
 
-  by-decision : (x : Decision) → judged field s own (i .entry) (i .«prevent_pruning») ≡ x → Layered s ps i r a b c d ns n
+  by-decision : (x : Decision) → judged field w own (i .entry) (i .«prevent_pruning») ≡ x → Layered w ps i r a b c d t ns n
   unfolding ingested carried pairsIngested
   by-decision (refuse k) j =
-      let q : ingestOutcome r a b c d (take (numbersUsed (length ps)) ns) ≡ carried field s own (entryOf (i .entry)) (i .token) (refuse k) = eq ∙ ap (carried field s own (entryOf (i .entry)) (i .token)) j in
+      let q : ingestOutcome r a b c d t (take (numbersUsed (length ps)) ns) ≡ carried field w own (entryOf (i .entry)) (i .token) (refuse k) = eq ∙ ap (carried field w own (entryOf (i .entry)) (i .token)) j in
       let z : n ≡ 0 = en ∙ ap (λ (x : IngestOutcome). prunedCount (x .answer .verdict)) q in
       record {
         few = omega arith;
-        done = λ w h.
-            (λ k. record { answer = q k .answer; store = q k .store; pairs = nothing-put w z h k })
-            ∙ sym (ap (λ (x : Decision). inPairs (carried field s (numbersOf ps) (entryOf (i .entry)) (i .token) x)) (sym decides ∙ j));
+        done = λ now h.
+            (λ k. record { answer = q k .answer; left = q k .left; pairs = nothing-put now z h k })
+            ∙ sym (ap (λ (x : Decision). inPairs (carried field w (numbersOf ps) (entryOf (i .entry)) (i .token) x)) (sym decides ∙ j));
       }
   by-decision (obsolete x) j =
-      let q : ingestOutcome r a b c d (take (numbersUsed (length ps)) ns) ≡ carried field s own (entryOf (i .entry)) (i .token) (obsolete x) = eq ∙ ap (carried field s own (entryOf (i .entry)) (i .token)) j in
+      let q : ingestOutcome r a b c d t (take (numbersUsed (length ps)) ns) ≡ carried field w own (entryOf (i .entry)) (i .token) (obsolete x) = eq ∙ ap (carried field w own (entryOf (i .entry)) (i .token)) j in
       let z : n ≡ 0 = en ∙ ap (λ (x : IngestOutcome). prunedCount (x .answer .verdict)) q in
       record {
         few = omega arith;
-        done = λ w h.
-            (λ k. record { answer = q k .answer; store = q k .store; pairs = nothing-put w z h k })
-            ∙ sym (ap (λ (x : Decision). inPairs (carried field s (numbersOf ps) (entryOf (i .entry)) (i .token) x)) (sym decides ∙ j));
+        done = λ now h.
+            (λ k. record { answer = q k .answer; left = q k .left; pairs = nothing-put now z h k })
+            ∙ sym (ap (λ (x : Decision). inPairs (carried field w (numbersOf ps) (entryOf (i .entry)) (i .token) x)) (sym decides ∙ j));
       }
   by-decision take-it j =
-      let m = removedBy s (i .entry) in
-      let pruned = prunedPairs field s (entryOf (i .entry)) in
-      let q : ingestOutcome r a b c d (take (numbersUsed (length ps)) ns) ≡ carried field s own (entryOf (i .entry)) (i .token) take-it = eq ∙ ap (carried field s own (entryOf (i .entry)) (i .token)) j in
+      let m = removedBy (w .store) (i .entry) in
+      let pruned = prunedPairs field (w .store) (entryOf (i .entry)) in
+      let q : ingestOutcome r a b c d t (take (numbersUsed (length ps)) ns) ≡ carried field w own (entryOf (i .entry)) (i .token) take-it = eq ∙ ap (carried field w own (entryOf (i .entry)) (i .token)) j in
       let v : r .verdict ≡ says (succeeds m) = ap (λ (x : IngestOutcome). x .answer .verdict) q in
       let z : n ≡ m = en ∙ ap prunedCount v in
-      let may = success-may s own i r (ap (λ (x : IngestOutcome). x .answer) eq) m v in
-      let l = pruned-length s own (i .entry) may in
-      let f : 2 * m ≤ numbersUsed (length ps) = omega (arith, pruned-fits s own (i .entry) may, length-replicate {A = ℕ} (numbersUsed (length ps)) 0) in
-      let g : (w : List Pair) → w ≡ put (pairsOf (take (2 * n) ns)) ps → w ≡ pairsOf (put pruned (numbersOf ps)) =
-      λ w h. h ∙ ap (λ (k : ℕ). put (pairsOf (take (2 * k) ns)) ps) z
+      let may = success-may w own i r (ap (λ (x : IngestOutcome). x .answer) eq) m v in
+      let l = pruned-length (w .store) own (i .entry) may in
+      let f : 2 * m ≤ numbersUsed (length ps) = omega (arith, pruned-fits (w .store) own (i .entry) may, length-replicate {A = ℕ} (numbersUsed (length ps)) 0) in
+      let g : (now : List Pair) → now ≡ put (pairsOf (take (2 * n) ns)) ps → now ≡ pairsOf (put pruned (numbersOf ps)) =
+      λ now h. h ∙ ap (λ (k : ℕ). put (pairsOf (take (2 * k) ns)) ps) z
       ∙ ap (λ (x : List ℕ). put (pairsOf x) ps) (front pruned own m l f (ap (λ (x : IngestOutcome). x .prune) q))
       ∙ sym (pairs-put m pruned ps l) in
       record {
         few = omega arith;
-        done = λ w h.
-            (λ k. record { answer = q k .answer; store = q k .store; pairs = g w h k })
-            ∙ sym (ap (λ (x : Decision). inPairs (carried field s (numbersOf ps) (entryOf (i .entry)) (i .token) x)) (sym decides ∙ j));
+        done = λ now h.
+            (λ k. record { answer = q k .answer; left = q k .left; pairs = g now h k })
+            ∙ sym (ap (λ (x : Decision). inPairs (carried field w (numbersOf ps) (entryOf (i .entry)) (i .token) x)) (sym decides ∙ j));
       }
 
-  pub layered : Layered s ps i r a b c d ns n
-  layered = by-decision (judged field s own (i .entry) (i .«prevent_pruning»)) refl
+  pub layered : Layered w ps i r a b c d t ns n
+  layered = by-decision (judged field w own (i .entry) (i .«prevent_pruning»)) refl
 
   pub in-room : (n ≤ limitMost) × (n ≤ length ps)
   unfolding numbersUsed

@@ -4,7 +4,7 @@ use Prim.Native.Nat.{ℕ, _*_, min}
 use mathlib.Core.List.{List, [], _∷_}
 use Rattle.data_model.specs.Said.{Said, refuses, says}
 use Rattle.data_model.specs.Path.{Figures}
-use Rattle.store.specs.Store.{Store, storeOf, limitMost}
+use Rattle.store.specs.Store.{limitMost, Tallied, talliedOf}
 use Rattle.store.specs.Ingest.{Verdict, succeeds, is-obsolete, IngestSaid, IngestOutcome, ingested}
 use Rattle.store.specs.declared.ingest.Ingestion.{Ingestion}
 use Rattle.pairs.specs.declared.Pair.{Pair}
@@ -32,19 +32,19 @@ prunedCount (refuses n) = 0
 unfoldable pub numbersUsed : (pairs : ℕ) → ℕ
 numbersUsed n = 2 * min n limitMost
 
--- The answer, the store and the pairs afterwards.
+-- The answer; the store and its tally, and the pairs afterwards.
 pub record PairsOutcome : Type 0 where
   pub answer : IngestSaid
-  pub store : Store
+  pub left : Tallied
   pub pairs : List Pair
 
-abbrev pub pairsOutcome : IngestSaid → List ℕ → List ℕ → List ℕ → List ℕ → List Pair → PairsOutcome
-pairsOutcome r a b c d pairs = record { answer = r; store = storeOf (r .state) a b c d; pairs = pairs }
+abbrev pub pairsOutcome : IngestSaid → List ℕ → List ℕ → List ℕ → List ℕ → (tally : List ℕ) → List Pair → PairsOutcome
+pairsOutcome r a b c d t pairs = record { answer = r; left = talliedOf (r .state) a b c d t; pairs = pairs }
 
 -- The core's outcome, with pairs in place of numbers.
 abbrev pub inPairs : IngestOutcome → PairsOutcome
-inPairs c = record { answer = c .answer; store = c .store; pairs = pairsOf (c .prune) }
+inPairs c = record { answer = c .answer; left = c .left; pairs = pairsOf (c .prune) }
 
 -- The pairs lent are the prune list: with a right limit, 2 if they are fewer than it; and nothing past the new pairs is touched.
-unfoldable pub pairsIngested : Figures → Store → List Pair → Ingestion → PairsOutcome
-pairsIngested f s pairs i = inPairs (ingested f s (numbersOf pairs) i)
+unfoldable pub pairsIngested : Figures → Tallied → List Pair → Ingestion → PairsOutcome
+pairsIngested f w pairs i = inPairs (ingested f w (numbersOf pairs) i)

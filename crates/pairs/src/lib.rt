@@ -11,7 +11,7 @@ ghost use Prim.Native.Nat.{_*_, _≤_};
 ghost use lib.ListN.{length, take, replicate};
 ghost use Rattle.laws.specs.Lists.{put};
 ghost use Rattle.data_model.specs.Path.{field};
-ghost use Rattle.store.specs.Store.{limitMost, storeOf};
+ghost use Rattle.store.specs.Store.{limitMost, talliedOf};
 ghost use Rattle.store.specs.Ingest.{verdictSays, ingestedSays, ingestOutcome, ingested};
 ghost use Rattle.pairs.specs.Pairs.{pairsOf, numbersOf, prunedCount, numbersUsed, pairsOutcome, pairsIngested};
 
@@ -59,10 +59,11 @@ pub fn ingest_with_room(
     spt_dir: &mut [u32],
     tsp: &mut [u8],
     tsp_dir: &mut [u32],
+    tally: &mut [u8],
     room: usize,
     ingestion: Ingestion,
 ) -> NumbersIngested
-    ensures { λ r. ⌜ (ingestOutcome (ingestedSays (r .ingested)) (now (spt .exit)) (now («spt_dir» .exit)) (now (tsp .exit)) (now («tsp_dir» .exit)) (take (numbersUsed room) (r .numbers)) ≡ ingested field (storeOf state (now (spt .entry)) (now («spt_dir» .entry)) (now (tsp .entry)) (now («tsp_dir» .entry))) (replicate (numbersUsed room) 0) ingestion) × (r .count ≡ prunedCount (verdictSays (r .ingested .verdict))) ⌝ }
+    ensures { λ r. ⌜ (ingestOutcome (ingestedSays (r .ingested)) (now (spt .exit)) (now («spt_dir» .exit)) (now (tsp .exit)) (now («tsp_dir» .exit)) (now (tally .exit)) (take (numbersUsed room) (r .numbers)) ≡ ingested field (talliedOf state (now (spt .entry)) (now («spt_dir» .entry)) (now (tsp .entry)) (now («tsp_dir» .entry)) (now (tally .entry))) (replicate (numbersUsed room) 0) ingestion) × (r .count ≡ prunedCount (verdictSays (r .ingested .verdict))) ⌝ }
 {
     let mut numbers = [0u32; NUMBERS_MOST];
     let n = numbers_used(room);
@@ -72,6 +73,7 @@ pub fn ingest_with_room(
         spt_dir,
         tsp,
         tsp_dir,
+        tally,
         &mut numbers[..n],
         ingestion,
     );
@@ -127,12 +129,22 @@ pub fn ingest_entry(
     spt_dir: &mut [u32],
     tsp: &mut [u8],
     tsp_dir: &mut [u32],
+    tally: &mut [u8],
     pairs: &mut [Pair],
     ingestion: Ingestion,
 ) -> Ingested
-    ensures { λ r. ⌜ pairsOutcome (ingestedSays r) (now (spt .exit)) (now («spt_dir» .exit)) (now (tsp .exit)) (now («tsp_dir» .exit)) (now (pairs .exit)) ≡ pairsIngested field (storeOf state (now (spt .entry)) (now («spt_dir» .entry)) (now (tsp .entry)) (now («tsp_dir» .entry))) (now (pairs .entry)) ingestion ⌝ }
+    ensures { λ r. ⌜ pairsOutcome (ingestedSays r) (now (spt .exit)) (now («spt_dir» .exit)) (now (tsp .exit)) (now («tsp_dir» .exit)) (now (tally .exit)) (now (pairs .exit)) ≡ pairsIngested field (talliedOf state (now (spt .entry)) (now («spt_dir» .entry)) (now (tsp .entry)) (now («tsp_dir» .entry)) (now (tally .entry))) (now (pairs .entry)) ingestion ⌝ }
 {
-    let r = ingest_with_room(state, spt, spt_dir, tsp, tsp_dir, pairs.len(), ingestion);
+    let r = ingest_with_room(
+        state,
+        spt,
+        spt_dir,
+        tsp,
+        tsp_dir,
+        tally,
+        pairs.len(),
+        ingestion,
+    );
     write_pairs(r.numbers, pairs, r.count);
     r.ingested
 }
@@ -144,12 +156,22 @@ pub fn ingest_entry_by_value(
     spt_dir: &mut [u32],
     tsp: &mut [u8],
     tsp_dir: &mut [u32],
+    tally: &mut [u8],
     pairs: [Pair; LIMIT_MOST],
     ingestion: Ingestion,
 ) -> NumbersIngested
-    ensures { λ r. ⌜ (pairsOutcome (ingestedSays (r .ingested)) (now (spt .exit)) (now («spt_dir» .exit)) (now (tsp .exit)) (now («tsp_dir» .exit)) (pairsOf (r .numbers)) ≡ pairsIngested field (storeOf state (now (spt .entry)) (now («spt_dir» .entry)) (now (tsp .entry)) (now («tsp_dir» .entry))) pairs ingestion) × (r .count ≡ prunedCount (verdictSays (r .ingested .verdict))) ⌝ }
+    ensures { λ r. ⌜ (pairsOutcome (ingestedSays (r .ingested)) (now (spt .exit)) (now («spt_dir» .exit)) (now (tsp .exit)) (now («tsp_dir» .exit)) (now (tally .exit)) (pairsOf (r .numbers)) ≡ pairsIngested field (talliedOf state (now (spt .entry)) (now («spt_dir» .entry)) (now (tsp .entry)) (now («tsp_dir» .entry)) (now (tally .entry))) pairs ingestion) × (r .count ≡ prunedCount (verdictSays (r .ingested .verdict))) ⌝ }
 {
     let mut lent = pairs;
-    let ingested = ingest_entry(state, spt, spt_dir, tsp, tsp_dir, &mut lent, ingestion);
+    let ingested = ingest_entry(
+        state,
+        spt,
+        spt_dir,
+        tsp,
+        tsp_dir,
+        tally,
+        &mut lent,
+        ingestion,
+    );
     in_numbers(ingested, lent)
 }

@@ -1,5 +1,5 @@
 -- Our listings answer right and nothing else is right, so that a listing finished before a match is shut out. Assumes nothing.
-use Prim.Native.Nat.{ℕ, zero, suc, _+_, _≤_, _<_}
+use Prim.Native.Nat.{ℕ, suc, _+_, _≤_, _<_}
 use mathlib.Core.Path.{_≡_, refl, sym, ap, _∙_}
 use mathlib.Core.Logic.{_↔_}
 use mathlib.Core.List.{List, [], _∷_, List·Memᴰ·not-nil as none-in, List·Memᴰ·eq-of-singleton as eq-of-singleton}
@@ -169,11 +169,6 @@ one-held = holding field holds-zeros empty
 abbrev everything : Area
 everything = record { subspace = Any; path = pathOf []; times = record { start = 0; end = times.Open } }
 
-zero-bytes : (n i : ℕ) → getD (replicate n 0) i 0 < 256
-zero-bytes zero i = omega arith
-zero-bytes (suc n) zero = omega arith
-zero-bytes (suc n) (suc i) = zero-bytes n i
-
 zeros-lawful : Lawful field zeros
 unfolding isPath all joined tripleOf
 zeros-lawful = record {
@@ -181,9 +176,7 @@ zeros-lawful = record {
   sized = record { high = omega arith; low = omega arith; time = omega arith };
   payload = omega arith;
   digest = refl;
-  digestBytes = zero-bytes 32;
   token = refl;
-  tokenBytes = zero-bytes 64;
   available = omega arith;
 }
 

@@ -1,4 +1,5 @@
-// The calls of a store, by their numbers. Its buffers are a, b, c, d: the subspace-first tree and its directory, the time-first tree and its directory.
+// The calls of a store, by their numbers. Its buffers are a, b, c, d, e: the subspace-first tree and its directory, the time-first tree and its directory,
+// the tally.
 use crate::field;
 use crate::line::tell;
 use crate::line::tell_bytes;
@@ -78,7 +79,15 @@ fn tell_count(n: query::answer::Counted) {
 }
 
 // Through `pairs::ingest_entry` itself. An obsolete verdict tells the newer entry, a success the pruned pairs.
-fn ingest(q: &[u8], s: State, a: &mut [u8], b: &mut [u32], c: &mut [u8], d: &mut [u32]) -> State {
+fn ingest(
+    q: &[u8],
+    s: State,
+    a: &mut [u8],
+    b: &mut [u32],
+    c: &mut [u8],
+    d: &mut [u32],
+    e: &mut [u8],
+) -> State {
     let none = pairs::Pair {
         offset: 0,
         length: 0,
@@ -86,10 +95,10 @@ fn ingest(q: &[u8], s: State, a: &mut [u8], b: &mut [u32], c: &mut [u8], d: &mut
     let prune = plain::input::PlainPairs {
         pairs: [none; LIMIT_MOST],
     };
-    let e = field::entry(q);
+    let x = field::entry(q);
     let mut t = [0u8; 64];
     text::hex::read_hex(text::line::nth_field(q, 32, 17), &mut t);
-    let r = change::vb_ingest_entry_by_value(s, a, b, c, d, prune, e, &t, field::flag(q, 33));
+    let r = change::vb_ingest_entry_by_value(s, a, b, c, d, e, prune, x, &t, field::flag(q, 33));
     let v = r.ingested;
     tell(v.refusal as u64);
     tell(v.obsolete as u64);
@@ -101,36 +110,44 @@ fn ingest(q: &[u8], s: State, a: &mut [u8], b: &mut [u32], c: &mut [u8], d: &mut
     v.state
 }
 
-fn poke(tree: &mut [u8], at: usize, x: u64) {
-    if at < tree.len() {
-        if 8 <= tree.len() - at {
-            keys::number::write_u64(x, &mut tree[at..]);
+fn poke(s: &mut [u8], at: usize, x: u64) {
+    if at < s.len() {
+        if 8 <= s.len() - at {
+            keys::number::write_u64(x, &mut s[at..]);
         }
     }
 }
 
-// 1 opens, 2 ingests, 3 forgets an entry, 4 forgets an area; c writes 8 bytes into both trees, from outside.
-pub fn act(q: &[u8], s: State, a: &mut [u8], b: &mut [u32], c: &mut [u8], d: &mut [u32]) -> State {
+// 1 opens, 2 ingests, 3 forgets an entry, 4 forgets an area; c writes 8 bytes into both trees, d into the tally, from outside.
+pub fn act(
+    q: &[u8],
+    s: State,
+    a: &mut [u8],
+    b: &mut [u32],
+    c: &mut [u8],
+    d: &mut [u32],
+    e: &mut [u8],
+) -> State {
     match field::number(q, 0) {
         1 => {
             let n = field::namespace(q);
-            let r = change::vb_open(&n, field::number(q, 33) as usize, a, b, c, d);
+            let r = change::vb_open(&n, field::number(q, 33) as usize, a, b, c, d, e);
             tell(r.refusal as u64);
             r.state
         }
-        2 => ingest(q, s, a, b, c, d),
+        2 => ingest(q, s, a, b, c, d, e),
         3 => {
             let u = field::subspace(q, 2);
             let p = field::path(q, 4);
             let x = field::digest(q);
-            let r = change::vb_forget_entry(s, a, b, c, d, u, p, field::flag(q, 33), &x);
+            let r = change::vb_forget_entry(s, a, b, c, d, e, u, p, field::flag(q, 33), &x);
             tell(r.refusal as u64);
             r.state
         }
         4 => {
             let x = field::area(q);
             let y = field::kept(q);
-            let r = change::vb_forget_area(s, a, b, c, d, x, field::flag(q, 33), y);
+            let r = change::vb_forget_area(s, a, b, c, d, e, x, field::flag(q, 33), y);
             tell(r.refusal as u64);
             tell(r.forgotten as u64);
             r.state
@@ -138,6 +155,10 @@ pub fn act(q: &[u8], s: State, a: &mut [u8], b: &mut [u32], c: &mut [u8], d: &mu
         12 => {
             poke(a, field::number(q, 33) as usize, field::number(q, 14));
             poke(c, field::number(q, 34) as usize, field::number(q, 14));
+            s
+        }
+        13 => {
+            poke(e, field::number(q, 33) as usize, field::number(q, 14));
             s
         }
         _ => s,
@@ -163,7 +184,7 @@ fn list_range(q: &[u8], s: State, a: &[u8], b: &[u32], c: &[u8], d: &[u32], i: P
 }
 
 // 5 finds an entry, 6 and 7 the next match of an area and of a range, 8 and 9 count them, a is an area of interest, b tells the buffers.
-pub fn look(q: &[u8], s: State, a: &[u8], b: &[u32], c: &[u8], d: &[u32]) {
+pub fn look(q: &[u8], s: State, a: &[u8], b: &[u32], c: &[u8], d: &[u32], e: &[u8]) {
     let i = PlainIgnore {
         incomplete_payloads: field::flag(q, 33),
         empty_payloads: field::flag(q, 34),
@@ -197,6 +218,7 @@ pub fn look(q: &[u8], s: State, a: &[u8], b: &[u32], c: &[u8], d: &[u32]) {
             tell_numbers(b);
             tell_bytes(c);
             tell_numbers(d);
+            tell_bytes(e);
         }
         _ => {}
     }

@@ -2,6 +2,7 @@
 use store::state::LIMIT_MOST;
 use store::state::RECORD_MOST;
 use store::state::State;
+use tally::item::ITEM;
 ghost use mathlib.Core.Path.{_≡_};
 ghost use lib.ListN.{length};
 
@@ -21,11 +22,18 @@ fn pair_buffer() -> [u32; 2 * LIMIT_MOST]
     [0; 2 * LIMIT_MOST]
 }
 
+fn tally_buffer() -> [u8; ITEM * LIMIT_MOST]
+    ensures { λ r. ⌜ 28672 ≡ length r ⌝ }
+{
+    [0; ITEM * LIMIT_MOST]
+}
+
 fn main() {
     let mut a = tree_buffer();
     let mut b = pair_buffer();
     let mut c = tree_buffer();
     let mut d = pair_buffer();
+    let mut e = tally_buffer();
     let mut state = State {
         namespace_id: [0; 16],
         count: 0,
@@ -37,8 +45,8 @@ fn main() {
         if !line::read_line(&mut q) {
             return;
         }
-        state = call::act(&q, state, &mut a, &mut b, &mut c, &mut d);
-        call::look(&q, state, &a, &b, &c, &d);
+        state = call::act(&q, state, &mut a, &mut b, &mut c, &mut d, &mut e);
+        call::look(&q, state, &a, &b, &c, &d, &e);
         call::tell_state(state);
         io::write_all(1, b"\n");
         turns -= 1;

@@ -22,7 +22,7 @@ ghost use mathlib.Core.List.{List};
 ghost use mathlib.Core.Path.{_≡_};
 ghost use Rattle.data_model.specs.Path.{field};
 ghost use Rattle.key_laws.specs.Bytes.{Bytes};
-ghost use Rattle.store.specs.Store.{storeOf};
+ghost use Rattle.store.specs.Store.{talliedOf};
 ghost use Rattle.store.specs.Ingest.{verdictSays};
 ghost use Rattle.pairs.specs.Pairs.{numbersOf, prunedCount};
 ghost use Rattle.call_laws.specs.Calls.{IsValue, ingest, forget-entry, forget-area, ingestVerdict, numberVerdict};
@@ -36,10 +36,11 @@ pub fn open_listed(
     spt_dir: &mut [u32],
     tsp: &mut [u8],
     tsp_dir: &mut [u32],
+    tally: &mut [u8],
 ) -> Opened
-    ensures { λ r. ⌜ outcomeOf (numberVerdict (r .refusal)) 0 (r .state) (now (spt .exit)) (now («spt_dir» .exit)) (now (tsp .exit)) (now («tsp_dir» .exit)) ≡ opens field (openingOf namespace limit (now (spt .entry)) (now («spt_dir» .entry)) (now (tsp .entry)) (now («tsp_dir» .entry))) ⌝ }
+    ensures { λ r. ⌜ outcomeOf (numberVerdict (r .refusal)) 0 (r .state) (now (spt .exit)) (now («spt_dir» .exit)) (now (tsp .exit)) (now («tsp_dir» .exit)) (now (tally .exit)) ≡ opens field (openingOf namespace limit (now (spt .entry)) (now («spt_dir» .entry)) (now (tsp .entry)) (now («tsp_dir» .entry)) (now (tally .entry))) ⌝ }
 {
-    open(namespace, limit, spt, spt_dir, tsp, tsp_dir)
+    open(namespace, limit, spt, spt_dir, tsp, tsp_dir, tally)
 }
 
 // `ingest_entry_numbers` is an ingestion of a list.
@@ -49,12 +50,13 @@ pub fn numbers_listed(
     spt_dir: &mut [u32],
     tsp: &mut [u8],
     tsp_dir: &mut [u32],
+    tally: &mut [u8],
     prune: &mut [u32],
     ingestion: Ingestion,
 ) -> Ingested
-    ensures { λ r. ⌜ outcomeOf (ingestVerdict (verdictSays (r .verdict))) (prunedCount (verdictSays (r .verdict))) (r .state) (now (spt .exit)) (now («spt_dir» .exit)) (now (tsp .exit)) (now («tsp_dir» .exit)) ≡ outcome field (storeOf state (now (spt .entry)) (now («spt_dir» .entry)) (now (tsp .entry)) (now («tsp_dir» .entry))) (ingest (record { prune = now (prune .entry); handed = ingestion })) ⌝ }
+    ensures { λ r. ⌜ outcomeOf (ingestVerdict (verdictSays (r .verdict))) (prunedCount (verdictSays (r .verdict))) (r .state) (now (spt .exit)) (now («spt_dir» .exit)) (now (tsp .exit)) (now («tsp_dir» .exit)) (now (tally .exit)) ≡ outcome field (talliedOf state (now (spt .entry)) (now («spt_dir» .entry)) (now (tsp .entry)) (now («tsp_dir» .entry)) (now (tally .entry))) (ingest (record { prune = now (prune .entry); handed = ingestion })) ⌝ }
 {
-    ingest_entry_numbers(state, spt, spt_dir, tsp, tsp_dir, prune, ingestion)
+    ingest_entry_numbers(state, spt, spt_dir, tsp, tsp_dir, tally, prune, ingestion)
 }
 
 // `pairs::ingest_entry`, as `ingest_entry_by_value` calls it, is an ingestion of a list: the prune list is the pairs' numbers.
@@ -64,12 +66,13 @@ pub fn pairs_listed(
     spt_dir: &mut [u32],
     tsp: &mut [u8],
     tsp_dir: &mut [u32],
+    tally: &mut [u8],
     pairs: [Pair; LIMIT_MOST],
     ingestion: Ingestion,
 ) -> NumbersIngested
-    ensures { λ r. ⌜ outcomeOf (ingestVerdict (verdictSays (r .ingested .verdict))) (prunedCount (verdictSays (r .ingested .verdict))) (r .ingested .state) (now (spt .exit)) (now («spt_dir» .exit)) (now (tsp .exit)) (now («tsp_dir» .exit)) ≡ outcome field (storeOf state (now (spt .entry)) (now («spt_dir» .entry)) (now (tsp .entry)) (now («tsp_dir» .entry))) (ingest (record { prune = numbersOf pairs; handed = ingestion })) ⌝ }
+    ensures { λ r. ⌜ outcomeOf (ingestVerdict (verdictSays (r .ingested .verdict))) (prunedCount (verdictSays (r .ingested .verdict))) (r .ingested .state) (now (spt .exit)) (now («spt_dir» .exit)) (now (tsp .exit)) (now («tsp_dir» .exit)) (now (tally .exit)) ≡ outcome field (talliedOf state (now (spt .entry)) (now («spt_dir» .entry)) (now (tsp .entry)) (now («tsp_dir» .entry)) (now (tally .entry))) (ingest (record { prune = numbersOf pairs; handed = ingestion })) ⌝ }
 {
-    ingest_entry_by_value(state, spt, spt_dir, tsp, tsp_dir, pairs, ingestion)
+    ingest_entry_by_value(state, spt, spt_dir, tsp, tsp_dir, tally, pairs, ingestion)
 }
 
 // `forget_entry` is a forgetting of a list.
@@ -79,12 +82,13 @@ pub fn entry_listed(
     spt_dir: &mut [u32],
     tsp: &mut [u8],
     tsp_dir: &mut [u32],
+    tally: &mut [u8],
     subspace: Subspace,
     path: Path,
     expects: bool,
     expected_digest: [u8; 32],
 ) -> EntryForgotten
-    ensures { λ r. ⌜ outcomeOf (numberVerdict (r .refusal)) 0 (r .state) (now (spt .exit)) (now («spt_dir» .exit)) (now (tsp .exit)) (now («tsp_dir» .exit)) ≡ outcome field (storeOf state (now (spt .entry)) (now («spt_dir» .entry)) (now (tsp .entry)) (now («tsp_dir» .entry))) (forget-entry (record { subspace = subspace; path = path; expects = expects; digest = «expected_digest» })) ⌝ }
+    ensures { λ r. ⌜ outcomeOf (numberVerdict (r .refusal)) 0 (r .state) (now (spt .exit)) (now («spt_dir» .exit)) (now (tsp .exit)) (now («tsp_dir» .exit)) (now (tally .exit)) ≡ outcome field (talliedOf state (now (spt .entry)) (now («spt_dir» .entry)) (now (tsp .entry)) (now («tsp_dir» .entry)) (now (tally .entry))) (forget-entry (record { subspace = subspace; path = path; expects = expects; digest = «expected_digest» })) ⌝ }
 {
     forget_entry(
         state,
@@ -92,6 +96,7 @@ pub fn entry_listed(
         spt_dir,
         tsp,
         tsp_dir,
+        tally,
         subspace,
         path,
         expects,
@@ -106,13 +111,24 @@ pub fn area_listed(
     spt_dir: &mut [u32],
     tsp: &mut [u8],
     tsp_dir: &mut [u32],
+    tally: &mut [u8],
     area: Area,
     protects: bool,
     protected: Area,
 ) -> AreaForgotten
-    ensures { λ r. ⌜ outcomeOf (numberVerdict (r .refusal)) (r .forgotten) (r .state) (now (spt .exit)) (now («spt_dir» .exit)) (now (tsp .exit)) (now («tsp_dir» .exit)) ≡ outcome field (storeOf state (now (spt .entry)) (now («spt_dir» .entry)) (now (tsp .entry)) (now («tsp_dir» .entry))) (forget-area (record { area = area; protects = protects; protected = protected })) ⌝ }
+    ensures { λ r. ⌜ outcomeOf (numberVerdict (r .refusal)) (r .forgotten) (r .state) (now (spt .exit)) (now («spt_dir» .exit)) (now (tsp .exit)) (now («tsp_dir» .exit)) (now (tally .exit)) ≡ outcome field (talliedOf state (now (spt .entry)) (now («spt_dir» .entry)) (now (tsp .entry)) (now («tsp_dir» .entry)) (now (tally .entry))) (forget-area (record { area = area; protects = protects; protected = protected })) ⌝ }
 {
-    forget_area(state, spt, spt_dir, tsp, tsp_dir, area, protects, protected)
+    forget_area(
+        state,
+        spt,
+        spt_dir,
+        tsp,
+        tsp_dir,
+        tally,
+        area,
+        protects,
+        protected,
+    )
 }
 
 fn yes() -> bool {
@@ -131,14 +147,9 @@ pub fn ingestion_is_value(ingestion: Ingestion) -> bool
     ensures { λ r. ⌜ ((prune : List ℕ) → IsValue field (ingest (record { prune = prune; handed = ingestion }))) ⌝ }
 {
     let entry = ingestion.entry;
-    let token = ingestion.token;
     let path = entry.path;
     let bytes = path.bytes;
-    let digest = entry.payload_digest;
-    let a = is_bytes(&bytes);
-    let b = is_bytes(&digest);
-    let c = is_bytes(&token);
-    a & b & c
+    is_bytes(&bytes)
 }
 
 // Whether what the forgetting of an entry is handed is a value: it is.

@@ -1,12 +1,12 @@
 -- Changes of one tree by what it says: what a test holds of taken out, and an entry filed at its key's place. Assumes nothing.
-use Prim.Native.Nat.{ℕ, _+_, _-_, _*_, _≤_}
+use Prim.Native.Nat.{ℕ, _+_, _-_, _*_, _≤_, _<_, _^_}
 use mathlib.Core.Path.{_≡_, refl, sym, ap, ap₂, subst, _∙_}
-use mathlib.Core.List.{List, [], _∷_, map, List·Memᴰ·head as here, List·Memᴰ·tail as there}
+use mathlib.Core.List.{List, [], _∷_, _++_, map, append-assoc, append-nil, List·Memᴰ·head as here, List·Memᴰ·tail as there}
 use mathlib.Core.Bool.{Bool, true, false, not, cond, _&&_}
 use native.Mathlib.Omega.{arith}
 use native.Mathlib.Nat.{mul-suc}
-use lib.ListN.{length, take, drop, length-append}
-use lib.Seq.{take-append-seam, take-append-le}
+use lib.ListN.{length, take, drop, replicate, length-append}
+use lib.Seq.{take-append-seam, take-append-le, take-at, drop-at}
 use Rattle.laws.specs.Lists.{put}
 use Rattle.laws.specs.Order.{below, isLess, isSame}
 use Rattle.laws.specs.Sorted.{_∈_, any, keep, insert}
@@ -17,12 +17,16 @@ use Rattle.layout.specs.Layout.{Editable, records, joined, treeBytes, dirNumber
 use Rattle.layout.specs.Marks.{marksOf, kept, unmarked}
 use Rattle.layout.proofs.MarkLaws.{kept-in, kept-ascends}
 use Rattle.layout.proofs.UnmarkLaws.{marks-unmarked}
-use Rattle.layout.proofs.LaidLaws.{records-many}
-use Rattle.data_model.specs.Path.{Figures, field, legal, byBytes}
+use Rattle.layout.specs.Buffers.{filled}
+use Rattle.layout.proofs.LaidLaws.{records-many, joined-append}
+use Rattle.data_model.specs.Path.{Figures, field, legal, components, byBytes}
+use Rattle.keys.specs.Encode.{be, subspaceKey, pathKey, sptKey, tspKey, Triple}
 use Rattle.data_model.specs.Entry.{entryOf, rankOf, prunes}
 use Rattle.data_model.proofs.Orders.{bytes-linear}
 use Rattle.key_laws.specs.Bytes.{Bytes}
 use Rattle.key_laws.specs.KeyOrder.{Sized}
+use Rattle.key_laws.proofs.Fits.{bytes-all, bytes-take, bytes-drop, legal-bytes}
+use Rattle.key_laws.proofs.Inverse.{path-bytes}
 use Rattle.tree.specs.Value.{valueLength, valueBytes}
 use Rattle.tree.specs.Stored.{keyIn, orderIn, keyOf, keyBelow, Stored, stored, contents, tripleOf, valueFor, recordOf, Lawful, storedOf}
 use Rattle.tree.specs.Tree.{Searchable, Whole, keysBelow, hasKey}
@@ -54,8 +58,10 @@ less-in Tsp x y = refl
 -- What is handed in as a value: numbers and arrays as the language has them. Its record is its key and its value.
 pub record Handed (x : Stored) : Type 0 where
   pub sized : Sized (tripleOf (x .entry))
+  pub payload : x .entry .rank .«payload_length» < 2 ^ 64
   pub digest : length (x .entry .rank .«payload_digest») ≡ 32
   pub token : length (x .token) ≡ 64
+  pub available : x .available < 2 ^ 64
 
 module _ (o : KeyOrder) (x : Stored) (h : Handed x) where
   handed-value : length (valueBytes (valueFor x)) ≡ valueLength
@@ -84,6 +90,47 @@ written-least o a h = omega (arith, handed-length o (storedOf a) h)
 pub written-most : (o : KeyOrder) (a : LengthyAuthorisedEntry) → Handed (storedOf a) → legal field (a .entry .path) ≡ true → length (recordOf o (storedOf a)) ≤ recordMost field
 unfolding storedOf entryOf rankOf tripleOf
 written-most o a h l = omega (arith, handed-length o (storedOf a) h, key-fits o field (a .entry .«subspace_id») (a .entry .path) (a .entry .timestamp) l)
+
+-- A part of bytes is bytes.
+bytes-part : (a b c : List ℕ) → Bytes (a ++ (b ++ c)) → Bytes b
+bytes-part a b c h =
+    let q : take (length b) (drop (length a) (a ++ (b ++ c))) ≡ b = ap (take (length b)) (drop-at a (b ++ c) (length a) refl) ∙ take-at b c (length b) refl in
+    subst Bytes q (bytes-take (length b) (drop (length a) (a ++ (b ++ c))) (bytes-drop (length a) (a ++ (b ++ c)) h))
+
+path-part : (o : KeyOrder) (t : Triple) → Bytes (keyIn o t) → Bytes (pathKey (t .path))
+unfolding keyIn sptKey tspKey
+path-part Spt t h = bytes-part (subspaceKey (t .subspace)) (pathKey (t .path)) (be 8 (t .timestamp)) h
+path-part Tsp t h =
+    let b = bytes-part (be 8 (t .timestamp)) (subspaceKey (t .subspace) ++ pathKey (t .path)) [] (subst (λ (l : List ℕ). Bytes (be 8 (t .timestamp) ++ l)) (sym (append-nil (subspaceKey (t .subspace) ++ pathKey (t .path)))) h) in
+    bytes-part (subspaceKey (t .subspace)) (pathKey (t .path)) [] (subst (λ (l : List ℕ). Bytes (subspaceKey (t .subspace) ++ l)) (sym (append-nil (pathKey (t .path)))) b)
+
+-- What was handed in and is written as bytes is lawful.
+pub written-lawful : (o : KeyOrder) (a : LengthyAuthorisedEntry) → Handed (storedOf a) → field .mpl ≤ length (a .entry .path .bytes) → legal field (a .entry .path) ≡ true
+    → Bytes (recordOf o (storedOf a)) → Lawful field (storedOf a)
+unfolding storedOf entryOf rankOf tripleOf recordOf
+written-lawful o a h room l b =
+    let key : Bytes (keyIn o (tripleOf (storedOf a .entry))) = bytes-part [] (keyIn o (tripleOf (storedOf a .entry))) (valueBytes (valueFor (storedOf a))) b in
+    record {
+      path = legal-bytes field (a .entry .path) room l (path-bytes (components (a .entry .path)) (bytes-all (pathKey (components (a .entry .path))) (path-part o (tripleOf (storedOf a .entry)) key)));
+      sized = h .sized;
+      payload = h .payload;
+      digest = h .digest;
+      token = h .token;
+      available = h .available;
+    }
+
+-- In bytes, a record that was put in is bytes.
+pub inserted-lawful : (o : KeyOrder) (a : LengthyAuthorisedEntry) → Handed (storedOf a) → field .mpl ≤ length (a .entry .path .bytes) → legal field (a .entry .path) ≡ true
+    → (r : List ℕ) → r ≡ recordOf o (storedOf a) → (n at : ℕ) (recs : List (List ℕ)) (tree : List ℕ) → Bytes tree → tree ≡ treeBytes n (inserted at r recs) → Lawful field (storedOf a)
+unfolding treeBytes filled
+inserted-lawful o a h long l r er n at recs tree bs et =
+    let z : List ℕ = replicate (n - length (joined (inserted at r recs))) 0 in
+    let q : tree ≡ joined (take at recs) ++ (r ++ (joined (drop at recs) ++ z)) =
+    et
+    ∙ ap (_++ z) (joined-append (take at recs) (r ∷ drop at recs))
+    ∙ append-assoc (joined (take at recs)) (r ++ joined (drop at recs)) z
+    ∙ ap (joined (take at recs) ++_) (append-assoc r (joined (drop at recs)) z) in
+    written-lawful o a h long l (subst Bytes er (bytes-part (joined (take at recs)) r (joined (drop at recs) ++ z) (subst Bytes q bs)))
 
 -- Records of bytes, by what they say.
 module _ (o : KeyOrder) (f : Figures) (ns : List ℕ) where

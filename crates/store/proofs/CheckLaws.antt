@@ -151,6 +151,23 @@ module _ (s : Store) where
   tree-well w Spt = well-parts w .1
   tree-well w Tsp = well-parts w .2
 
+  pub passed-make : 1 ≤ s .state .limit → s .state .limit ≤ limitMost → Rooms field s → wellFormedStore field s ≡ true → Passed s
+  passed-make l m g w =
+      let p = well-parts w in
+      record {
+        least = l;
+        most = m;
+        few = p .0;
+        room = g;
+        well = w;
+        formed = λ o. well-formed-tree (room-small m g o) (tree-well w o);
+        ordered = λ o. well-ordered (room-small m g o) (tree-well w o);
+        whole = λ o. well-whole (room-small m g o) (tree-well w o);
+        same = p .3;
+        once = p .4;
+        apart = p .5;
+      }
+
   pub passed : (b : Bool) → storeRefusal field s b ≡ 0 → Passed s × (b ≡ true)
   unfolding storeRefusal
   passed b e =
@@ -158,21 +175,4 @@ module _ (s : Store) where
       let k2 = or-none (unless (roomy field (s .state .limit) s && b) 2) (unless (wellFormedStore field s) 3) (k1 .1) in
       let l = limit-most (s .state .limit) (unless-none (limitOk (s .state .limit)) 1 (omega arith) (k1 .0)) in
       let r = and-true (roomy field (s .state .limit) s) b (unless-none (roomy field (s .state .limit) s && b) 2 (omega arith) (k2 .0)) in
-      let w = unless-none (wellFormedStore field s) 3 (omega arith) (k2 .1) in
-      let g = rooms field s (r .0) in
-      let p = well-parts w in (
-        record {
-          least = l .0;
-          most = l .1;
-          few = p .0;
-          room = g;
-          well = w;
-          formed = λ o. well-formed-tree (room-small (l .1) g o) (tree-well w o);
-          ordered = λ o. well-ordered (room-small (l .1) g o) (tree-well w o);
-          whole = λ o. well-whole (room-small (l .1) g o) (tree-well w o);
-          same = p .3;
-          once = p .4;
-          apart = p .5;
-        },
-        r .1,
-      )
+      (passed-make (l .0) (l .1) (rooms field s (r .0)) (unless-none (wellFormedStore field s) 3 (omega arith) (k2 .1)), r .1)

@@ -8,11 +8,11 @@ use native.Mathlib.Omega.{arith}
 use lib.ListN.{length, take, drop}
 use lib.Seq.{length-take-le}
 use lib.Dec.{leb, eqb}
-use borrow.Author.Tests.{leb-false, eqb-true}
+use borrow.Author.Tests.{leb-true, leb-false, eqb-true}
 use Rattle.laws.specs.Lists.{put}
 use Rattle.laws.specs.Sorted.{any, keep}
 use Rattle.laws.proofs.Truth.{split, clash, refute}
-use Rattle.laws.proofs.Sorted.{any-view, any-make}
+use Rattle.laws.proofs.Sorted.{any-view, any-make, any-none}
 use Rattle.layout.specs.Marks.{countMarks, markedPairs}
 use Rattle.layout.proofs.MarkLaws.{count-most}
 use Rattle.data_model.specs.Said.{says}
@@ -21,22 +21,29 @@ use Rattle.data_model.specs.Entry.{Entry, entryOf}
 use Rattle.data_model.specs.declared.entry.Entry.{Entry as EntryValue}
 use Rattle.key_laws.specs.Bytes.{Bytes}
 use Rattle.key_laws.proofs.Fits.{bytes-take}
-use Rattle.tree.specs.Stored.{Stored, storedOf}
+use Rattle.tree.specs.Stored.{Stored, Lawful, storedOf}
+use Rattle.tree.specs.Tree.{Ordered}
 use Rattle.tree.specs.Matching.{outdates, removes}
 use Rattle.tree.specs.declared.stored.KeyOrder.{KeyOrder}
 use Rattle.tree.specs.declared.stored.KeyOrder.the-variants.{Spt, Tsp}
 use Rattle.tree.specs.declared.stored.LengthyAuthorisedEntry.{LengthyAuthorisedEntry}
-use Rattle.store.specs.Store.{Store, storeOf, limitMost, treeRoom, dirRoom, treeOf, dirOf, held, heldBy, holding}
-use Rattle.store.specs.Ingest.{succeeds, IngestSaid, stays, filing, filedIn, filed, Decision, refuse, obsolete, take-it, decidedOf, decided, ingestRefusal, judged, MayFile, storeFiled, ingestOutcome, prunedPairs, carried, ingested}
+use Rattle.tally.specs.Tally.{tallyRoom, tallyHolding}
+use Rattle.store.specs.Store.{Store, storeOf, limitMost, treeRoom, dirRoom, treeOf, dirOf, held, heldBy, holding, Tallied, talliedOf}
+use Rattle.store.specs.Ingest.{succeeds, IngestSaid, stays, filing, filedIn, filed, Decision, refuse, obsolete, take-it, decidedOf, decided, ingestRefusal, judged, MayFile, storeFiled, talliedFiled, ingestOutcome, prunedPairs, carried, ingested}
 use Rattle.store.specs.Forget.{without}
 use Rattle.store.specs.Change.{inTree, Marked, Changed, FilesIn}
+use Rattle.store.specs.declared.state.State.{State}
 use Rattle.store.specs.declared.ingest.Ingestion.{Ingestion}
 use Rattle.tree.proofs.FormedContents.{formed-many}
 use Rattle.store.proofs.DecideLaws.{marks-front}
 use Rattle.store.proofs.Meaning.{SoundHeld, sound-without, sound-length}
+use Rattle.store.proofs.CheckLaws.{passed}
 use Rattle.store.proofs.WellStore.{held-fit}
+use Rattle.store.proofs.Lifted.{Fit}
+use Rattle.store.proofs.FitLaws.{fit-filed}
+use Rattle.store.proofs.TalliedLaws.{TalliedPassed, passed-alone, passed-fit, retally-asks, retallied}
 use Rattle.store.proofs.HoldingLaws.{tree-holds, dir-holds}
-use Rattle.store.proofs.IngestLaws.{Ready, ready, ready-formed, first-absent, first-there, sptIn, sptDirIn, inSpt}
+use Rattle.store.proofs.IngestLaws.{Ready, ready, ready-first, ready-tallied, ready-formed, first-absent, first-there, sptIn, sptDirIn, inSpt}
 
 -- The time-first tree and its directory in their room.
 abbrev pub tspIn : Store → List ℕ
@@ -52,7 +59,9 @@ filedValue e token = record { entry = e; token = token; available = 0 }
 -- An entry that may be filed.
 module _ (s : Store) (prune : List ℕ) (e : EntryValue) (m : MayFile field s prune e) where
   pub may-ready : Ready s prune e
-  may-ready = ready s prune e (m .tested)
+  may-ready =
+      let p = passed s (leb (dirRoom (s .state .limit)) (length prune)) (m .tested) in
+      record { passes = p .0; pairs = leb-true (dirRoom (s .state .limit)) (length prune) (p .1); legal-path = m .lawful; namespace = m .named }
 
   tree-room : (o : KeyOrder) → length (treeOf field o s) ≡ treeRoom field (s .state .limit)
   unfolding treeOf
@@ -186,24 +195,29 @@ module _ (limit : ℕ) (l : List Stored) (e : Entry) (prevent : Bool) (d : decid
       (λ r. refuse-taken (rw (n, r, q) at d))
 
 -- The public call, by its answer: filed if it is a success, and nothing changed if not.
-module _ (s : Store) (prune : List ℕ) (i : Ingestion) (r : IngestSaid) (er : r ≡ ingested field s prune i .answer) where
-  judged-may : judged field s prune (i .entry) (i .«prevent_pruning») ≡ take-it → MayFile field s prune (i .entry)
+module _ (w : Tallied) (prune : List ℕ) (i : Ingestion) (r : IngestSaid) (er : r ≡ ingested field w prune i .answer) where
+  abbrev s : Store
+  s = w .store
+
+  judged-may : judged field w prune (i .entry) (i .«prevent_pruning») ≡ take-it → MayFile field s prune (i .entry)
   unfolding judged
-  judged-may j = split (eqb (ingestRefusal field s prune (i .entry)) 0)
+  judged-may j = split (eqb (ingestRefusal field w prune (i .entry)) 0)
       (λ q.
       let d : decided (s .state .limit) (held field Spt s) (entryOf (i .entry)) (i .«prevent_pruning») ≡ take-it = rw q at j in
       record {
-        tested = eqb-true (ingestRefusal field s prune (i .entry)) 0 q;
+        tested = passed-alone w (leb (dirRoom (s .state .limit)) (length prune)) (ready-first w prune (i .entry) (eqb-true (ingestRefusal field w prune (i .entry)) 0 q));
+        lawful = ready w prune (i .entry) (eqb-true (ingestRefusal field w prune (i .entry)) 0 q) .legal-path;
+        named = ready w prune (i .entry) (eqb-true (ingestRefusal field w prune (i .entry)) 0 q) .namespace;
         current = taken-current (s .state .limit) (held field Spt s) (entryOf (i .entry)) (i .«prevent_pruning») d;
         room = leb-false (s .state .limit) (length (keep (stays (entryOf (i .entry))) (held field Spt s))) (taken-room (s .state .limit) (held field Spt s) (entryOf (i .entry)) (i .«prevent_pruning») d);
       })
       (λ q. refuse-taken (rw q at j))
 
-  success-taken : (n : ℕ) → r .verdict ≡ says (succeeds n) → judged field s prune (i .entry) (i .«prevent_pruning») ≡ take-it
+  success-taken : (n : ℕ) → r .verdict ≡ says (succeeds n) → judged field w prune (i .entry) (i .«prevent_pruning») ≡ take-it
   unfolding ingested
-  success-taken n q = go (judged field s prune (i .entry) (i .«prevent_pruning»)) (ap (λ (a : IngestSaid). a .verdict) (sym er) ∙ q)
+  success-taken n q = go (judged field w prune (i .entry) (i .«prevent_pruning»)) (ap (λ (a : IngestSaid). a .verdict) (sym er) ∙ q)
     where
-      go : (d : Decision) → carried field s prune (entryOf (i .entry)) (i .token) d .answer .verdict ≡ says (succeeds n) → d ≡ take-it
+      go : (d : Decision) → carried field w prune (entryOf (i .entry)) (i .token) d .answer .verdict ≡ says (succeeds n) → d ≡ take-it
       go (refuse k) h = unfold carried in absurd (let z : _≡_ {A = ℕ} 0 1 = cc in omega arith)
       go (obsolete x) h = unfold carried in absurd (let z : _≡_ {A = ℕ} 0 1 = cc in omega arith)
       go take-it h = refl
@@ -211,25 +225,59 @@ module _ (s : Store) (prune : List ℕ) (i : Ingestion) (r : IngestSaid) (er : r
   pub success-may : (n : ℕ) → r .verdict ≡ says (succeeds n) → MayFile field s prune (i .entry)
   success-may n q = judged-may (success-taken n q)
 
-  pub outcome-filed : (n : ℕ) → r .verdict ≡ says (succeeds n) → (spt sptDir tsp tspDir out : List ℕ)
-      → storeOf (storeFiled field s (entryOf (i .entry)) (i .token) .state) spt sptDir tsp tspDir ≡ storeFiled field s (entryOf (i .entry)) (i .token) → out ≡ put (prunedPairs field s (entryOf (i .entry))) prune
-      → ingestOutcome r spt sptDir tsp tspDir out ≡ ingested field s prune i
-  unfolding ingested carried
-  outcome-filed n q spt sptDir tsp tspDir out es eo =
-      let j = success-taken n q in
-      let a : r ≡ carried field s prune (entryOf (i .entry)) (i .token) take-it .answer = er ∙ ap (λ (d : Decision). carried field s prune (entryOf (i .entry)) (i .token) d .answer) j in
-      ap (λ (x : IngestSaid). ingestOutcome x spt sptDir tsp tspDir out) a
-      ∙ (λ k. record { answer = carried field s prune (entryOf (i .entry)) (i .token) take-it .answer; store = es k; prune = eo k })
-      ∙ sym (ap (carried field s prune (entryOf (i .entry)) (i .token)) j)
+  success-tallied : (n : ℕ) → r .verdict ≡ says (succeeds n) → TalliedPassed w
+  unfolding judged
+  success-tallied n q = let j = success-taken n q in split (eqb (ingestRefusal field w prune (i .entry)) 0)
+      (λ t. ready-tallied w prune (i .entry) (eqb-true (ingestRefusal field w prune (i .entry)) 0 t) .0)
+      (λ t. refuse-taken (rw t at j))
 
-  pub outcome-same : ((n : ℕ) → r .verdict ≡ says (succeeds n) → ⊥) → ingestOutcome r (s .spt) (s .sptDir) (s .tsp) (s .tspDir) prune ≡ ingested field s prune i
+  -- The state of the answer is that of the store in which it is filed.
+  success-state : (n : ℕ) → r .verdict ≡ says (succeeds n) → r .state ≡ storeFiled field s (entryOf (i .entry)) (i .token) .state
+  unfolding ingested carried
+  success-state n q = ap (λ (a : IngestSaid). a .state) (er ∙ ap (λ (d : Decision). carried field w prune (entryOf (i .entry)) (i .token) d .answer) (success-taken n q))
+
+  -- What it is filed in may be held, where it is lawful and the buffers are bytes.
+  success-fit : (n : ℕ) → r .verdict ≡ says (succeeds n) → Lawful field (filing (entryOf (i .entry)) (i .token)) → Bytes (s .spt) → Bytes (s .tsp)
+      → Fit field (s .state .«namespace_id») (s .state .limit) (filed (filing (entryOf (i .entry)) (i .token)) (heldBy field s))
+  unfolding heldBy entryOf
+  success-fit n q l b c =
+      let m = success-may n q in
+      fit-filed field (passed-fit s (success-tallied n q .passes) b c) (filing (entryOf (i .entry)) (i .token)) (record { lawful = l; available = omega arith }) (m .named)
+      (λ y k. any-none (outdates (entryOf (i .entry))) (held field Spt s) (m .current) k) (m .room)
+
+  -- The tally of what is left with it: what writing it asks, and that it is then the definition's.
+  module _ (n : ℕ) (q : r .verdict ≡ says (succeeds n)) (l : Lawful field (filing (entryOf (i .entry)) (i .token))) (spt-bytes : Bytes (s .spt)) (tsp-bytes : Bytes (s .tsp)) (a b c d : List ℕ)
+      (g : storeOf (storeFiled field s (entryOf (i .entry)) (i .token) .state) a b c d ≡ storeFiled field s (entryOf (i .entry)) (i .token)) where
+    filed-left : storeOf (r .state) a b c d ≡ storeFiled field s (entryOf (i .entry)) (i .token)
+    filed-left = ap (λ (t : State). storeOf t a b c d) (success-state n q) ∙ g
+
+    pub filed-asks : Ordered Spt (r .state .count) (take (dirRoom (r .state .limit)) b) (take (treeRoom field (r .state .limit)) a) × (r .state .count ≤ r .state .limit) × (r .state .limit ≤ limitMost)
+        × (treeRoom field (r .state .limit) ≤ length a) × (dirRoom (r .state .limit) ≤ length b) × (tallyRoom (r .state .limit) ≤ length (w .tally))
+    filed-asks = retally-asks w (success-tallied n q) (filed (filing (entryOf (i .entry)) (i .token)) (heldBy field s)) (success-fit n q l spt-bytes tsp-bytes) (r .state) a b c d filed-left
+
+    pub filed-tallied : (t : List ℕ)
+        → ((ns : List ℕ) → t ≡ tallyHolding (r .state .limit) (inTree Spt ns (r .state .count) (take (dirRoom (r .state .limit)) b) (take (treeRoom field (r .state .limit)) a)) (w .tally))
+        → talliedOf (r .state) a b c d t ≡ talliedFiled field w (entryOf (i .entry)) (i .token)
+    filed-tallied = retallied w (success-tallied n q) (filed (filing (entryOf (i .entry)) (i .token)) (heldBy field s)) (success-fit n q l spt-bytes tsp-bytes) (r .state) a b c d filed-left
+
+  pub outcome-filed : (n : ℕ) → r .verdict ≡ says (succeeds n) → (spt sptDir tsp tspDir tally out : List ℕ)
+      → talliedOf (r .state) spt sptDir tsp tspDir tally ≡ talliedFiled field w (entryOf (i .entry)) (i .token) → out ≡ put (prunedPairs field s (entryOf (i .entry))) prune
+      → ingestOutcome r spt sptDir tsp tspDir tally out ≡ ingested field w prune i
+  unfolding ingested carried
+  outcome-filed n q spt sptDir tsp tspDir tally out es eo =
+      let j = success-taken n q in
+      let a : r ≡ carried field w prune (entryOf (i .entry)) (i .token) take-it .answer = er ∙ ap (λ (d : Decision). carried field w prune (entryOf (i .entry)) (i .token) d .answer) j in
+      (λ k. record { answer = a k; left = es k; prune = eo k })
+      ∙ sym (ap (carried field w prune (entryOf (i .entry)) (i .token)) j)
+
+  pub outcome-same : ((n : ℕ) → r .verdict ≡ says (succeeds n) → ⊥) → ingestOutcome r (s .spt) (s .sptDir) (s .tsp) (s .tspDir) (w .tally) prune ≡ ingested field w prune i
   unfolding ingested
   outcome-same h =
-      ap (λ (x : IngestSaid). ingestOutcome x (s .spt) (s .sptDir) (s .tsp) (s .tspDir) prune) er
-      ∙ go (judged field s prune (i .entry) (i .«prevent_pruning»)) λ n q. h n (ap (λ (a : IngestSaid). a .verdict) er ∙ q)
+      ap (λ (x : IngestSaid). ingestOutcome x (s .spt) (s .sptDir) (s .tsp) (s .tspDir) (w .tally) prune) er
+      ∙ go (judged field w prune (i .entry) (i .«prevent_pruning»)) λ n q. h n (ap (λ (a : IngestSaid). a .verdict) er ∙ q)
     where
-      go : (d : Decision) → ((n : ℕ) → carried field s prune (entryOf (i .entry)) (i .token) d .answer .verdict ≡ says (succeeds n) → ⊥)
-          → ingestOutcome (carried field s prune (entryOf (i .entry)) (i .token) d .answer) (s .spt) (s .sptDir) (s .tsp) (s .tspDir) prune ≡ carried field s prune (entryOf (i .entry)) (i .token) d
+      go : (d : Decision) → ((n : ℕ) → carried field w prune (entryOf (i .entry)) (i .token) d .answer .verdict ≡ says (succeeds n) → ⊥)
+          → ingestOutcome (carried field w prune (entryOf (i .entry)) (i .token) d .answer) (s .spt) (s .sptDir) (s .tsp) (s .tspDir) (w .tally) prune ≡ carried field w prune (entryOf (i .entry)) (i .token) d
       go (refuse k) g = unfold carried in refl
       go (obsolete x) g = unfold carried in refl
       go take-it g = unfold carried in absurd (g (length (keep (removes (entryOf (i .entry))) (held field Spt s))) refl)

@@ -26,7 +26,7 @@ use Rattle.data_model.specs.declared.parameters.Subspace.{Subspace}
 use Rattle.data_model.specs.declared.area.Area.{Area}
 use Rattle.data_model.proofs.Orders.{path-equality, subspace-equality}
 use Rattle.tree.specs.Stored.{Stored, stored, storedOf}
-use Rattle.tree.specs.Tree.{Formed}
+use Rattle.tree.specs.Tree.{Formed, Ordered}
 use Rattle.tree.specs.Apart.{sameAddress, noAddressTwice}
 use Rattle.tree.specs.Matching.{standsAt, isForgotten}
 use Rattle.tree.specs.declared.stored.KeyOrder.the-variants.{Spt, Tsp}
@@ -36,12 +36,15 @@ use Rattle.tree.proofs.RecordLaws.{record-forth, contents-in}
 use Rattle.tree.proofs.WithinLaws.{at-bytes}
 use Rattle.tree.proofs.FormedLaws.{formed-record}
 use Rattle.tree.proofs.FormedContents.{formed-many, formed-next}
-use Rattle.store.specs.Store.{stateWith, Store, storeOf, treeRoom, dirRoom, treeOf, dirOf, held, heldBy, holding}
-use Rattle.store.specs.Refusal.{unless, _orElse_, storeRefusal}
-use Rattle.store.specs.Forget.{without, storeWithout, unexpected, forgetEntryRefusal, forgetEntryOutcome, entryForgotten, forgetAreaRefusal, forgetAreaOutcome, areaForgotten}
+use Rattle.tally.specs.Tally.{tallyRoom, tallyHolding}
+use Rattle.store.specs.Store.{stateWith, Store, storeOf, limitMost, treeRoom, dirRoom, treeOf, dirOf, held, heldBy, holding, Tallied, talliedOf}
+use Rattle.store.specs.Refusal.{unless, _orElse_, talliedRefusal}
+use Rattle.store.specs.Forget.{without, storeWithout, talliedWithout, unexpected, forgetEntryRefusal, forgetEntryOutcome, entryForgotten, forgetAreaRefusal, forgetAreaOutcome, areaForgotten}
 use Rattle.store.specs.declared.state.State.{State}
 use Rattle.store.specs.Change.{inTree, Changed}
-use Rattle.store.proofs.CheckLaws.{or-none, unless-none, Passed, passed}
+use Rattle.store.proofs.CheckLaws.{or-none, unless-none, Passed}
+use Rattle.store.proofs.FitLaws.{fit-without}
+use Rattle.store.proofs.TalliedLaws.{TalliedPassed, tallied-passed, passed-fit, retally-asks, retallied}
 use Rattle.store.proofs.DecideLaws.{marks-first}
 use Rattle.store.proofs.HoldingLaws.{store-holds}
 
@@ -118,23 +121,23 @@ module _ {count : ℕ} {dir tree : List ℕ} (v : Formed Spt count dir tree) (ns
       ∙ one-unexpected s p digest (inTree Spt ns count dir tree) once x (contents-in Spt field ns (records count dir tree) (record-in count k dir tree (v .few) h)) (stands-first h)
 
 -- The refusals of an entry's forgetting.
-module _ (s : Store) (subspace : Subspace) (path : Path) (expects : Bool) (digest : List ℕ) (n : ℕ) (e : n ≡ storeRefusal field s true) where
+module _ (w : Tallied) (subspace : Subspace) (path : Path) (expects : Bool) (digest : List ℕ) (n : ℕ) (e : n ≡ talliedRefusal field w true) where
   abbrev other : Bool
-  other = any (unexpected subspace (components path) expects digest) (held field Spt s)
+  other = any (unexpected subspace (components path) expects digest) (held field Spt (w .store))
 
-  pub entry-early : (n ≡ 0 → ⊥) → n ≡ forgetEntryRefusal field s subspace path expects digest
+  pub entry-early : (n ≡ 0 → ⊥) → n ≡ forgetEntryRefusal field w subspace path expects digest
   unfolding forgetEntryRefusal _orElse_
   entry-early h = rw (← e, ne-eqb n 0 h)
 
-  pub entry-path : n ≡ 0 → legal field path ≡ false → 4 ≡ forgetEntryRefusal field s subspace path expects digest
+  pub entry-path : n ≡ 0 → legal field path ≡ false → 4 ≡ forgetEntryRefusal field w subspace path expects digest
   unfolding forgetEntryRefusal _orElse_ unless
   entry-path z l = rw (← e, z, l)
 
-  pub entry-other : n ≡ 0 → legal field path ≡ true → other ≡ true → 9 ≡ forgetEntryRefusal field s subspace path expects digest
+  pub entry-other : n ≡ 0 → legal field path ≡ true → other ≡ true → 9 ≡ forgetEntryRefusal field w subspace path expects digest
   unfolding forgetEntryRefusal _orElse_ unless
   entry-other z l o = rw (← e, z, l, o)
 
-  pub entry-passes : n ≡ 0 → legal field path ≡ true → other ≡ false → 0 ≡ forgetEntryRefusal field s subspace path expects digest
+  pub entry-passes : n ≡ 0 → legal field path ≡ true → other ≡ false → 0 ≡ forgetEntryRefusal field w subspace path expects digest
   unfolding forgetEntryRefusal _orElse_ unless
   entry-passes z l o = rw (← e, z, l, o)
 
@@ -145,71 +148,72 @@ unasked s p digest l = refute (any (unexpected s p false digest) l) λ e.
     let k = any-view (unexpected s p false digest) l e in
     clash (and-true (standsAt s p (k .0)) false (k .2) .1) refl
 
-module _ (s : Store) (subspace : Subspace) (path : Path) (expects : Bool) (digest : List ℕ) (n : ℕ) (e : n ≡ forgetEntryRefusal field s subspace path expects digest) where
-  pub entry-refused : (n ≡ 0 → ⊥) → forgetEntryOutcome (record { refusal = n; state = s .state }) (s .spt) (s .sptDir) (s .tsp) (s .tspDir) ≡ entryForgotten field s subspace path expects digest
+module _ (w : Tallied) (subspace : Subspace) (path : Path) (expects : Bool) (digest : List ℕ) (n : ℕ) (e : n ≡ forgetEntryRefusal field w subspace path expects digest) where
+  pub entry-refused : (n ≡ 0 → ⊥) → forgetEntryOutcome (record { refusal = n; state = w .store .state }) (w .store .spt) (w .store .sptDir) (w .store .tsp) (w .store .tspDir) (w .tally) ≡ entryForgotten field w subspace path expects digest
   unfolding entryForgotten
   entry-refused h = rw (← e, ne-eqb n 0 h)
 
-  pub entry-tested : n ≡ 0 → (storeRefusal field s true ≡ 0) × (legal field path ≡ true)
+  pub entry-tested : n ≡ 0 → (talliedRefusal field w true ≡ 0) × (legal field path ≡ true)
   unfolding forgetEntryRefusal
   entry-tested z =
-      let k = or-none (storeRefusal field s true) (unless (legal field path) 4 orElse unless (not (any (unexpected subspace (components path) expects digest) (held field Spt s))) 9) (sym e ∙ z) in
-      let j = or-none (unless (legal field path) 4) (unless (not (any (unexpected subspace (components path) expects digest) (held field Spt s))) 9) (k .1) in
+      let k = or-none (talliedRefusal field w true) (unless (legal field path) 4 orElse unless (not (any (unexpected subspace (components path) expects digest) (held field Spt (w .store)))) 9) (sym e ∙ z) in
+      let j = or-none (unless (legal field path) 4) (unless (not (any (unexpected subspace (components path) expects digest) (held field Spt (w .store)))) 9) (k .1) in
       (k .0, unless-none (legal field path) 4 (omega arith) (j .0))
 
-  pub entry-done : n ≡ 0 → (r : State) (a b c d : List ℕ) → storeOf r a b c d ≡ storeWithout field (standsAt subspace (components path)) s
-      → forgetEntryOutcome (record { refusal = 0; state = r }) a b c d ≡ entryForgotten field s subspace path expects digest
+  pub entry-done : n ≡ 0 → (r : State) (a b c d t : List ℕ) → talliedOf r a b c d t ≡ talliedWithout field (standsAt subspace (components path)) w
+      → forgetEntryOutcome (record { refusal = 0; state = r }) a b c d t ≡ entryForgotten field w subspace path expects digest
   unfolding entryForgotten
-  entry-done z r a b c d g =
-      let w : forgetEntryRefusal field s subspace path expects digest ≡ 0 = sym e ∙ z in
-      rw w (λ i. record { answer = record { refusal = 0; state = g i .state }; store = g i })
+  entry-done z r a b c d t g =
+      let v : forgetEntryRefusal field w subspace path expects digest ≡ 0 = sym e ∙ z in
+      rw v (λ i. record { answer = record { refusal = 0; state = g i .store .state }; left = g i })
 
 -- The refusals of an area's forgetting, and the same again.
-module _ (s : Store) (area : Area) (protects : Bool) (protected : Area) (n : ℕ) (e : n ≡ storeRefusal field s true) where
+module _ (w : Tallied) (area : Area) (protects : Bool) (protected : Area) (n : ℕ) (e : n ≡ talliedRefusal field w true) where
   abbrev legalAreas : Bool
   legalAreas = legal field (area .path) && cond protects (legal field (protected .path)) true
 
-  pub area-early : (n ≡ 0 → ⊥) → n ≡ forgetAreaRefusal field s area protects protected
+  pub area-early : (n ≡ 0 → ⊥) → n ≡ forgetAreaRefusal field w area protects protected
   unfolding forgetAreaRefusal _orElse_
   area-early h = rw (← e, ne-eqb n 0 h)
 
-  pub area-path : n ≡ 0 → legalAreas ≡ false → 4 ≡ forgetAreaRefusal field s area protects protected
+  pub area-path : n ≡ 0 → legalAreas ≡ false → 4 ≡ forgetAreaRefusal field w area protects protected
   unfolding forgetAreaRefusal _orElse_ unless
   area-path z l = rw (← e, z, l)
 
-  pub area-passes : n ≡ 0 → legalAreas ≡ true → 0 ≡ forgetAreaRefusal field s area protects protected
+  pub area-passes : n ≡ 0 → legalAreas ≡ true → 0 ≡ forgetAreaRefusal field w area protects protected
   unfolding forgetAreaRefusal _orElse_ unless
   area-passes z l = rw (← e, z, l)
 
-module _ (s : Store) (area : Area) (protects : Bool) (protected : Area) (n : ℕ) (e : n ≡ forgetAreaRefusal field s area protects protected) where
-  pub area-refused : (n ≡ 0 → ⊥) → forgetAreaOutcome (record { refusal = n; state = s .state; forgotten = 0 }) (s .spt) (s .sptDir) (s .tsp) (s .tspDir) ≡ areaForgotten field s area protects protected
+module _ (w : Tallied) (area : Area) (protects : Bool) (protected : Area) (n : ℕ) (e : n ≡ forgetAreaRefusal field w area protects protected) where
+  pub area-refused : (n ≡ 0 → ⊥) → forgetAreaOutcome (record { refusal = n; state = w .store .state; forgotten = 0 }) (w .store .spt) (w .store .sptDir) (w .store .tsp) (w .store .tspDir) (w .tally) ≡ areaForgotten field w area protects protected
   unfolding areaForgotten
   area-refused h = rw (← e, ne-eqb n 0 h)
 
-  pub area-tested : n ≡ 0 → (storeRefusal field s true ≡ 0) × (legal field (area .path) ≡ true) × (cond protects (legal field (protected .path)) true ≡ true)
+  pub area-tested : n ≡ 0 → (talliedRefusal field w true ≡ 0) × (legal field (area .path) ≡ true) × (cond protects (legal field (protected .path)) true ≡ true)
   unfolding forgetAreaRefusal
   area-tested z =
-      let k = or-none (storeRefusal field s true) (unless (legal field (area .path) && cond protects (legal field (protected .path)) true) 4) (sym e ∙ z) in
+      let k = or-none (talliedRefusal field w true) (unless (legal field (area .path) && cond protects (legal field (protected .path)) true) 4) (sym e ∙ z) in
       let l = and-true (legal field (area .path)) (cond protects (legal field (protected .path)) true) (unless-none (legal field (area .path) && cond protects (legal field (protected .path)) true) 4 (omega arith) (k .1)) in
       (k .0, l .0, l .1)
 
-  module _ (z : n ≡ 0) (r : State) (a b c d : List ℕ) (g : storeOf r a b c d ≡ storeWithout field (isForgotten area protects protected) s) where
-    area-count : length (keep (isForgotten area protects protected) (held field Spt s)) + r .count ≡ s .state .count
+  module _ (z : n ≡ 0) (r : State) (a b c d : List ℕ) (g : storeOf r a b c d ≡ storeWithout field (isForgotten area protects protected) (w .store)) where
+    area-count : length (keep (isForgotten area protects protected) (held field Spt (w .store))) + r .count ≡ w .store .state .count
     unfolding holding without heldBy held treeOf dirOf
     area-count =
-        let m : r .count ≡ length (keep (λ (x : Stored). not (isForgotten area protects protected x)) (held field Spt s)) = ap (λ (t : Store). t .state .count) g in
-        let f = formed-many (passed s true (area-tested z .0) .0 .formed Spt) (s .state .«namespace_id») in
-        omega (arith, keep-both (isForgotten area protects protected) (held field Spt s))
+        let m : r .count ≡ length (keep (λ (x : Stored). not (isForgotten area protects protected x)) (held field Spt (w .store))) = ap (λ (t : Store). t .state .count) g in
+        let f = formed-many (tallied-passed w true (area-tested z .0) .0 .passes .formed Spt) (w .store .state .«namespace_id») in
+        omega (arith, keep-both (isForgotten area protects protected) (held field Spt (w .store)))
 
-    pub area-left : r .count ≤ s .state .count
+    pub area-left : r .count ≤ w .store .state .count
     area-left = omega (arith, area-count)
 
-    pub area-done : forgetAreaOutcome (record { refusal = 0; state = r; forgotten = s .state .count - r .count }) a b c d ≡ areaForgotten field s area protects protected
+    pub area-done : (t : List ℕ) → talliedOf r a b c d t ≡ talliedWithout field (isForgotten area protects protected) w
+        → forgetAreaOutcome (record { refusal = 0; state = r; forgotten = w .store .state .count - r .count }) a b c d t ≡ areaForgotten field w area protects protected
     unfolding areaForgotten
-    area-done =
-        let w : forgetAreaRefusal field s area protects protected ≡ 0 = sym e ∙ z in
-        let m : s .state .count - r .count ≡ length (keep (isForgotten area protects protected) (held field Spt s)) = omega (arith, area-count) in
-        rw w (λ i. record { answer = record { refusal = 0; state = g i .state; forgotten = m i }; store = g i })
+    area-done t q =
+        let v : forgetAreaRefusal field w area protects protected ≡ 0 = sym e ∙ z in
+        let m : w .store .state .count - r .count ≡ length (keep (isForgotten area protects protected) (held field Spt (w .store))) = omega (arith, area-count) in
+        rw v (λ i. record { answer = record { refusal = 0; state = q i .store .state; forgotten = m i }; left = q i })
 
 -- What a change of both trees of a store leaves of it: what a test holds of is gone.
 pub left-without : (s : Store) (p : Stored → Bool) → Passed s → (m k : ℕ) (r : State) → r ≡ stateWith (s .state) m → (spt sptDir tsp tspDir : List ℕ)
@@ -241,3 +245,14 @@ asked s subspace p expects digest x t b e q = ap (λ (y : Bool). any (unexpected
 
 pub unasked-in : (s : Store) (subspace : Subspace) (p : Components) (expects : Bool) (digest : List ℕ) → expects ≡ false → any (unexpected subspace p expects digest) (held field Spt s) ≡ false
 unasked-in s subspace p expects digest x = ap (λ (y : Bool). any (unexpected subspace p y digest) (held field Spt s)) x ∙ unasked subspace p digest (held field Spt s)
+
+-- The tally of what is left without what a test holds of: what writing it asks, and that it is then the definition's.
+module _ (w : Tallied) (p : Stored → Bool) (v : TalliedPassed w) (spt-bytes : Bytes (w .store .spt)) (tsp-bytes : Bytes (w .store .tsp)) (r : State) (a b c d : List ℕ)
+    (g : storeOf r a b c d ≡ storeWithout field p (w .store)) where
+  pub without-asks : Ordered Spt (r .count) (take (dirRoom (r .limit)) b) (take (treeRoom field (r .limit)) a) × (r .count ≤ r .limit) × (r .limit ≤ limitMost)
+      × (treeRoom field (r .limit) ≤ length a) × (dirRoom (r .limit) ≤ length b) × (tallyRoom (r .limit) ≤ length (w .tally))
+  without-asks = retally-asks w v (without p (heldBy field (w .store))) (fit-without field (passed-fit (w .store) (v .passes) spt-bytes tsp-bytes) p) r a b c d g
+
+  pub without-tallied : (t : List ℕ) → ((ns : List ℕ) → t ≡ tallyHolding (r .limit) (inTree Spt ns (r .count) (take (dirRoom (r .limit)) b) (take (treeRoom field (r .limit)) a)) (w .tally))
+      → talliedOf r a b c d t ≡ talliedWithout field p w
+  without-tallied = retallied w v (without p (heldBy field (w .store))) (fit-without field (passed-fit (w .store) (v .passes) spt-bytes tsp-bytes) p) r a b c d g

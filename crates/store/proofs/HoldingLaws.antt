@@ -2,17 +2,21 @@
 use Prim.Native.Nat.{ℕ, _≤_}
 use mathlib.Core.Path.{_≡_, refl, sym, ap, _∙_}
 use mathlib.Core.List.{List, [], _++_, map}
+use mathlib.Core.Bool.{_&&_}
 use lib.ListN.{length, take, drop}
 use lib.Seq.{length-take-le}
 use lib.Dec.{lit<}
-use borrow.Author.Tests.{ne-eqb}
+use borrow.Author.Tests.{ne-eqb, leb-true}
+use Rattle.laws.proofs.Truth.{and-true}
+use Rattle.layout.specs.Buffers.{cleared, filled}
 use Rattle.layout.specs.Layout.{treeBytes, dirNumbers}
 use Rattle.data_model.specs.Path.{field}
 use Rattle.tree.specs.Stored.{Stored, recordOf}
 use Rattle.tree.specs.declared.stored.KeyOrder.{KeyOrder}
 use Rattle.tree.specs.declared.stored.KeyOrder.the-variants.{Spt, Tsp}
-use Rattle.store.specs.Store.{Store, storeOf, limitMost, treeRoom, dirRoom, Held, treeHolding, dirHolding, holding}
-use Rattle.store.specs.Refusal.{unless, limitOk, roomy}
+use Rattle.tally.specs.Tally.{tallyRoom, tallyOf, tallyIn, tallyHolding}
+use Rattle.store.specs.Store.{Store, storeOf, limitMost, treeRoom, dirRoom, Held, treeHolding, dirHolding, holding, Tallied, talliedOf}
+use Rattle.store.specs.Refusal.{unless, limitOk, roomy, tallyFits}
 use Rattle.store.specs.Open.{emptyState, noState, nothing, openRefusal, openAnswer, openOutcome, opened, opening}
 use Rattle.store.specs.Change.{Changed}
 use Rattle.store.specs.declared.state.Opened.{Opened}
@@ -56,36 +60,40 @@ module _ (s : Store) (h : Held) (r : Rooms field s) (n k : ℕ) (spt sptDir tsp 
       }
 
 -- Opening: a refusal does not look at the namespace.
-module _ (ns : List ℕ) (limit : ℕ) (spt sptDir tsp tspDir : List ℕ) (n : ℕ) (e : n ≡ openRefusal field (storeOf (emptyState [] limit) spt sptDir tsp tspDir)) where
-  open-given : openRefusal field (storeOf (emptyState ns limit) spt sptDir tsp tspDir) ≡ n
+module _ (ns : List ℕ) (limit : ℕ) (spt sptDir tsp tspDir tally : List ℕ) (n : ℕ) (e : n ≡ openRefusal field (talliedOf (emptyState [] limit) spt sptDir tsp tspDir tally)) where
+  abbrev asked : Tallied
+  asked = talliedOf (emptyState ns limit) spt sptDir tsp tspDir tally
+
+  open-given : openRefusal field asked ≡ n
   unfolding openRefusal roomy
   open-given = sym e
 
-  pub open-refused : (n ≡ 0 → ⊥) → (r : Opened) → r ≡ openAnswer n ns limit → openOutcome r spt sptDir tsp tspDir ≡ opening field ns limit spt sptDir tsp tspDir
+  pub open-refused : (n ≡ 0 → ⊥) → (r : Opened) → r ≡ openAnswer n ns limit → openOutcome r spt sptDir tsp tspDir tally ≡ opening field ns limit spt sptDir tsp tspDir tally
   unfolding opened openAnswer
   open-refused h r q =
       let z = ne-eqb n 0 h in
       let w : r ≡ record { refusal = n; state = noState } = rw z at q in
-      rw (open-given, z) (ap (λ (x : Opened). openOutcome x spt sptDir tsp tspDir) w)
+      rw (open-given, z) (ap (λ (x : Opened). openOutcome x spt sptDir tsp tspDir tally) w)
 
   -- What an opening that is not refused has room for.
-  pub open-passed : n ≡ 0 → (limit ≤ limitMost) × Rooms field (storeOf (emptyState ns limit) spt sptDir tsp tspDir)
+  pub open-passed : n ≡ 0 → (limit ≤ limitMost) × Rooms field (asked .store) × (tallyRoom limit ≤ length tally)
   unfolding openRefusal
   open-passed z =
-      let s = storeOf (emptyState ns limit) spt sptDir tsp tspDir in
-      let k = or-none (unless (limitOk limit) 1) (unless (roomy field limit s) 2) (open-given ∙ z) in
-      (limit-most limit (unless-none (limitOk limit) 1 (lit< tt) (k .0)) .1, rooms field s (unless-none (roomy field limit s) 2 (lit< tt) (k .1)))
+      let s = asked .store in
+      let k = or-none (unless (limitOk limit) 1) (unless (roomy field limit s && tallyFits asked) 2) (open-given ∙ z) in
+      let r = and-true (roomy field limit s) (tallyFits asked) (unless-none (roomy field limit s && tallyFits asked) 2 (lit< tt) (k .1)) in
+      (limit-most limit (unless-none (limitOk limit) 1 (lit< tt) (k .0)) .1, rooms field s (r .0), leb-true (tallyRoom limit) (length tally) (r .1))
 
-  pub open-done : n ≡ 0 → (r : Opened) → r ≡ openAnswer 0 ns limit → (a b c d : List ℕ)
+  pub open-done : n ≡ 0 → (r : Opened) → r ≡ openAnswer 0 ns limit → (a b c d t : List ℕ)
       → a ≡ treeBytes (length (take (treeRoom field limit) spt)) [] → b ≡ dirNumbers (length (take (dirRoom limit) sptDir)) []
       → c ≡ treeBytes (length (take (treeRoom field limit) tsp)) [] → d ≡ dirNumbers (length (take (dirRoom limit) tspDir)) []
-      → openOutcome r (a ++ drop (treeRoom field limit) spt) (b ++ drop (dirRoom limit) sptDir) (c ++ drop (treeRoom field limit) tsp) (d ++ drop (dirRoom limit) tspDir)
-      ≡ opening field ns limit spt sptDir tsp tspDir
-  unfolding opened openAnswer
-  open-done z r q a b c d ea eb ec ed =
-      let s = storeOf (emptyState ns limit) spt sptDir tsp tspDir in
-      let m : openRefusal field s ≡ 0 = open-given ∙ z in
-      let g = store-holds s nothing (open-passed z .1) 0 0 a b c d (record { bytes = ea; numbers = eb; count = refl }) (record { bytes = ec; numbers = ed; count = refl }) in
+      → t ≡ cleared 0 (tallyRoom limit) tally
+      → openOutcome r (a ++ drop (treeRoom field limit) spt) (b ++ drop (dirRoom limit) sptDir) (c ++ drop (treeRoom field limit) tsp) (d ++ drop (dirRoom limit) tspDir) t
+      ≡ opening field ns limit spt sptDir tsp tspDir tally
+  unfolding opened openAnswer tallyHolding tallyIn tallyOf filled cleared
+  open-done z r q a b c d t ea eb ec ed et =
+      let m : openRefusal field asked ≡ 0 = open-given ∙ z in
+      let g = store-holds (asked .store) nothing (open-passed z .1) 0 0 a b c d (record { bytes = ea; numbers = eb; count = refl }) (record { bytes = ec; numbers = ed; count = refl }) in
       rw m
-      (ap (λ (x : Opened). openOutcome x (a ++ drop (treeRoom field limit) spt) (b ++ drop (dirRoom limit) sptDir) (c ++ drop (treeRoom field limit) tsp) (d ++ drop (dirRoom limit) tspDir)) q
-      ∙ (λ i. record { answer = record { refusal = 0; state = emptyState ns limit }; store = g i }))
+      (ap (λ (x : Opened). openOutcome x (a ++ drop (treeRoom field limit) spt) (b ++ drop (dirRoom limit) sptDir) (c ++ drop (treeRoom field limit) tsp) (d ++ drop (dirRoom limit) tspDir) t) q
+      ∙ (λ i. record { answer = record { refusal = 0; state = emptyState ns limit }; left = record { store = g i; tally = et i } }))

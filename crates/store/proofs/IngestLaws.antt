@@ -27,35 +27,36 @@ use Rattle.tree.specs.Matching.{outdates, removes}
 use Rattle.tree.specs.declared.stored.KeyOrder.the-variants.{Spt}
 use Rattle.tree.proofs.FormedLaws.{formed-bounds}
 use Rattle.tree.proofs.FormedContents.{formed-many, formed-next}
-use Rattle.store.specs.Store.{stateWith, Store, dirRoom, treeOf, dirOf, held, heldBy, holding, treeRoom}
-use Rattle.store.specs.Refusal.{unless, _orElse_, storeRefusal}
+use Rattle.store.specs.Store.{stateWith, Store, dirRoom, treeOf, dirOf, held, heldBy, holding, treeRoom, Tallied}
+use Rattle.store.specs.Refusal.{unless, _orElse_, talliedRefusal}
 use Rattle.store.specs.Ingest.{succeeds, is-obsolete, IngestSaid, Decision, refuse, obsolete, take-it, firstThat, decidedOf, decided, stays, outdatedAt, removedFrom, placeDecided, ingestRefusal, judged, plainAnswer, obsoleteAnswer, filed, filedIn, filing, carried, ingested}
 use Rattle.store.specs.Change.{Marked}
 use Rattle.store.specs.declared.state.State.{State}
 use Rattle.store.specs.declared.ingest.Ingestion.{Ingestion}
 use Rattle.store.specs.declared.decide.PlaceDecision.{PlaceDecision}
 use Rattle.store.specs.declared.decide.PlaceDecision.the-variants as place
-use Rattle.store.proofs.CheckLaws.{or-none, unless-none, Passed, passed}
+use Rattle.store.proofs.CheckLaws.{or-none, unless-none, Passed}
+use Rattle.store.proofs.TalliedLaws.{TalliedPassed, tallied-passed}
 use Rattle.store.proofs.Counted.{insert-length}
 
 -- Which refusal comes of which test.
-module _ (s : Store) (prune : List ℕ) (e : EntryValue) (n : ℕ) (rooms : Bool) (er : rooms ≡ leb (dirRoom (s .state .limit)) (length prune)) (en : n ≡ storeRefusal field s rooms) where
-  first : storeRefusal field s (leb (dirRoom (s .state .limit)) (length prune)) ≡ n
-  first = ap (storeRefusal field s) (sym er) ∙ sym en
+module _ (w : Tallied) (prune : List ℕ) (e : EntryValue) (n : ℕ) (rooms : Bool) (er : rooms ≡ leb (dirRoom (w .store .state .limit)) (length prune)) (en : n ≡ talliedRefusal field w rooms) where
+  first : talliedRefusal field w (leb (dirRoom (w .store .state .limit)) (length prune)) ≡ n
+  first = ap (talliedRefusal field w) (sym er) ∙ sym en
 
-  pub refuses-early : (n ≡ 0 → ⊥) → n ≡ ingestRefusal field s prune e
+  pub refuses-early : (n ≡ 0 → ⊥) → n ≡ ingestRefusal field w prune e
   unfolding ingestRefusal _orElse_
   refuses-early h = rw (first, ne-eqb n 0 h)
 
-  pub refuses-path : n ≡ 0 → legal field (e .path) ≡ false → 4 ≡ ingestRefusal field s prune e
+  pub refuses-path : n ≡ 0 → legal field (e .path) ≡ false → 4 ≡ ingestRefusal field w prune e
   unfolding ingestRefusal _orElse_ unless
   refuses-path z l = rw (first, z, l)
 
-  pub refuses-namespace : n ≡ 0 → legal field (e .path) ≡ true → sameList sameNumber (e .«namespace_id») (s .state .«namespace_id») ≡ false → 6 ≡ ingestRefusal field s prune e
+  pub refuses-namespace : n ≡ 0 → legal field (e .path) ≡ true → sameList sameNumber (e .«namespace_id») (w .store .state .«namespace_id») ≡ false → 6 ≡ ingestRefusal field w prune e
   unfolding ingestRefusal _orElse_ unless
   refuses-namespace z l m = rw (first, z, l, m)
 
-  pub refuses-nothing : n ≡ 0 → legal field (e .path) ≡ true → sameList sameNumber (e .«namespace_id») (s .state .«namespace_id») ≡ true → 0 ≡ ingestRefusal field s prune e
+  pub refuses-nothing : n ≡ 0 → legal field (e .path) ≡ true → sameList sameNumber (e .«namespace_id») (w .store .state .«namespace_id») ≡ true → 0 ≡ ingestRefusal field w prune e
   unfolding ingestRefusal _orElse_ unless
   refuses-nothing z l m = rw (first, z, l, m)
 
@@ -66,20 +67,32 @@ pub record Ready (s : Store) (prune : List ℕ) (e : EntryValue) : Type 0 where
   pub legal-path : legal field (e .path) ≡ true
   pub namespace : e .«namespace_id» ≡ s .state .«namespace_id»
 
-pub ready : (s : Store) (prune : List ℕ) (e : EntryValue) → ingestRefusal field s prune e ≡ 0 → Ready s prune e
-unfolding ingestRefusal
-ready s prune e z =
-    let room = leb (dirRoom (s .state .limit)) (length prune) in
-    let same = sameList sameNumber (e .«namespace_id») (s .state .«namespace_id») in
-    let k = or-none (storeRefusal field s room) (unless (legal field (e .path)) 4 orElse unless same 6) z in
-    let m = or-none (unless (legal field (e .path)) 4) (unless same 6) (k .1) in
-    let p = passed s room (k .0) in
-    record {
-      passes = p .0;
-      pairs = leb-true (dirRoom (s .state .limit)) (length prune) (p .1);
-      legal-path = unless-none (legal field (e .path)) 4 (omega arith) (m .0);
-      namespace = component-equality .equal (e .«namespace_id») (s .state .«namespace_id») (unless-none same 6 (omega arith) (m .1));
-    }
+module _ (w : Tallied) (prune : List ℕ) (e : EntryValue) (z : ingestRefusal field w prune e ≡ 0) where
+  abbrev room : Bool
+  room = leb (dirRoom (w .store .state .limit)) (length prune)
+
+  abbrev same : Bool
+  same = sameList sameNumber (e .«namespace_id») (w .store .state .«namespace_id»)
+
+  tests : (talliedRefusal field w room ≡ 0) × ((unless (legal field (e .path)) 4 orElse unless same 6) ≡ 0)
+  unfolding ingestRefusal
+  tests = or-none (talliedRefusal field w room) (unless (legal field (e .path)) 4 orElse unless same 6) z
+
+  pub ready-first : talliedRefusal field w room ≡ 0
+  ready-first = tests .0
+
+  pub ready-tallied : TalliedPassed w × (room ≡ true)
+  ready-tallied = tallied-passed w room (tests .0)
+
+  pub ready : Ready (w .store) prune e
+  ready =
+      let m = or-none (unless (legal field (e .path)) 4) (unless same 6) (tests .1) in
+      record {
+        passes = ready-tallied .0 .passes;
+        pairs = leb-true (dirRoom (w .store .state .limit)) (length prune) (ready-tallied .1);
+        legal-path = unless-none (legal field (e .path)) 4 (omega arith) (m .0);
+        namespace = component-equality .equal (e .«namespace_id») (w .store .state .«namespace_id») (unless-none same 6 (omega arith) (m .1));
+      }
 
 -- The first that a test holds of, by its mark; and how many it holds of.
 module _ {A : Type 0} (p : A → Bool) where
@@ -206,40 +219,43 @@ module _ {G : Type 0} {n : ℕ} where
   obsolete-unlike {s} x {a} e q = absurd (let w : says is-obsolete ≡ says (succeeds n) = sym (ap (λ (b : IngestSaid). b .verdict) e) ∙ q in let z : _≡_ {A = ℕ} 0 1 = cc in omega arith)
 
 -- The answers.
-module _ (s : Store) (prune : List ℕ) (i : Ingestion) where
-  pub answers-refused : (n : ℕ) → n ≡ ingestRefusal field s prune (i .entry) → (n ≡ 0 → ⊥) → (r : IngestSaid) → r ≡ plainAnswer (refuses n) (s .state) → r ≡ ingested field s prune i .answer
+module _ (w : Tallied) (prune : List ℕ) (i : Ingestion) where
+  abbrev s : Store
+  s = w .store
+
+  pub answers-refused : (n : ℕ) → n ≡ ingestRefusal field w prune (i .entry) → (n ≡ 0 → ⊥) → (r : IngestSaid) → r ≡ plainAnswer (refuses n) (s .state) → r ≡ ingested field w prune i .answer
   unfolding ingested judged carried
   answers-refused n q h r er = rw (er, ← q, ne-eqb n 0 h)
 
-  module _ (z : ingestRefusal field s prune (i .entry) ≡ 0) (d : PlaceDecision) (ed : d ≡ placeDecided (s .state .limit) (inSpt s) (entryOf (i .entry)) (i .«prevent_pruning»)) where
+  module _ (z : ingestRefusal field w prune (i .entry) ≡ 0) (d : PlaceDecision) (ed : d ≡ placeDecided (s .state .limit) (inSpt s) (entryOf (i .entry)) (i .«prevent_pruning»)) where
     formed : Formed Spt (s .state .count) (sptDirIn s) (sptIn s)
-    formed = ready-formed s prune (i .entry) (ready s prune (i .entry) z)
+    formed = ready-formed s prune (i .entry) (ready w prune (i .entry) z)
 
-    judged-place : (x : Stored) → judged field s prune (i .entry) (i .«prevent_pruning») ≡ meant (inSpt s) x d
+    judged-place : (x : Stored) → judged field w prune (i .entry) (i .«prevent_pruning») ≡ meant (inSpt s) x d
     unfolding judged held treeOf dirOf
-    judged-place x = rw (eq-eqb (ingestRefusal field s prune (i .entry)) 0 z) (sym (place-meant (s .state .limit) (inSpt s) (entryOf (i .entry)) (i .«prevent_pruning») x) ∙ ap (meant (inSpt s) x) (sym ed))
+    judged-place x = rw (eq-eqb (ingestRefusal field w prune (i .entry)) 0 z) (sym (place-meant (s .state .limit) (inSpt s) (entryOf (i .entry)) (i .«prevent_pruning») x) ∙ ap (meant (inSpt s) x) (sym ed))
 
-    answers : (x : Stored) → ingested field s prune i .answer ≡ carried field s prune (entryOf (i .entry)) (i .token) (meant (inSpt s) x d) .answer
+    answers : (x : Stored) → ingested field w prune i .answer ≡ carried field w prune (entryOf (i .entry)) (i .token) (meant (inSpt s) x d) .answer
     unfolding ingested
-    answers x = ap (λ (j : Decision). carried field s prune (entryOf (i .entry)) (i .token) j .answer) (judged-place x)
+    answers x = ap (λ (j : Decision). carried field w prune (entryOf (i .entry)) (i .token) j .answer) (judged-place x)
 
-    pub answers-late : (k : ℕ) → d ≡ place.Refuse k → (r : IngestSaid) → r ≡ plainAnswer (refuses k) (s .state) → r ≡ ingested field s prune i .answer
+    pub answers-late : (k : ℕ) → d ≡ place.Refuse k → (r : IngestSaid) → r ≡ plainAnswer (refuses k) (s .state) → r ≡ ingested field w prune i .answer
     unfolding meant carried
     answers-late k q r er =
         let x = stored Spt field (s .state .«namespace_id») [] in
-        er ∙ sym (answers x ∙ ap (λ (j : PlaceDecision). carried field s prune (entryOf (i .entry)) (i .token) (meant (inSpt s) x j) .answer) q)
+        er ∙ sym (answers x ∙ ap (λ (j : PlaceDecision). carried field w prune (entryOf (i .entry)) (i .token) (meant (inSpt s) x j) .answer) q)
 
     pub old-bounds : (k : ℕ) → d ≡ place.Old k → InBounds k (sptDirIn s) (sptIn s)
     old-bounds k q = formed-bounds formed k (omega (arith, place-old (s .state .limit) (inSpt s) (entryOf (i .entry)) (i .«prevent_pruning») k (sym ed ∙ q), formed-many formed (s .state .«namespace_id»)))
 
     pub answers-old : (k : ℕ) → d ≡ place.Old k → (r : IngestSaid) → r ≡ obsoleteAnswer (s .state) (stored Spt field (s .state .«namespace_id») (recordAt k (sptDirIn s) (sptIn s)))
-        → r ≡ ingested field s prune i .answer
+        → r ≡ ingested field w prune i .answer
     unfolding meant carried
     answers-old k q r er =
         let x = stored Spt field (s .state .«namespace_id») (recordAt k (sptDirIn s) (sptIn s)) in
         let h = place-old (s .state .limit) (inSpt s) (entryOf (i .entry)) (i .«prevent_pruning») k (sym ed ∙ q) in
         let g = stands-at formed (s .state .«namespace_id») k (omega (arith, formed-many formed (s .state .«namespace_id»))) x in
-        er ∙ ap (obsoleteAnswer (s .state)) (sym g) ∙ sym (answers x ∙ ap (λ (j : PlaceDecision). carried field s prune (entryOf (i .entry)) (i .token) (meant (inSpt s) x j) .answer) q)
+        er ∙ ap (obsoleteAnswer (s .state)) (sym g) ∙ sym (answers x ∙ ap (λ (j : PlaceDecision). carried field w prune (entryOf (i .entry)) (i .token) (meant (inSpt s) x j) .answer) q)
 
     pub take-fits : (n : ℕ) → d ≡ place.Take n → (n ≤ s .state .count) × (s .state .count - n < s .state .limit)
     take-fits n q =
@@ -250,7 +266,7 @@ module _ (s : Store) (prune : List ℕ) (i : Ingestion) where
         (omega (arith, left-number (removes (entryOf (i .entry))) (inSpt s)), omega arith)
 
     pub answers-take : (n : ℕ) → d ≡ place.Take n → (r : IngestSaid) → r ≡ plainAnswer (says (succeeds n)) (stateWith (s .state) (s .state .count - n + 1))
-        → r ≡ ingested field s prune i .answer
+        → r ≡ ingested field w prune i .answer
     unfolding meant carried holding filed filedIn heldBy held treeOf dirOf
     answers-take n q r er =
         let x = stored Spt field (s .state .«namespace_id») [] in
@@ -262,7 +278,7 @@ module _ (s : Store) (prune : List ℕ) (i : Ingestion) where
         er
         ∙ ap (λ (j : ℕ). plainAnswer (says (succeeds n)) (stateWith (s .state) j)) c
         ∙ ap (λ (j : ℕ). plainAnswer (says (succeeds j)) (stateWith (s .state) (length (filedIn Spt (filing (entryOf (i .entry)) (i .token)) (inSpt s))))) (sym a)
-        ∙ sym (answers x ∙ ap (λ (j : PlaceDecision). carried field s prune (entryOf (i .entry)) (i .token) (meant (inSpt s) x j) .answer) q)
+        ∙ sym (answers x ∙ ap (λ (j : PlaceDecision). carried field w prune (entryOf (i .entry)) (i .token) (meant (inSpt s) x j) .answer) q)
       where
         files-length : (y : Stored) (l : List Stored) → length (filedIn Spt y l) ≡ suc (length (keep (stays (y .entry)) l))
         files-length y l = unfold filedIn in insert-length _ y (keep (stays (y .entry)) l)

@@ -5,6 +5,8 @@ pub mod Lifted
 pub mod WellStore
 pub mod DecideLaws
 pub mod CheckLaws
+pub mod FitLaws
+pub mod TalliedLaws
 pub mod IngestLaws
 pub mod ChangeLaws
 pub mod FileLaws

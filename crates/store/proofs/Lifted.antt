@@ -186,13 +186,15 @@ module _ (f : Figures) (s : Store) (h : Held) (v : Fit f (s .state .«namespace_
       let t = length-dir n (map (recordOf o) (listOf o h)) (fit-few f v o) in
       record { long = simp (length-append, length-drop, t) (omega arith); beyond = drop-at (dirNumbers n (map (recordOf o) (listOf o h))) (drop n old) n t }
 
-  pub holding-roomy : roomy f (s .state .limit) s ≡ true → roomy f (s .state .limit) (holding f h s) ≡ true
+  pub holding-rooms : Rooms f s → Rooms f (holding f h s)
   unfolding holding listOf
-  holding-roomy r =
-      let k = rooms f s r in
-      rooms-make f (holding f h s) (record {
-        spt = rw (tree-lent Spt (s .spt) (k .spt) .long) (k .spt);
-        sptDir = rw (dir-lent Spt (s .sptDir) (k .sptDir) .long) (k .sptDir);
-        tsp = rw (tree-lent Tsp (s .tsp) (k .tsp) .long) (k .tsp);
-        tspDir = rw (dir-lent Tsp (s .tspDir) (k .tspDir) .long) (k .tspDir);
-      })
+  holding-rooms k = record {
+    spt = rw (tree-lent Spt (s .spt) (k .spt) .long) (k .spt);
+    sptDir = rw (dir-lent Spt (s .sptDir) (k .sptDir) .long) (k .sptDir);
+    tsp = rw (tree-lent Tsp (s .tsp) (k .tsp) .long) (k .tsp);
+    tspDir = rw (dir-lent Tsp (s .tspDir) (k .tspDir) .long) (k .tspDir);
+  }
+
+  pub holding-roomy : roomy f (s .state .limit) s ≡ true → roomy f (s .state .limit) (holding f h s) ≡ true
+  unfolding holding
+  holding-roomy r = rooms-make f (holding f h s) (holding-rooms (rooms f s r))

@@ -14,8 +14,8 @@ use Rattle.data_model.specs.declared.area.Area.{Area}
 use Rattle.tree.specs.Stored.{Stored}
 use Rattle.tree.specs.Matching.{standsAt, isForgotten}
 use Rattle.tree.specs.declared.stored.KeyOrder.the-variants.{Spt}
-use Rattle.store.specs.Store.{Store, storeOf, held, Held, heldBy, holding}
-use Rattle.store.specs.Refusal.{unless, _orElse_, storeRefusal}
+use Rattle.store.specs.Store.{Store, held, Held, heldBy, holding, Tallied, talliedOf, talliedHolding}
+use Rattle.store.specs.Refusal.{unless, _orElse_, talliedRefusal}
 use Rattle.store.specs.declared.forget.EntryForgotten.{EntryForgotten}
 use Rattle.store.specs.declared.forget.AreaForgotten.{AreaForgotten}
 
@@ -23,55 +23,58 @@ use Rattle.store.specs.declared.forget.AreaForgotten.{AreaForgotten}
 unfoldable pub without : (Stored → Bool) → Held → Held
 without p h = record { spt = keep (λ (x : Stored). not (p x)) (h .spt); tsp = keep (λ (x : Stored). not (p x)) (h .tsp) }
 
--- A store without what a test holds of.
+-- A store without what a test holds of; the same with its tally.
 abbrev pub storeWithout : Figures → (Stored → Bool) → Store → Store
 storeWithout f p s = holding f (without p (heldBy f s)) s
+
+abbrev pub talliedWithout : Figures → (Stored → Bool) → Tallied → Tallied
+talliedWithout f p w = talliedHolding f (without p (heldBy f (w .store))) w
 
 -- An entry: 9, if one stands there and a digest is expected that is not its own. Absent, it is done.
 unfoldable pub unexpected : Subspace → Components → (expects : Bool) → (digest : List ℕ) → Stored → Bool
 unexpected s p expects digest x = standsAt s p x && (expects && not (sameList sameNumber (x .entry .rank .«payload_digest») digest))
 
-unfoldable pub forgetEntryRefusal : Figures → Store → Subspace → Path → (expects : Bool) → (digest : List ℕ) → ℕ
-forgetEntryRefusal f s subspace path expects digest =
-    storeRefusal f s true orElse unless (legal f path) illegalPath orElse
-    unless (not (any (unexpected subspace (components path) expects digest) (held f Spt s))) otherDigest
+unfoldable pub forgetEntryRefusal : Figures → Tallied → Subspace → Path → (expects : Bool) → (digest : List ℕ) → ℕ
+forgetEntryRefusal f w subspace path expects digest =
+    talliedRefusal f w true orElse unless (legal f path) illegalPath orElse
+    unless (not (any (unexpected subspace (components path) expects digest) (held f Spt (w .store)))) otherDigest
 
 pub record ForgetEntryOutcome : Type 0 where
   pub answer : EntryForgotten
-  pub store : Store
+  pub left : Tallied
 
-abbrev pub forgetEntryOutcome : EntryForgotten → List ℕ → List ℕ → List ℕ → List ℕ → ForgetEntryOutcome
-forgetEntryOutcome r a b c d = record { answer = r; store = storeOf (r .state) a b c d }
+abbrev pub forgetEntryOutcome : EntryForgotten → List ℕ → List ℕ → List ℕ → List ℕ → List ℕ → ForgetEntryOutcome
+forgetEntryOutcome r a b c d t = record { answer = r; left = talliedOf (r .state) a b c d t }
 
-unfoldable pub entryForgotten : Figures → Store → Subspace → Path → (expects : Bool) → (digest : List ℕ) → ForgetEntryOutcome
-entryForgotten f s subspace path expects digest =
-    cond (eqb (forgetEntryRefusal f s subspace path expects digest) 0)
-    (record { answer = record { refusal = 0; state = after .state }; store = after })
-    (record { answer = record { refusal = forgetEntryRefusal f s subspace path expects digest; state = s .state }; store = s })
+unfoldable pub entryForgotten : Figures → Tallied → Subspace → Path → (expects : Bool) → (digest : List ℕ) → ForgetEntryOutcome
+entryForgotten f w subspace path expects digest =
+    cond (eqb (forgetEntryRefusal f w subspace path expects digest) 0)
+    (record { answer = record { refusal = 0; state = after .store .state }; left = after })
+    (record { answer = record { refusal = forgetEntryRefusal f w subspace path expects digest; state = w .store .state }; left = w })
   where
-    after : Store
-    after = storeWithout f (standsAt subspace (components path)) s
+    after : Tallied
+    after = talliedWithout f (standsAt subspace (components path)) w
 
 -- An area: the path of an absent protected area is not looked at.
-unfoldable pub forgetAreaRefusal : Figures → Store → Area → (protects : Bool) → Area → ℕ
-forgetAreaRefusal f s area protects protected =
-    storeRefusal f s true orElse unless (legal f (area .path) && cond protects (legal f (protected .path)) true) illegalPath
+unfoldable pub forgetAreaRefusal : Figures → Tallied → Area → (protects : Bool) → Area → ℕ
+forgetAreaRefusal f w area protects protected =
+    talliedRefusal f w true orElse unless (legal f (area .path) && cond protects (legal f (protected .path)) true) illegalPath
 
 pub record ForgetAreaOutcome : Type 0 where
   pub answer : AreaForgotten
-  pub store : Store
+  pub left : Tallied
 
-abbrev pub forgetAreaOutcome : AreaForgotten → List ℕ → List ℕ → List ℕ → List ℕ → ForgetAreaOutcome
-forgetAreaOutcome r a b c d = record { answer = r; store = storeOf (r .state) a b c d }
+abbrev pub forgetAreaOutcome : AreaForgotten → List ℕ → List ℕ → List ℕ → List ℕ → List ℕ → ForgetAreaOutcome
+forgetAreaOutcome r a b c d t = record { answer = r; left = talliedOf (r .state) a b c d t }
 
-unfoldable pub areaForgotten : Figures → Store → Area → (protects : Bool) → Area → ForgetAreaOutcome
-areaForgotten f s area protects protected =
-    cond (eqb (forgetAreaRefusal f s area protects protected) 0)
+unfoldable pub areaForgotten : Figures → Tallied → Area → (protects : Bool) → Area → ForgetAreaOutcome
+areaForgotten f w area protects protected =
+    cond (eqb (forgetAreaRefusal f w area protects protected) 0)
     (record {
-      answer = record { refusal = 0; state = after .state; forgotten = length (keep (isForgotten area protects protected) (held f Spt s)) };
-      store = after;
+      answer = record { refusal = 0; state = after .store .state; forgotten = length (keep (isForgotten area protects protected) (held f Spt (w .store))) };
+      left = after;
     })
-    (record { answer = record { refusal = forgetAreaRefusal f s area protects protected; state = s .state; forgotten = 0 }; store = s })
+    (record { answer = record { refusal = forgetAreaRefusal f w area protects protected; state = w .store .state; forgotten = 0 }; left = w })
   where
-    after : Store
-    after = storeWithout f (isForgotten area protects protected) s
+    after : Tallied
+    after = talliedWithout f (isForgotten area protects protected) w

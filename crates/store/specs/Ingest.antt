@@ -1,9 +1,9 @@
--- Ingestion: 1, 2, 3, 4, 6; obsolete; 7, 8; or the entry is filed in both trees and what it removes goes from both.
+-- Ingestion: 1, 2, 3, 10, 4, 6; obsolete; 7, 8; or the entry is filed in both trees and what it removes goes from both.
 use Prim.Native.Nat.{ℕ, _-_, _*_, _<_}
 use mathlib.Core.Path.{_≡_}
 use mathlib.Core.List.{List, [], _∷_}
 use mathlib.Core.Option.{Option, some, none}
-use mathlib.Core.Bool.{Bool, false, not, cond, _&&_}
+use mathlib.Core.Bool.{Bool, true, false, not, cond, _&&_}
 use lib.ListN.{length, replicate}
 use lib.Dec.{leb, ltb, eqb}
 use Rattle.laws.specs.Lists.{put}
@@ -22,8 +22,8 @@ use Rattle.tree.specs.Stored.{Stored, stored, contents, tripleOf, lengthy}
 use Rattle.tree.specs.Matching.{outdates, removes}
 use Rattle.tree.specs.declared.stored.KeyOrder.{KeyOrder}
 use Rattle.tree.specs.declared.stored.KeyOrder.the-variants.{Spt, Tsp}
-use Rattle.store.specs.Store.{Store, storeOf, dirRoom, treeOf, dirOf, held, Held, heldBy, holding}
-use Rattle.store.specs.Refusal.{unless, _orElse_, storeRefusal}
+use Rattle.store.specs.Store.{Store, dirRoom, treeOf, dirOf, held, Held, heldBy, holding, Tallied, talliedOf, talliedHolding}
+use Rattle.store.specs.Refusal.{unless, _orElse_, storeRefusal, talliedRefusal}
 use Rattle.store.specs.declared.state.State.{State}
 use Rattle.store.specs.declared.ingest.IngestVerdict.{IngestVerdict}
 use Rattle.store.specs.declared.ingest.IngestVerdict.the-variants as verdict
@@ -78,7 +78,7 @@ filedIn o x l = insert (lessIn o) x (keep (stays (x .entry)) l)
 unfoldable pub filed : Stored → Held → Held
 filed x h = record { spt = filedIn Spt x (h .spt); tsp = filedIn Tsp x (h .tsp) }
 
--- What is decided of an entry that is not refused with 1 to 6.
+-- What is decided of an entry that is not refused with 1 to 6 or 10.
 pub data Decision : Type 0 where
   refuse : ℕ → Decision
   obsolete : Stored → Decision
@@ -114,18 +114,20 @@ placeDecided limit stored e prevent =
     (cond (prevent && ltb 0 (removedFrom stored e)) (place.Refuse pruningPrevented)
     (cond (leb limit (length stored - removedFrom stored e)) (place.Refuse full) (place.Take (removedFrom stored e))))
 
-unfoldable pub ingestRefusal : Figures → Store → (prune : List ℕ) → EntryValue → ℕ
-ingestRefusal f s prune e =
-    storeRefusal f s (leb (dirRoom (s .state .limit)) (length prune)) orElse unless (legal f (e .path)) illegalPath orElse
-    unless (sameList sameNumber (e .«namespace_id») (s .state .«namespace_id»)) otherNamespace
+unfoldable pub ingestRefusal : Figures → Tallied → (prune : List ℕ) → EntryValue → ℕ
+ingestRefusal f w prune e =
+    talliedRefusal f w (leb (dirRoom (w .store .state .limit)) (length prune)) orElse unless (legal f (e .path)) illegalPath orElse
+    unless (sameList sameNumber (e .«namespace_id») (w .store .state .«namespace_id»)) otherNamespace
 
-unfoldable pub judged : Figures → Store → (prune : List ℕ) → EntryValue → (prevent : Bool) → Decision
-judged f s prune e prevent =
-    cond (eqb (ingestRefusal f s prune e) 0) (decided (s .state .limit) (held f Spt s) (entryOf e) prevent) (refuse (ingestRefusal f s prune e))
+unfoldable pub judged : Figures → Tallied → (prune : List ℕ) → EntryValue → (prevent : Bool) → Decision
+judged f w prune e prevent =
+    cond (eqb (ingestRefusal f w prune e) 0) (decided (w .store .state .limit) (held f Spt (w .store)) (entryOf e) prevent) (refuse (ingestRefusal f w prune e))
 
--- What is known of an entry that may be filed: no refusal of 1 to 6, nothing outdates it, and fewer than the limit are left.
+-- What is known of an entry that may be filed: it is not refused with 1, 2, 3, 4 or 6, whatever the tally, nothing outdates it, and fewer than the limit are left.
 pub record MayFile (f : Figures) (s : Store) (prune : List ℕ) (e : EntryValue) : Type 0 where
-  pub tested : ingestRefusal f s prune e ≡ 0
+  pub tested : storeRefusal f s (leb (dirRoom (s .state .limit)) (length prune)) ≡ 0
+  pub lawful : legal f (e .path) ≡ true
+  pub named : e .«namespace_id» ≡ s .state .«namespace_id»
   pub current : any (outdates (entryOf e)) (held f Spt s) ≡ false
   pub room : length (keep (stays (entryOf e)) (held f Spt s)) < s .state .limit
 
@@ -136,18 +138,21 @@ plainAnswer v s = record { verdict = v; state = s; newer = noEntry; token = repl
 abbrev pub obsoleteAnswer : State → Stored → IngestSaid
 obsoleteAnswer s x = record { verdict = says is-obsolete; state = s; newer = lengthy x .entry; token = x .token }
 
--- The store after the entry was filed.
+-- The store after the entry was filed; the same with its tally.
 abbrev pub storeFiled : Figures → Store → Entry → (token : List ℕ) → Store
 storeFiled f s e token = holding f (filed (filing e token) (heldBy f s)) s
 
--- The answer, the store and the prune list afterwards.
+abbrev pub talliedFiled : Figures → Tallied → Entry → (token : List ℕ) → Tallied
+talliedFiled f w e token = talliedHolding f (filed (filing e token) (heldBy f (w .store))) w
+
+-- The answer; the store and its tally, and the prune list afterwards.
 pub record IngestOutcome : Type 0 where
   pub answer : IngestSaid
-  pub store : Store
+  pub left : Tallied
   pub prune : List ℕ
 
-abbrev pub ingestOutcome : IngestSaid → List ℕ → List ℕ → List ℕ → List ℕ → List ℕ → IngestOutcome
-ingestOutcome r a b c d prune = record { answer = r; store = storeOf (r .state) a b c d; prune = prune }
+abbrev pub ingestOutcome : IngestSaid → List ℕ → List ℕ → List ℕ → List ℕ → List ℕ → List ℕ → IngestOutcome
+ingestOutcome r a b c d t prune = record { answer = r; left = talliedOf (r .state) a b c d t; prune = prune }
 
 -- The pairs of what an entry removes, as they stand in the subspace-first tree, in key order.
 unfoldable pub prunedPairs : Figures → Store → Entry → List ℕ
@@ -161,15 +166,15 @@ pub record Pruned (f : Figures) (s : Store) (e : Entry) : Type 0 where
       ≡ keep (λ (r : List ℕ). removes e (stored Spt f (s .state .«namespace_id») r)) (records (s .state .count) (dirOf Spt s) (treeOf f Spt s))
   pub entries : contents Spt f (s .state .«namespace_id») (records (length (keep (removes e) (held f Spt s))) (prunedPairs f s e) (treeOf f Spt s)) ≡ keep (removes e) (held f Spt s)
 
-unfoldable pub carried : Figures → Store → (prune : List ℕ) → Entry → (token : List ℕ) → Decision → IngestOutcome
-carried f s prune e token (refuse n) = record { answer = plainAnswer (refuses n) (s .state); store = s; prune = prune }
-carried f s prune e token (obsolete x) = record { answer = obsoleteAnswer (s .state) x; store = s; prune = prune }
-carried f s prune e token take-it = record {
-  answer = plainAnswer (says (succeeds (length (keep (removes e) (held f Spt s))))) (holding f (filed (filing e token) (heldBy f s)) s .state);
-  store = holding f (filed (filing e token) (heldBy f s)) s;
-  prune = put (prunedPairs f s e) prune;
+unfoldable pub carried : Figures → Tallied → (prune : List ℕ) → Entry → (token : List ℕ) → Decision → IngestOutcome
+carried f w prune e token (refuse n) = record { answer = plainAnswer (refuses n) (w .store .state); left = w; prune = prune }
+carried f w prune e token (obsolete x) = record { answer = obsoleteAnswer (w .store .state) x; left = w; prune = prune }
+carried f w prune e token take-it = record {
+  answer = plainAnswer (says (succeeds (length (keep (removes e) (held f Spt (w .store)))))) (talliedFiled f w e token .store .state);
+  left = talliedFiled f w e token;
+  prune = put (prunedPairs f (w .store) e) prune;
 }
 
 -- What an ingestion answers and leaves, of whatever it is handed.
-unfoldable pub ingested : Figures → Store → (prune : List ℕ) → Ingestion → IngestOutcome
-ingested f s prune i = carried f s prune (entryOf (i .entry)) (i .token) (judged f s prune (i .entry) (i .«prevent_pruning»))
+unfoldable pub ingested : Figures → Tallied → (prune : List ℕ) → Ingestion → IngestOutcome
+ingested f w prune i = carried f w prune (entryOf (i .entry)) (i .token) (judged f w prune (i .entry) (i .«prevent_pruning»))

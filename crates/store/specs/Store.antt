@@ -14,6 +14,7 @@ use Rattle.tree.specs.Tree.{wellFormed, within}
 use Rattle.tree.specs.Apart.{noAddressTwice, nonePrunes}
 use Rattle.tree.specs.declared.stored.KeyOrder.{KeyOrder}
 use Rattle.tree.specs.declared.stored.KeyOrder.the-variants.{Spt, Tsp}
+use Rattle.tally.specs.Tally.{tallyRoom, tallyHolding}
 use Rattle.store.specs.declared.state.State.{State}
 
 -- The most entries of a store, and the most bytes of a record.
@@ -101,6 +102,22 @@ holding f h s = record {
   tsp = treeHolding f Tsp (s .state .limit) (h .tsp) (s .tsp);
   tspDir = dirHolding Tsp (s .state .limit) (h .tsp) (s .tspDir);
 }
+
+-- A store and its tally, which the calls that open and change a store are lent beside it.
+pub record Tallied : Type 0 where
+  pub store : Store
+  pub tally : List ℕ
+
+abbrev pub talliedOf : State → List ℕ → List ℕ → List ℕ → List ℕ → (tally : List ℕ) → Tallied
+talliedOf s a b c d t = record { store = storeOf s a b c d; tally = t }
+
+-- The tally's bytes in the limit's room.
+abbrev pub tallyPart : Tallied → List ℕ
+tallyPart w = take (tallyRoom (w .store .state .limit)) (w .tally)
+
+-- A store with its tally, made to hold two lists: the trees as `holding` has them, the tally that of the entries.
+abbrev pub talliedHolding : Figures → Held → Tallied → Tallied
+talliedHolding f h w = record { store = holding f h (w .store); tally = tallyHolding (w .store .state .limit) (h .spt) (w .tally) }
 
 -- A buffer is as long as when it was lent, and as it was beyond the room that is used.
 pub record Lent (room : ℕ) (lent now : List ℕ) : Type 0 where

@@ -26,7 +26,7 @@ ghost use Rattle.layout.specs.Marks.{marksOf};
 ghost use Rattle.laws.specs.Sorted.{keep};
 ghost use Rattle.data_model.specs.Path.{field, legal, components};
 ghost use Rattle.data_model.specs.Entry.{entryOf};
-ghost use Rattle.tree.specs.Stored.{storedOf};
+ghost use Rattle.tree.specs.Stored.{Lawful, storedOf};
 ghost use Rattle.tree.specs.Tree.{Formed, Whole};
 ghost use Rattle.tree.specs.Matching.{removes, standsAt, isForgotten};
 ghost use Rattle.store.specs.Store.{limitMost};
@@ -34,7 +34,7 @@ ghost use Rattle.store.specs.Ingest.{filedIn};
 ghost use Rattle.store.specs.Change.{inTree, Marked, Changed, FilesIn};
 
 // Files an entry in one tree of its namespace whose marks of what the entry removes are given: takes that out, puts its record in at its key's
-// place, and answers the new count.
+// place, and answers the new count. What was handed in is then `Lawful`: its record stands there as bytes.
 pub fn file_marked(
     order: KeyOrder,
     count: usize,
@@ -44,7 +44,8 @@ pub fn file_marked(
     removed: &[u8],
 ) -> usize
     requires { ⌜ (FilesIn order (a .entry .«namespace_id») count (now dir) (now tree) a) × (Marked (removes (entryOf (a .entry))) (inTree order (a .entry .«namespace_id») count (now dir) (now tree)) (now removed)) × (count ≤ length (now removed)) ⌝ }
-    ensures { λ r. ⌜ Changed order (filedIn order (storedOf a) (inTree order (a .entry .«namespace_id») count (now (dir .entry)) (now (tree .entry)))) (now (dir .entry)) (now (tree .entry)) (now (dir .exit)) (now (tree .exit)) r ⌝ }
+    ensures changed { λ r. ⌜ Changed order (filedIn order (storedOf a) (inTree order (a .entry .«namespace_id») count (now (dir .entry)) (now (tree .entry)))) (now (dir .entry)) (now (tree .entry)) (now (dir .exit)) (now (tree .exit)) r ⌝ }
+    ensures lawful { λ _. ⌜ Lawful field (storedOf a) ⌝ }
 {
     let left = retain(count, dir, tree, removed);
     let mut rec = [0u8; RECORD_MOST];

@@ -1,4 +1,4 @@
-// Whether an entry that is not refused with 1 to 6 is outdated, prevented from pruning, in a full store, or taken.
+// Whether an entry that is not refused with 1 to 6 or 10 is outdated, prevented from pruning, in a full store, or taken.
 use crate::state::LIMIT_MOST;
 use data_model::answer::FULL;
 use data_model::answer::PRUNING_PREVENTED;

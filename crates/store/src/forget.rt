@@ -1,17 +1,18 @@
 // Forgetting: the entry at a subspace and path, or what an area includes and a protected area, if any, does not.
 use crate::change::drop_area;
 use crate::change::drop_at;
-use crate::check::check_store;
 use crate::state::LIMIT_MOST;
 use crate::state::RECORD_MOST;
 use crate::state::State;
+use crate::tallied::check_tallied;
+use crate::tallied::retally;
 use data_model::answer::ILLEGAL_PATH;
 use data_model::answer::OTHER_DIGEST;
 use data_model::area::Area;
 use data_model::parameters::Subspace;
 use data_model::path::Path;
 use tree::by_value::is_legal;
-use tree::by_value::same_bytes;
+use tree::bytes::same_bytes;
 use tree::entries::mark_at;
 use tree::marks::first_marked;
 use tree::stored::KeyOrder;
@@ -25,7 +26,7 @@ ghost use Rattle.tree.specs.Tree.{Formed};
 ghost use Rattle.tree.specs.Matching.{standsAt, isForgotten};
 ghost use Rattle.tree.specs.Apart.{noAddressTwice};
 ghost use Rattle.tree.specs.declared.stored.KeyOrder.the-variants.{Spt};
-ghost use Rattle.store.specs.Store.{storeOf, limitMost};
+ghost use Rattle.store.specs.Store.{storeOf, limitMost, talliedOf};
 ghost use Rattle.store.specs.Refusal.{storeRefusal};
 ghost use Rattle.store.specs.Change.{inTree};
 ghost use Rattle.store.specs.Forget.{storeWithout, unexpected, forgetEntryRefusal, forgetEntryOutcome, entryForgotten, forgetAreaRefusal, forgetAreaOutcome, areaForgotten};
@@ -78,21 +79,22 @@ fn is_other_digest(
     !same_bytes(&own, &expected_digest)
 }
 
-// 1, 2, 3, 4 or 9; else 0.
+// 1, 2, 3, 10, 4 or 9; else 0.
 fn forget_entry_refusal(
     state: State,
     spt: &[u8],
     spt_dir: &[u32],
     tsp: &[u8],
     tsp_dir: &[u32],
+    tally: &[u8],
     subspace: Subspace,
     path: Path,
     expects: bool,
     expected_digest: [u8; 32],
 ) -> u8
-    ensures { λ r. ⌜ r ≡ forgetEntryRefusal field (storeOf state (now (spt .entry)) (now («spt_dir» .entry)) (now (tsp .entry)) (now («tsp_dir» .entry))) subspace path expects «expected_digest» ⌝ }
+    ensures { λ r. ⌜ r ≡ forgetEntryRefusal field (talliedOf state (now (spt .entry)) (now («spt_dir» .entry)) (now (tsp .entry)) (now («tsp_dir» .entry)) (now (tally .entry))) subspace path expects «expected_digest» ⌝ }
 {
-    let n = check_store(state, spt, spt_dir, tsp, tsp_dir, true);
+    let n = check_tallied(state, spt, spt_dir, tsp, tsp_dir, tally, true);
     if n != 0 {
         return n;
     }
@@ -161,12 +163,13 @@ pub fn forget_entry(
     spt_dir: &mut [u32],
     tsp: &mut [u8],
     tsp_dir: &mut [u32],
+    tally: &mut [u8],
     subspace: Subspace,
     path: Path,
     expects: bool,
     expected_digest: [u8; 32],
 ) -> EntryForgotten
-    ensures { λ r. ⌜ forgetEntryOutcome r (now (spt .exit)) (now («spt_dir» .exit)) (now (tsp .exit)) (now («tsp_dir» .exit)) ≡ entryForgotten field (storeOf state (now (spt .entry)) (now («spt_dir» .entry)) (now (tsp .entry)) (now («tsp_dir» .entry))) subspace path expects «expected_digest» ⌝ }
+    ensures { λ r. ⌜ forgetEntryOutcome r (now (spt .exit)) (now («spt_dir» .exit)) (now (tsp .exit)) (now («tsp_dir» .exit)) (now (tally .exit)) ≡ entryForgotten field (talliedOf state (now (spt .entry)) (now («spt_dir» .entry)) (now (tsp .entry)) (now («tsp_dir» .entry)) (now (tally .entry))) subspace path expects «expected_digest» ⌝ }
 {
     let refusal = forget_entry_refusal(
         state,
@@ -174,6 +177,7 @@ pub fn forget_entry(
         spt_dir,
         tsp,
         tsp_dir,
+        tally,
         subspace,
         path,
         expects,
@@ -183,6 +187,7 @@ pub fn forget_entry(
         return EntryForgotten { refusal, state };
     }
     let after = forget_at(state, spt, spt_dir, tsp, tsp_dir, subspace, path);
+    retally(after, spt, spt_dir, tally);
     EntryForgotten {
         refusal: 0,
         state: after,
@@ -204,20 +209,21 @@ fn are_legal(area: Area, protects: bool, protected: Area) -> bool
     true
 }
 
-// 1, 2, 3 or 4; else 0.
+// 1, 2, 3, 10 or 4; else 0.
 fn forget_area_refusal(
     state: State,
     spt: &[u8],
     spt_dir: &[u32],
     tsp: &[u8],
     tsp_dir: &[u32],
+    tally: &[u8],
     area: Area,
     protects: bool,
     protected: Area,
 ) -> u8
-    ensures { λ r. ⌜ r ≡ forgetAreaRefusal field (storeOf state (now (spt .entry)) (now («spt_dir» .entry)) (now (tsp .entry)) (now («tsp_dir» .entry))) area protects protected ⌝ }
+    ensures { λ r. ⌜ r ≡ forgetAreaRefusal field (talliedOf state (now (spt .entry)) (now («spt_dir» .entry)) (now (tsp .entry)) (now («tsp_dir» .entry)) (now (tally .entry))) area protects protected ⌝ }
 {
-    let n = check_store(state, spt, spt_dir, tsp, tsp_dir, true);
+    let n = check_tallied(state, spt, spt_dir, tsp, tsp_dir, tally, true);
     if n != 0 {
         return n;
     }
@@ -272,13 +278,24 @@ pub fn forget_area(
     spt_dir: &mut [u32],
     tsp: &mut [u8],
     tsp_dir: &mut [u32],
+    tally: &mut [u8],
     area: Area,
     protects: bool,
     protected: Area,
 ) -> AreaForgotten
-    ensures { λ r. ⌜ forgetAreaOutcome r (now (spt .exit)) (now («spt_dir» .exit)) (now (tsp .exit)) (now («tsp_dir» .exit)) ≡ areaForgotten field (storeOf state (now (spt .entry)) (now («spt_dir» .entry)) (now (tsp .entry)) (now («tsp_dir» .entry))) area protects protected ⌝ }
+    ensures { λ r. ⌜ forgetAreaOutcome r (now (spt .exit)) (now («spt_dir» .exit)) (now (tsp .exit)) (now («tsp_dir» .exit)) (now (tally .exit)) ≡ areaForgotten field (talliedOf state (now (spt .entry)) (now («spt_dir» .entry)) (now (tsp .entry)) (now («tsp_dir» .entry)) (now (tally .entry))) area protects protected ⌝ }
 {
-    let refusal = forget_area_refusal(state, spt, spt_dir, tsp, tsp_dir, area, protects, protected);
+    let refusal = forget_area_refusal(
+        state,
+        spt,
+        spt_dir,
+        tsp,
+        tsp_dir,
+        tally,
+        area,
+        protects,
+        protected,
+    );
     if refusal != 0 {
         return AreaForgotten {
             refusal,
@@ -287,6 +304,7 @@ pub fn forget_area(
         };
     }
     let after = forget_within(state, spt, spt_dir, tsp, tsp_dir, area, protects, protected);
+    retally(after, spt, spt_dir, tally);
     AreaForgotten {
         refusal: 0,
         state: after,

@@ -1,19 +1,20 @@
 // Ingestion.
 use crate::change::file_in;
 use crate::change::file_marked;
-use crate::check::check_store;
 use crate::check::dir_fits;
 use crate::decide::PlaceDecision;
 use crate::decide::decide;
 use crate::state::LIMIT_MOST;
 use crate::state::RECORD_MOST;
 use crate::state::State;
+use crate::tallied::check_tallied;
+use crate::tallied::retally;
 use data_model::answer::ILLEGAL_PATH;
 use data_model::answer::OTHER_NAMESPACE;
 use data_model::entry::Entry;
 use tree::by_value::is_legal;
-use tree::by_value::same_bytes;
 use tree::by_value::zero_entry;
+use tree::bytes::same_bytes;
 use tree::marks::write_pairs;
 use tree::stored::KeyOrder;
 use tree::stored::LengthyAuthorisedEntry;
@@ -26,13 +27,13 @@ ghost use Rattle.layout.specs.Layout.{recordAt};
 ghost use Rattle.data_model.specs.Said.{says};
 ghost use Rattle.data_model.specs.Path.{field};
 ghost use Rattle.data_model.specs.Entry.{entryOf};
-ghost use Rattle.tree.specs.Stored.{stored};
+ghost use Rattle.tree.specs.Stored.{Lawful, stored};
 ghost use Rattle.tree.specs.Matching.{removes};
 ghost use Rattle.tree.specs.Tree.{InBounds};
 ghost use Rattle.tree.specs.declared.stored.KeyOrder.the-variants.{Spt};
-ghost use Rattle.store.specs.Store.{limitMost, stateWith, storeOf, held};
+ghost use Rattle.store.specs.Store.{limitMost, stateWith, storeOf, held, talliedOf};
 ghost use Rattle.store.specs.Change.{Marked};
-ghost use Rattle.store.specs.Ingest.{succeeds, verdictSays, ingestedSays, MayFile, plainAnswer, obsoleteAnswer, storeFiled, prunedPairs, ingestRefusal, ingestOutcome, ingested};
+ghost use Rattle.store.specs.Ingest.{succeeds, verdictSays, ingestedSays, MayFile, filing, plainAnswer, obsoleteAnswer, storeFiled, prunedPairs, ingestRefusal, ingestOutcome, ingested};
 ghost use Rattle.store.specs.declared.ingest.IngestVerdict.the-variants as verdict;
 
 // Success says how many entries were pruned.
@@ -57,20 +58,21 @@ pub struct Ingestion {
     pub prevent_pruning: bool,
 }
 
-// 1, 2, 3, 4 or 6; else 0.
+// 1, 2, 3, 10, 4 or 6; else 0.
 fn ingest_refusal(
     state: State,
     spt: &[u8],
     spt_dir: &[u32],
     tsp: &[u8],
     tsp_dir: &[u32],
+    tally: &[u8],
     prune: &[u32],
     entry: Entry,
 ) -> u8
-    ensures { λ r. ⌜ r ≡ ingestRefusal field (storeOf state (now (spt .entry)) (now («spt_dir» .entry)) (now (tsp .entry)) (now («tsp_dir» .entry))) (now (prune .entry)) entry ⌝ }
+    ensures { λ r. ⌜ r ≡ ingestRefusal field (talliedOf state (now (spt .entry)) (now («spt_dir» .entry)) (now (tsp .entry)) (now («tsp_dir» .entry)) (now (tally .entry))) (now (prune .entry)) entry ⌝ }
 {
     let rooms = dir_fits(prune.len(), state.limit);
-    let n = check_store(state, spt, spt_dir, tsp, tsp_dir, rooms);
+    let n = check_tallied(state, spt, spt_dir, tsp, tsp_dir, tally, rooms);
     if n != 0 {
         return n;
     }
@@ -124,23 +126,24 @@ fn taken_answer(state: State, n: usize) -> Ingested
     plain_answer(IngestVerdict::Success(n), after)
 }
 
-// The whole answer, over the store's buffers shared. With a success, what the entry removes is marked.
+// The whole answer, over the store's buffers and its tally shared. With a success, what the entry removes is marked.
 fn ingest_answer(
     state: State,
     spt: &[u8],
     spt_dir: &[u32],
     tsp: &[u8],
     tsp_dir: &[u32],
+    tally: &[u8],
     prune: &[u32],
     ingestion: Ingestion,
     removed: &mut [u8],
 ) -> Ingested
     requires { ⌜ limitMost ≤ length (now removed) ⌝ }
-    ensures answer { λ r. ⌜ ingestedSays r ≡ ingested field (storeOf state (now (spt .entry)) (now («spt_dir» .entry)) (now (tsp .entry)) (now («tsp_dir» .entry))) (now (prune .entry)) ingestion .answer ⌝ }
+    ensures answer { λ r. ⌜ ingestedSays r ≡ ingested field (talliedOf state (now (spt .entry)) (now («spt_dir» .entry)) (now (tsp .entry)) (now («tsp_dir» .entry)) (now (tally .entry))) (now (prune .entry)) ingestion .answer ⌝ }
     ensures marks { λ r. ⌜ ((n : ℕ) → verdictSays (r .verdict) ≡ says (succeeds n) → Marked (removes (entryOf (ingestion .entry))) (held field Spt (storeOf state (now (spt .entry)) (now («spt_dir» .entry)) (now (tsp .entry)) (now («tsp_dir» .entry)))) (now (removed .exit))) ⌝ }
 {
     let entry = ingestion.entry;
-    let refusal = ingest_refusal(state, spt, spt_dir, tsp, tsp_dir, prune, entry);
+    let refusal = ingest_refusal(state, spt, spt_dir, tsp, tsp_dir, tally, prune, entry);
     if refusal != 0 {
         return plain_answer(IngestVerdict::Refused(refusal), state);
     }
@@ -164,7 +167,8 @@ fn ingest_answer(
     }
 }
 
-// Files an entry in both trees, by the marks of what it removes from the subspace-first tree, and writes the pairs of that.
+// Files an entry in both trees, by the marks of what it removes from the subspace-first tree, and writes the pairs of that. The entry is then
+// `Lawful`: its record stands there as bytes.
 fn file(
     state: State,
     spt: &mut [u8],
@@ -178,6 +182,7 @@ fn file(
     requires { ⌜ (MayFile field (storeOf state (now spt) (now «spt_dir») (now tsp) (now «tsp_dir»)) (now prune) (ingestion .entry)) × (Marked (removes (entryOf (ingestion .entry))) (held field Spt (storeOf state (now spt) (now «spt_dir») (now tsp) (now «tsp_dir»))) (now removed)) × (limitMost ≤ length (now removed)) ⌝ }
     ensures store { λ _. ⌜ storeOf (storeFiled field (storeOf state (now (spt .entry)) (now («spt_dir» .entry)) (now (tsp .entry)) (now («tsp_dir» .entry))) (entryOf (ingestion .entry)) (ingestion .token) .state) (now (spt .exit)) (now («spt_dir» .exit)) (now (tsp .exit)) (now («tsp_dir» .exit)) ≡ storeFiled field (storeOf state (now (spt .entry)) (now («spt_dir» .entry)) (now (tsp .entry)) (now («tsp_dir» .entry))) (entryOf (ingestion .entry)) (ingestion .token) ⌝ }
     ensures pairs { λ _. ⌜ now (prune .exit) ≡ put (prunedPairs field (storeOf state (now (spt .entry)) (now («spt_dir» .entry)) (now (tsp .entry)) (now («tsp_dir» .entry))) (entryOf (ingestion .entry))) (now (prune .entry)) ⌝ }
+    ensures lawful { λ _. ⌜ Lawful field (filing (entryOf (ingestion .entry)) (ingestion .token)) ⌝ }
 {
     let limit = state.limit;
     let count = state.count;
@@ -209,10 +214,11 @@ pub fn ingest_entry_numbers(
     spt_dir: &mut [u32],
     tsp: &mut [u8],
     tsp_dir: &mut [u32],
+    tally: &mut [u8],
     prune: &mut [u32],
     ingestion: Ingestion,
 ) -> Ingested
-    ensures { λ r. ⌜ ingestOutcome (ingestedSays r) (now (spt .exit)) (now («spt_dir» .exit)) (now (tsp .exit)) (now («tsp_dir» .exit)) (now (prune .exit)) ≡ ingested field (storeOf state (now (spt .entry)) (now («spt_dir» .entry)) (now (tsp .entry)) (now («tsp_dir» .entry))) (now (prune .entry)) ingestion ⌝ }
+    ensures { λ r. ⌜ ingestOutcome (ingestedSays r) (now (spt .exit)) (now («spt_dir» .exit)) (now (tsp .exit)) (now («tsp_dir» .exit)) (now (tally .exit)) (now (prune .exit)) ≡ ingested field (talliedOf state (now (spt .entry)) (now («spt_dir» .entry)) (now (tsp .entry)) (now («tsp_dir» .entry)) (now (tally .entry))) (now (prune .entry)) ingestion ⌝ }
 {
     let mut removed = [0u8; LIMIT_MOST];
     let given = ingest_answer(
@@ -221,6 +227,7 @@ pub fn ingest_entry_numbers(
         spt_dir,
         tsp,
         tsp_dir,
+        tally,
         prune,
         ingestion,
         &mut removed,
@@ -237,6 +244,7 @@ pub fn ingest_entry_numbers(
             ingestion,
             &removed,
         );
+        retally(given.state, spt, spt_dir, tally);
     }
     given
 }

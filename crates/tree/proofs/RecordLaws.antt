@@ -258,9 +258,7 @@ module _ (o : KeyOrder) (f : Figures) (ns r : List ℕ) (bytes : Bytes r) (is : 
         sized = key-says .2;
         payload = v .payload;
         digest = v .digest;
-        digestBytes = bytes-take 32 (drop 8 (valuePart r)) (bytes-drop 8 (valuePart r) part-bytes);
         token = v .token;
-        tokenBytes = bytes-take 64 (drop 40 (valuePart r)) (bytes-drop 40 (valuePart r) part-bytes);
         available = v .available;
       }
 

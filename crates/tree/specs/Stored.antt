@@ -3,7 +3,7 @@ use Prim.Native.Nat.{ℕ, _-_, _<_, _^_}
 use mathlib.Core.Path.{_≡_}
 use mathlib.Core.List.{List, [], _∷_, _++_}
 use mathlib.Core.Bool.{Bool, true, _&&_}
-use lib.ListN.{length, take, drop, getD}
+use lib.ListN.{length, take, drop}
 use lib.Dec.{leb}
 use Rattle.laws.specs.Order.{Order, below, on}
 use Rattle.laws.specs.Prefix.{sameNumber, sameList}
@@ -109,9 +109,7 @@ pub record Lawful (f : Figures) (s : Stored) : Type 0 where
   pub sized : Sized (tripleOf (s .entry))
   pub payload : s .entry .rank .«payload_length» < 2 ^ 64
   pub digest : length (s .entry .rank .«payload_digest») ≡ 32
-  pub digestBytes : (i : ℕ) → getD (s .entry .rank .«payload_digest») i 0 < 256
   pub token : length (s .token) ≡ 64
-  pub tokenBytes : (i : ℕ) → getD (s .token) i 0 < 256
   pub available : s .available < 2 ^ 64
 
 -- The value that is handed out for it, and what such a value says.

@@ -1,15 +1,15 @@
 // Values of the data model and questions about them, for the store: each an equation with the data model's definition.
 use data_model::area::Area;
 use data_model::area::AreaRange;
-use data_model::checked;
 use data_model::entry::Entry;
+use data_model::parameters::Subspace;
 use data_model::path::Path;
 use data_model::query_ignore_params::QueryIgnoreParams;
 use data_model::range::PathRange;
 use data_model::range_3d::Range3d;
 ghost use mathlib.Core.Path.{_≡_};
-ghost use Rattle.laws.specs.Prefix.{sameNumber, sameList};
 ghost use Rattle.data_model.specs.Path.{field, legal};
+ghost use Rattle.data_model.specs.Subspace.{sameSubspace};
 ghost use Rattle.data_model.specs.Entry.{noEntry};
 ghost use Rattle.data_model.specs.Ignore.{noFlags};
 ghost use Rattle.data_model.specs.Range.{legalRange};
@@ -36,11 +36,11 @@ pub fn area_range(area: Area) -> AreaRange
     Range3d::from(area)
 }
 
-// Whether bytes are the same.
-pub fn same_bytes(a: &[u8], b: &[u8]) -> bool
-    ensures { λ r. ⌜ r ≡ sameList sameNumber (now (a .entry)) (now (b .entry)) ⌝ }
+// Whether two subspaces are the same.
+pub fn same_subspace(a: Subspace, b: Subspace) -> bool
+    ensures { λ r. ⌜ r ≡ sameSubspace a b ⌝ }
 {
-    checked::same_bytes(a, b)
+    a.eq(b)
 }
 
 // The entry of an answer that shows none.

@@ -4,6 +4,7 @@
 pub mod address;
 pub mod apart;
 pub mod by_value;
+pub mod bytes;
 pub mod edit;
 pub mod entries;
 pub mod interest;

@@ -15,7 +15,7 @@ use Rattle.data_model.specs.declared.parameters.Subspace.{Subspace}
 use Rattle.data_model.specs.declared.path.Path.{Path}
 use Rattle.data_model.specs.declared.«range_3d».Range3d.{Range3d}
 use Rattle.data_model.specs.declared.«query_ignore_params».QueryIgnoreParams.{QueryIgnoreParams}
-use Rattle.store.specs.Store.{Store}
+use Rattle.store.specs.Store.{Store, Tallied}
 use Rattle.store.specs.Ingest.{IngestSaid, ingestedSays, ingestOutcome, ingested}
 use Rattle.store.specs.declared.ingest.Ingestion.{Ingestion}
 use Rattle.store.specs.Forget.{areaForgotten, ForgetAreaOutcome}
@@ -34,19 +34,19 @@ use Rattle.plain.specs.declared.part.PlainPart.{PlainPart}
 use Rattle.virebony.specs.Outcome.{numbersLeft, toldNumbers, pairsLeft, toldPairs}
 
 -- An ingestion over numbers: its outcome, the answer plain and what is handed read.
-pub told : (s : Store) (prune : List ℕ) (i j : Ingestion) → i ≡ j → (g : IngestSaid) (a b c d p : List ℕ) → ingestOutcome g a b c d p ≡ ingested field s prune i → (r : PlainIngested) → r ≡ plainIngested g → numbersLeft r a b c d p ≡ toldNumbers (ingested field s prune j)
-told s prune i j ei g a b c d p eg r er =
-    ap (λ (x : PlainIngested). numbersLeft x a b c d p) er ∙ ap toldNumbers (eg ∙ ap (ingested field s prune) ei)
+pub told : (w : Tallied) (prune : List ℕ) (i j : Ingestion) → i ≡ j → (g : IngestSaid) (a b c d t p : List ℕ) → ingestOutcome g a b c d t p ≡ ingested field w prune i → (r : PlainIngested) → r ≡ plainIngested g → numbersLeft r a b c d t p ≡ toldNumbers (ingested field w prune j)
+told w prune i j ei g a b c d t p eg r er =
+    ap (λ (x : PlainIngested). numbersLeft x a b c d t p) er ∙ ap toldNumbers (eg ∙ ap (ingested field w prune) ei)
 
 -- An ingestion over pairs by value: likewise, with the pairs that the numbers spell.
-pub told-by-value : (s : Store) (prune : List Pair) (i j : Ingestion) → i ≡ j → (g : NumbersIngested) (a b c d : List ℕ) → pairsOutcome (ingestedSays (g .ingested)) a b c d (pairsOf (g .numbers)) ≡ pairsIngested field s prune i → (r : PlainNumbersIngested) → r ≡ plainNumbers g → pairsLeft (r .ingested) a b c d (pairsOf (r .numbers)) ≡ toldPairs (pairsIngested field s prune j)
-told-by-value s prune i j ei g a b c d eg r er =
-    ap (λ (x : PlainNumbersIngested). pairsLeft (x .ingested) a b c d (pairsOf (x .numbers))) er ∙ ap toldPairs (eg ∙ ap (pairsIngested field s prune) ei)
+pub told-by-value : (w : Tallied) (prune : List Pair) (i j : Ingestion) → i ≡ j → (g : NumbersIngested) (a b c d t : List ℕ) → pairsOutcome (ingestedSays (g .ingested)) a b c d t (pairsOf (g .numbers)) ≡ pairsIngested field w prune i → (r : PlainNumbersIngested) → r ≡ plainNumbers g → pairsLeft (r .ingested) a b c d t (pairsOf (r .numbers)) ≡ toldPairs (pairsIngested field w prune j)
+told-by-value w prune i j ei g a b c d t eg r er =
+    ap (λ (x : PlainNumbersIngested). pairsLeft (x .ingested) a b c d t (pairsOf (x .numbers))) er ∙ ap toldPairs (eg ∙ ap (pairsIngested field w prune) ei)
 
 -- A forgotten area: both areas and the flag read.
-pub forgotten : (s : Store) (a a′ : Area) → a ≡ a′ → (b b′ : Bool) → b ≡ b′ → (k k′ : Area) → k ≡ k′ → (o : ForgetAreaOutcome) → o ≡ areaForgotten field s a b k → o ≡ areaForgotten field s a′ b′ k′
-forgotten s a a′ ea b b′ eb k k′ ek o eo =
-    eo ∙ ap (λ (x : Area). areaForgotten field s x b k) ea ∙ ap (λ (x : Bool). areaForgotten field s a′ x k) eb ∙ ap (areaForgotten field s a′ b′) ek
+pub forgotten : (w : Tallied) (a a′ : Area) → a ≡ a′ → (b b′ : Bool) → b ≡ b′ → (k k′ : Area) → k ≡ k′ → (o : ForgetAreaOutcome) → o ≡ areaForgotten field w a b k → o ≡ areaForgotten field w a′ b′ k′
+forgotten w a a′ ea b b′ eb k k′ ek o eo =
+    eo ∙ ap (λ (x : Area). areaForgotten field w x b k) ea ∙ ap (λ (x : Bool). areaForgotten field w a′ x k) eb ∙ ap (areaForgotten field w a′ b′) ek
 
 -- Whether an area or a range includes a triple: the area or the range read, the answer plain.
 pub area-told : (a a′ : Area) → a ≡ a′ → (u : Subspace) (p : Path) (t : ℕ) (w : Said Bool) → w ≡ answered (legal field (a .path) && legal field p) (areaIncludes a u (components p) t) → (r : PlainAnswer) → r ≡ plainAnswer w → r ≡ plainAnswer (answered (legal field (a′ .path) && legal field p) (areaIncludes a′ u (components p) t))

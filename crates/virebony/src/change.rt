@@ -22,7 +22,7 @@ use store::state::Opened;
 use store::state::State;
 ghost use mathlib.Core.Path.{_≡_};
 ghost use Rattle.data_model.specs.Path.{field};
-ghost use Rattle.store.specs.Store.{storeOf};
+ghost use Rattle.store.specs.Store.{talliedOf};
 ghost use Rattle.store.specs.Open.{openOutcome, opening};
 ghost use Rattle.store.specs.Ingest.{ingested};
 ghost use Rattle.store.specs.Forget.{forgetEntryOutcome, entryForgotten, forgetAreaOutcome, areaForgotten};
@@ -39,10 +39,11 @@ pub extern "C" fn vb_open(
     spt_dir: &mut [u32],
     tsp: &mut [u8],
     tsp_dir: &mut [u32],
+    tally: &mut [u8],
 ) -> Opened
-    ensures { λ r. ⌜ openOutcome r (now (spt .exit)) (now («spt_dir» .exit)) (now (tsp .exit)) (now («tsp_dir» .exit)) ≡ opening field (now (namespace .entry)) limit (now (spt .entry)) (now («spt_dir» .entry)) (now (tsp .entry)) (now («tsp_dir» .entry)) ⌝ }
+    ensures { λ r. ⌜ openOutcome r (now (spt .exit)) (now («spt_dir» .exit)) (now (tsp .exit)) (now («tsp_dir» .exit)) (now (tally .exit)) ≡ opening field (now (namespace .entry)) limit (now (spt .entry)) (now («spt_dir» .entry)) (now (tsp .entry)) (now («tsp_dir» .entry)) (now (tally .entry)) ⌝ }
 {
-    open(*namespace, limit, spt, spt_dir, tsp, tsp_dir)
+    open(*namespace, limit, spt, spt_dir, tsp, tsp_dir, tally)
 }
 
 // `store::ingest::ingest_entry_numbers`: ingestion with the pruned pairs in a lent slice of numbers, offset and length by turns.
@@ -53,15 +54,16 @@ pub extern "C" fn vb_ingest_entry_numbers(
     spt_dir: &mut [u32],
     tsp: &mut [u8],
     tsp_dir: &mut [u32],
+    tally: &mut [u8],
     prune: &mut [u32],
     entry: Entry,
     token: &[u8; 64],
     prevent_pruning: u8,
 ) -> PlainIngested
-    ensures { λ r. ⌜ numbersLeft r (now (spt .exit)) (now («spt_dir» .exit)) (now (tsp .exit)) (now («tsp_dir» .exit)) (now (prune .exit)) ≡ toldNumbers (ingested field (storeOf state (now (spt .entry)) (now («spt_dir» .entry)) (now (tsp .entry)) (now («tsp_dir» .entry))) (now (prune .entry)) (ingestionOf entry (now (token .entry)) «prevent_pruning»)) ⌝ }
+    ensures { λ r. ⌜ numbersLeft r (now (spt .exit)) (now («spt_dir» .exit)) (now (tsp .exit)) (now («tsp_dir» .exit)) (now (tally .exit)) (now (prune .exit)) ≡ toldNumbers (ingested field (talliedOf state (now (spt .entry)) (now («spt_dir» .entry)) (now (tsp .entry)) (now («tsp_dir» .entry)) (now (tally .entry))) (now (prune .entry)) (ingestionOf entry (now (token .entry)) «prevent_pruning»)) ⌝ }
 {
     let ingestion = ingestion_of(entry, *token, prevent_pruning);
-    let given = ingest_entry_numbers(state, spt, spt_dir, tsp, tsp_dir, prune, ingestion);
+    let given = ingest_entry_numbers(state, spt, spt_dir, tsp, tsp_dir, tally, prune, ingestion);
     plain_ingested(given)
 }
 
@@ -73,16 +75,17 @@ pub extern "C" fn vb_ingest_entry_by_value(
     spt_dir: &mut [u32],
     tsp: &mut [u8],
     tsp_dir: &mut [u32],
+    tally: &mut [u8],
     prune: PlainPairs,
     entry: Entry,
     token: &[u8; 64],
     prevent_pruning: u8,
 ) -> PlainNumbersIngested
-    ensures { λ r. ⌜ pairsLeft (r .ingested) (now (spt .exit)) (now («spt_dir» .exit)) (now (tsp .exit)) (now («tsp_dir» .exit)) (pairsOf (r .numbers)) ≡ toldPairs (pairsIngested field (storeOf state (now (spt .entry)) (now («spt_dir» .entry)) (now (tsp .entry)) (now («tsp_dir» .entry))) (prune .pairs) (ingestionOf entry (now (token .entry)) «prevent_pruning»)) ⌝ }
+    ensures { λ r. ⌜ pairsLeft (r .ingested) (now (spt .exit)) (now («spt_dir» .exit)) (now (tsp .exit)) (now («tsp_dir» .exit)) (now (tally .exit)) (pairsOf (r .numbers)) ≡ toldPairs (pairsIngested field (talliedOf state (now (spt .entry)) (now («spt_dir» .entry)) (now (tsp .entry)) (now («tsp_dir» .entry)) (now (tally .entry))) (prune .pairs) (ingestionOf entry (now (token .entry)) «prevent_pruning»)) ⌝ }
 {
     let ingestion = ingestion_of(entry, *token, prevent_pruning);
     let pairs = prune.pairs;
-    let given = ingest_entry_by_value(state, spt, spt_dir, tsp, tsp_dir, pairs, ingestion);
+    let given = ingest_entry_by_value(state, spt, spt_dir, tsp, tsp_dir, tally, pairs, ingestion);
     plain_numbers(given)
 }
 
@@ -94,12 +97,13 @@ pub extern "C" fn vb_forget_entry(
     spt_dir: &mut [u32],
     tsp: &mut [u8],
     tsp_dir: &mut [u32],
+    tally: &mut [u8],
     subspace: Subspace,
     path: Path,
     expects: u8,
     expected_digest: &[u8; 32],
 ) -> EntryForgotten
-    ensures { λ r. ⌜ forgetEntryOutcome r (now (spt .exit)) (now («spt_dir» .exit)) (now (tsp .exit)) (now («tsp_dir» .exit)) ≡ entryForgotten field (storeOf state (now (spt .entry)) (now («spt_dir» .entry)) (now (tsp .entry)) (now («tsp_dir» .entry))) subspace path (isYes expects) (now («expected_digest» .entry)) ⌝ }
+    ensures { λ r. ⌜ forgetEntryOutcome r (now (spt .exit)) (now («spt_dir» .exit)) (now (tsp .exit)) (now («tsp_dir» .exit)) (now (tally .exit)) ≡ entryForgotten field (talliedOf state (now (spt .entry)) (now («spt_dir» .entry)) (now (tsp .entry)) (now («tsp_dir» .entry)) (now (tally .entry))) subspace path (isYes expects) (now («expected_digest» .entry)) ⌝ }
 {
     let expecting = is_yes(expects);
     forget_entry(
@@ -108,6 +112,7 @@ pub extern "C" fn vb_forget_entry(
         spt_dir,
         tsp,
         tsp_dir,
+        tally,
         subspace,
         path,
         expecting,
@@ -123,14 +128,25 @@ pub extern "C" fn vb_forget_area(
     spt_dir: &mut [u32],
     tsp: &mut [u8],
     tsp_dir: &mut [u32],
+    tally: &mut [u8],
     area: PlainArea,
     protects: u8,
     protected: PlainArea,
 ) -> AreaForgotten
-    ensures { λ r. ⌜ forgetAreaOutcome r (now (spt .exit)) (now («spt_dir» .exit)) (now (tsp .exit)) (now («tsp_dir» .exit)) ≡ areaForgotten field (storeOf state (now (spt .entry)) (now («spt_dir» .entry)) (now (tsp .entry)) (now («tsp_dir» .entry))) (areaOf area) (isYes protects) (areaOf protected) ⌝ }
+    ensures { λ r. ⌜ forgetAreaOutcome r (now (spt .exit)) (now («spt_dir» .exit)) (now (tsp .exit)) (now («tsp_dir» .exit)) (now (tally .exit)) ≡ areaForgotten field (talliedOf state (now (spt .entry)) (now («spt_dir» .entry)) (now (tsp .entry)) (now («tsp_dir» .entry)) (now (tally .entry))) (areaOf area) (isYes protects) (areaOf protected) ⌝ }
 {
     let whole = area_of(area);
     let protecting = is_yes(protects);
     let kept = area_of(protected);
-    forget_area(state, spt, spt_dir, tsp, tsp_dir, whole, protecting, kept)
+    forget_area(
+        state,
+        spt,
+        spt_dir,
+        tsp,
+        tsp_dir,
+        tally,
+        whole,
+        protecting,
+        kept,
+    )
 }

@@ -9,13 +9,13 @@ use store::state::State;
 ghost use mathlib.Core.Path.{_≡_};
 ghost use mathlib.Core.List.{map};
 ghost use Rattle.data_model.specs.Path.{field};
-ghost use Rattle.store.specs.Store.{storeOf};
+ghost use Rattle.store.specs.Store.{talliedOf};
 ghost use Rattle.pairs.specs.Pairs.{pairsIngested};
 ghost use Rattle.plain.specs.Input.{ingestionOf};
 ghost use Rattle.plain.specs.Rows.{pairOf};
 ghost use Rattle.virebony.specs.Outcome.{pairsLeft, toldPairs};
 
-// Ingestion with the pruned pairs in a lent slice of pairs: answers, store and pairs are those of `pairs::ingest_entry`.
+// Ingestion with the pruned pairs in a lent slice of pairs: answer, store, tally and pairs are those of `pairs::ingest_entry`.
 #[no_mangle]
 pub extern "C" fn vb_ingest_entry(
     state: State,
@@ -23,15 +23,25 @@ pub extern "C" fn vb_ingest_entry(
     spt_dir: &mut [u32],
     tsp: &mut [u8],
     tsp_dir: &mut [u32],
+    tally: &mut [u8],
     prune: &mut [[u32; 2]],
     entry: Entry,
     token: &[u8; 64],
     prevent_pruning: u8,
 ) -> PlainIngested
-    ensures { λ r. ⌜ pairsLeft r (now (spt .exit)) (now («spt_dir» .exit)) (now (tsp .exit)) (now («tsp_dir» .exit)) (map pairOf (now (prune .exit))) ≡ toldPairs (pairsIngested field (storeOf state (now (spt .entry)) (now («spt_dir» .entry)) (now (tsp .entry)) (now («tsp_dir» .entry))) (map pairOf (now (prune .entry))) (ingestionOf entry (now (token .entry)) «prevent_pruning»)) ⌝ }
+    ensures { λ r. ⌜ pairsLeft r (now (spt .exit)) (now («spt_dir» .exit)) (now (tsp .exit)) (now («tsp_dir» .exit)) (now (tally .exit)) (map pairOf (now (prune .exit))) ≡ toldPairs (pairsIngested field (talliedOf state (now (spt .entry)) (now («spt_dir» .entry)) (now (tsp .entry)) (now («tsp_dir» .entry)) (now (tally .entry))) (map pairOf (now (prune .entry))) (ingestionOf entry (now (token .entry)) «prevent_pruning»)) ⌝ }
 {
     let ingestion = ingestion_of(entry, *token, prevent_pruning);
-    let r = ingest_with_room(state, spt, spt_dir, tsp, tsp_dir, prune.len(), ingestion);
+    let r = ingest_with_room(
+        state,
+        spt,
+        spt_dir,
+        tsp,
+        tsp_dir,
+        tally,
+        prune.len(),
+        ingestion,
+    );
     let numbers = r.numbers;
     let ingested = r.ingested;
     write_rows(numbers, prune, r.count);

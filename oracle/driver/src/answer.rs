@@ -34,7 +34,8 @@ pub enum Answer {
     /// Subspace-first and time-first.
     Keys(Vec<u8>, Vec<u8>),
     Triple(Subspace, Path, u64),
-    Trees(Records, Records),
+    /// Both trees, and the items of the tally.
+    Dump(Records, Records, Vec<Item>),
     /// The Rust would answer for another area or sum than 01's, and is not asked.
     Unlike,
     /// Anything else, in words: a panic, an error, what the port does not have.

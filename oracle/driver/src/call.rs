@@ -39,6 +39,8 @@ pub enum Call {
     Decode01(bool, Vec<u8>),
     Dump,
     Put(bool, Vec<u8>, Vec<u8>),
+    /// A number, into the tally at a byte.
+    Poke(u64, u64),
     Avail(Subspace, Path, u64),
     Append(Subspace, Path, u64),
     ForgetPayload(Subspace, Path, Option<Digest>),
@@ -202,6 +204,7 @@ pub fn call(line: &str) -> Option<Call> {
         ("spt01" | "tsp01", 1) => Call::Decode01(*name == "tsp01", raw(f[0])?),
         ("dump", 0) => Call::Dump,
         ("put", 3) => Call::Put(time_first(f[0])?, raw(f[1])?, raw(f[2])?),
+        ("poke", 2) => Call::Poke(number(f[0])?, number(f[1])?),
         ("avail", 3) => Call::Avail(sub(f[0])?, path(f[1])?, number(f[2])?),
         ("append", 3) => Call::Append(sub(f[0])?, path(f[1])?, number(f[2])?),
         ("fpayload", 2) => Call::ForgetPayload(sub(f[0])?, path(f[1])?, None),

@@ -118,16 +118,17 @@ const _: () = assert!(size_of::<Ingested>() == 392 && size_of::<AreaForgotten>()
 extern "C" {
     fn vb_edition() -> u32;
     fn vb_decode_spt_entry_key(key: *const u8, len: usize) -> Decoded;
-    fn vb_open(namespace_id: *const u8, limit: usize, a: *mut u8, al: usize, b: *mut u32, bl: usize, c: *mut u8, cl: usize, d: *mut u32, dl: usize) -> Opened;
-    fn vb_ingest_entry(s: State, a: *mut u8, al: usize, b: *mut u32, bl: usize, c: *mut u8, cl: usize, d: *mut u32, dl: usize, prune: *mut [u32; 2], pairs: usize, entry: Entry, token: *const u8, prevent: u8) -> Ingested;
-    fn vb_forget_entry(s: State, a: *mut u8, al: usize, b: *mut u32, bl: usize, c: *mut u8, cl: usize, d: *mut u32, dl: usize, subspace: Subspace, path: Path, expects: u8, digest: *const u8) -> Opened;
-    fn vb_forget_area(s: State, a: *mut u8, al: usize, b: *mut u32, bl: usize, c: *mut u8, cl: usize, d: *mut u32, dl: usize, area: Area, protects: u8, protected: Area) -> AreaForgotten;
+    fn vb_open(namespace_id: *const u8, limit: usize, a: *mut u8, al: usize, b: *mut u32, bl: usize, c: *mut u8, cl: usize, d: *mut u32, dl: usize, t: *mut u8, tl: usize) -> Opened;
+    fn vb_ingest_entry(s: State, a: *mut u8, al: usize, b: *mut u32, bl: usize, c: *mut u8, cl: usize, d: *mut u32, dl: usize, t: *mut u8, tl: usize, prune: *mut [u32; 2], pairs: usize, entry: Entry, token: *const u8, prevent: u8) -> Ingested;
+    fn vb_forget_entry(s: State, a: *mut u8, al: usize, b: *mut u32, bl: usize, c: *mut u8, cl: usize, d: *mut u32, dl: usize, t: *mut u8, tl: usize, subspace: Subspace, path: Path, expects: u8, digest: *const u8) -> Opened;
+    fn vb_forget_area(s: State, a: *mut u8, al: usize, b: *mut u32, bl: usize, c: *mut u8, cl: usize, d: *mut u32, dl: usize, t: *mut u8, tl: usize, area: Area, protects: u8, protected: Area) -> AreaForgotten;
     fn vb_count_area(s: State, a: *const u8, al: usize, b: *const u32, bl: usize, c: *const u8, cl: usize, d: *const u32, dl: usize, area: Area) -> Counted;
     fn vb_query_area_place(s: State, a: *const u8, al: usize, b: *const u32, bl: usize, c: *const u8, cl: usize, d: *const u32, dl: usize, area: Area, ignore: Ignore, place: usize) -> Listed;
     fn vb_area_of_interest_to_range(s: State, a: *const u8, al: usize, b: *const u32, bl: usize, c: *const u8, cl: usize, d: *const u32, dl: usize, interest: Interest) -> AreaRange;
 }
 const RECORD: usize = 410;
-const EDITION: u32 = 1;
+const ITEM: usize = 28;
+const EDITION: u32 = 2;
 
 /// A record's key and value, read: what a call is handed.
 #[derive(Clone, Copy)]
@@ -160,6 +161,7 @@ pub struct Port {
     spt_dir: Vec<u32>,
     tsp: Vec<u8>,
     tsp_dir: Vec<u32>,
+    tally: Vec<u8>,
     prune: Vec<[u32; 2]>,
 }
 macro_rules! call {
@@ -174,7 +176,7 @@ macro_rules! call_mut {
     ($f:ident, [$($first:expr),*], $s:expr $(, $x:expr)*) => {
         unsafe {
             $f($($first),*, $s.spt.as_mut_ptr(), $s.spt.len(), $s.spt_dir.as_mut_ptr(), $s.spt_dir.len(), $s.tsp.as_mut_ptr(),
-                $s.tsp.len(), $s.tsp_dir.as_mut_ptr(), $s.tsp_dir.len() $(, $x)*)
+                $s.tsp.len(), $s.tsp_dir.as_mut_ptr(), $s.tsp_dir.len(), $s.tally.as_mut_ptr(), $s.tally.len() $(, $x)*)
         }
     };
 }
@@ -188,6 +190,7 @@ impl Port {
             spt_dir: vec![7; 2 * limit],
             tsp: vec![7; RECORD * limit],
             tsp_dir: vec![7; 2 * limit],
+            tally: vec![7; ITEM * limit],
             prune: vec![[0; 2]; limit],
         };
         let o = call_mut!(vb_open, [[0u8; 16].as_ptr(), limit], s);
@@ -254,12 +257,13 @@ impl Port {
         self.spt_dir.copy_from_slice(&from.spt_dir);
         self.tsp.copy_from_slice(&from.tsp);
         self.tsp_dir.copy_from_slice(&from.tsp_dir);
+        self.tally.copy_from_slice(&from.tally);
     }
     pub fn records(&self, tsp: bool) -> Vec<&[u8]> {
         let (tree, dir) = if tsp { (&self.tsp, &self.tsp_dir) } else { (&self.spt, &self.spt_dir) };
         (0..self.state.count).map(|k| &tree[dir[2 * k] as usize..][..dir[2 * k + 1] as usize]).collect()
     }
-    /// The four buffers as bytes.
+    /// The four buffers that a validation looks at, as bytes.
     pub fn bytes(&self) -> [Vec<u8>; 4] {
         let numbers = |v: &Vec<u32>| v.iter().flat_map(|x| x.to_ne_bytes()).collect();
         [self.spt.clone(), self.tsp.clone(), numbers(&self.spt_dir), numbers(&self.tsp_dir)]

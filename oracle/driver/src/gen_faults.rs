@@ -1,7 +1,7 @@
 //! What is wrong with a random call: damaged keys, and faults in what is handed in beside a call's own values.
 use crate::call::Call;
 use crate::gen_steps::Gen;
-use crate::step::{on_store, Front};
+use crate::step::{changes, on_store, Front};
 use model::*;
 
 impl Gen {
@@ -29,8 +29,8 @@ impl Gen {
     pub fn front(&mut self, call: &Call) -> Front {
         let by = if self.a.r.one_in(2) { 1 } else { 1 + self.a.r.at(900) };
         match call {
-            Call::Key(..) if self.a.r.one_in(6) => return Front::Short(5, by),
-            Call::Open(..) if self.a.r.one_in(4) => return Front::Short(self.a.r.at(4), by),
+            Call::Key(..) if self.a.r.one_in(6) => return Front::Short(6, by),
+            Call::Open(..) if self.a.r.one_in(4) => return Front::Short(self.a.r.at(5), by),
             Call::Open(..) => return Front::Plain,
             _ if !on_store(call) || !self.a.r.one_in(14) => return Front::Plain,
             _ => {}
@@ -41,11 +41,11 @@ impl Gen {
         match self.a.r.below(8) {
             0 | 1 => Front::Limit(self.a.r.of(&[0, 1025, limit + 1, limit.saturating_sub(1), u64::MAX, 1 << 63, any])),
             2 => Front::Count(self.a.r.of(&[count + 1, count.saturating_sub(1), limit + 1, u64::MAX, any])),
-            3..=5 => Front::Short(self.a.r.at(if matches!(call, Call::Ingest(..)) { 5 } else { 4 }), by),
+            3..=5 => Front::Short(self.a.r.at(4 + changes(call) as usize + matches!(call, Call::Ingest(..)) as usize), by),
             _ => {
-                let which = self.a.r.at(4);
-                // Mostly where records lie.
-                let used = if which % 2 == 0 { 150 * count + 60 } else { 2 * count + 2 };
+                let which = self.a.r.at(4 + changes(call) as usize);
+                // Mostly where records, or items, lie.
+                let used = [150 * count + 60, 2 * count + 2, 150 * count + 60, 2 * count + 2, ITEM * (items(self.judge.store.entries()).len() as u64 + 1)][which];
                 let any = self.a.r.next();
                 let at = self.a.r.of(&[any % used, any % used, any]);
                 Front::Changed(which, at, self.a.r.next() as u32)

@@ -59,7 +59,14 @@ impl Judge {
             }
             Call::Key(s, p, t) => self.legal(&[p], || Answer::Keys(spt(s, p, *t), tsp(s, p, *t))),
             Call::Decode(time_first, k) | Call::Decode01(time_first, k) => decode(b, *time_first, k),
-            Call::Dump => Answer::Trees(records(self.store.entries(), false), records(self.store.entries(), true)),
+            Call::Dump => {
+                let list = self.store.entries();
+                Answer::Dump(records(list, false), records(list, true), items(list))
+            }
+            Call::Poke(at, n) => {
+                self.store.poke_tally(*at, *n);
+                Answer::Done
+            }
             Call::Avail(s, p, n) if b.legal(p) => {
                 if self.store.poke_available(s, p, *n) { Answer::Done } else { Answer::Absent }
             }

@@ -19,6 +19,7 @@ pub mod probe;
 pub mod rng;
 pub mod show;
 pub mod step;
+pub mod tally;
 #[cfg(feature = "door")]
 pub mod three;
 pub mod walks;

@@ -5,6 +5,7 @@ use crate::answer::Answer;
 use crate::call::*;
 use crate::convert::*;
 use crate::params::*;
+use crate::tally::counted;
 use model::{Bounds, Ignore, Stored, Token};
 use std::panic::{catch_unwind, AssertUnwindSafe};
 use std::rc::Rc;
@@ -36,6 +37,11 @@ impl<const MCL: usize, const MCC: usize, const MPL: usize> Oracle<MCL, MCC, MPL>
     }
     pub fn raw(&self, tsp: bool) -> Vec<(sled::IVec, sled::IVec)> {
         self.tree(tsp).iter().flatten().collect()
+    }
+    /// The tally, counted in both trees; none if they do not give the same.
+    pub fn tally(&self) -> Option<Vec<model::Item>> {
+        let [a, b] = [false, true].map(|time_first| counted(self.raw(time_first).iter().map(|(k, _)| &k[..]), time_first));
+        if a == b { a } else { None }
     }
     fn restore(&self, tsp: bool, old: Vec<(sled::IVec, sled::IVec)>) {
         let t = self.tree(tsp);
@@ -197,12 +203,16 @@ impl<const MCL: usize, const MCC: usize, const MPL: usize> Oracle<MCL, MCC, MPL>
                 let tree = |time_first| -> Vec<_> {
                     self.raw(time_first).into_iter().map(|(k, v)| (k.to_vec(), v.to_vec())).collect()
                 };
-                Answer::Trees(tree(false), tree(true))
+                match self.tally() {
+                    Some(items) => Answer::Dump(tree(false), tree(true), items),
+                    None => Answer::Said("the trees have no tally, or two".into()),
+                }
             }
             Call::Put(tsp, k, v) => {
                 self.tree(*tsp).insert(k, v.clone()).unwrap();
                 Answer::Said("put".into())
             }
+            Call::Poke(..) => Answer::Said("the Rust keeps no tally".into()),
             // A poke from outside into the last eight bytes of the value, in both trees; never above the payload length.
             Call::Avail(s, p, n) => {
                 let p: Path<MCL, MCC, MPL> = path(p)?;

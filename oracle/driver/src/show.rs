@@ -47,13 +47,15 @@ fn range3d(r: &Range3d) -> String {
 fn area(a: &Area) -> String {
     format!("{} {} {}", show_open(&a.subspace, |s| show_last(s)), show_path(&a.path), range(&a.times, u64::to_string))
 }
-/// Both trees, a record a line.
-fn trees(spt: &Records, tsp: &Records) -> String {
+/// Both trees, a record a line, and the tally, an item a line.
+fn dump(spt: &Records, tsp: &Records, items: &[Item]) -> String {
     let mut out = vec![];
     for (name, records) in [("spt", spt), ("tsp", tsp)] {
         out.push(format!("{name} {}", records.len()));
         out.extend(records.iter().map(|(k, v)| format!("{} {}", show_hex(k), show_hex(v))));
     }
+    out.push(format!("tally {}", items.len()));
+    out.extend(items.iter().map(|item| show_hex(&item_bytes(item))));
     out.join("\n")
 }
 
@@ -85,7 +87,7 @@ pub fn show(a: &Answer) -> String {
         Answer::Included(yes) => format!("included {}", *yes as u8),
         Answer::Keys(a, b) => format!("key {} {}", show_hex(a), show_hex(b)),
         Answer::Triple(s, p, t) => format!("triple {} {} {t}", show_last(s), show_path(p)),
-        Answer::Trees(a, b) => trees(a, b),
+        Answer::Dump(a, b, items) => dump(a, b, items),
         Answer::Unlike => "unlike".into(),
         Answer::Said(words) => words.clone(),
     }
@@ -136,6 +138,7 @@ pub fn show_call(c: &Call) -> String {
         Call::Decode01(time_first, k) => format!("{}01 {}", key_kind(*time_first), raw(k)),
         Call::Dump => "dump".into(),
         Call::Put(time_first, k, v) => format!("put {} {} {}", key_kind(*time_first), raw(k), raw(v)),
+        Call::Poke(at, n) => format!("poke {at} {n}"),
         Call::Avail(s, p, n) => format!("avail {} {n}", triple(s, p)),
         Call::Append(s, p, n) => format!("append {} {n}", triple(s, p)),
         Call::ForgetPayload(s, p, d) => format!("fpayload {}{}", triple(s, p), digest(d)),

@@ -18,17 +18,23 @@ pub enum Front {
     Limit(u64),
     /// Another count in the state.
     Count(u64),
-    /// One of the five buffers (two trees with their directories, a prune list), or a key's, shorter than it should be.
+    /// One of the six buffers (two trees with their directories, the tally, a prune list), or a key's, shorter than it should be.
     Short(usize, usize),
-    /// A byte of a tree (0, 2), or a number of a directory (1, 3), at a place modulo its room, is changed by so much.
+    /// A byte of a tree (0, 2) or of the tally (4), or a number of a directory (1, 3), at a place modulo its room, is changed by so much.
     Changed(usize, u64, u32),
+}
+
+/// Whether the call changes a store that is handed in, and so is lent its tally.
+pub fn changes(c: &Call) -> bool {
+    matches!(c, Call::Ingest(..) | Call::Forget(..) | Call::ForgetArea(..))
 }
 
 /// Whether the call is made on a store that is handed in.
 pub fn on_store(c: &Call) -> bool {
     match c {
         Call::Bent(c) => on_store(c),
-        Call::Ingest(..) | Call::Forget(..) | Call::ForgetArea(..) | Call::Entry(..) | Call::QueryArea(..) | Call::IncludedIn(..) => true,
+        c if changes(c) => true,
+        Call::Entry(..) | Call::QueryArea(..) | Call::IncludedIn(..) => true,
         Call::QueryRange(..) | Call::NextInArea(..) | Call::NextInRange(..) | Call::Count(..) | Call::Size(..) | Call::Aoi(..) => true,
         _ => false,
     }

@@ -1,4 +1,4 @@
-//! What lies in a store's four buffers, and which of refusals 1, 2 and 3 a call on lent buffers meets.
+//! What lies in the four buffers of a store's entries, and which of refusals 1, 2 and 3 a call on lent buffers meets.
 use crate::*;
 
 pub const RECORD_MOST: u64 = 410;
@@ -100,15 +100,17 @@ pub fn well_formed(state: &State, lent: Lent) -> Option<Vec<Stored>> {
     (alike && a.iter().enumerate().all(|(i, x)| apart(i, x))).then_some(a)
 }
 
-/// The first of refusals 1 and 2 of a call with this limit. `prune` is the length of a prune list in pairs, if one is lent.
-pub fn rooms(limit: u64, lent: Lent, prune: Option<usize>) -> Option<Refusal> {
+/// The first of refusals 1 and 2 of a call with this limit. `tally` is the length of a tally in bytes and `prune` that of a prune list in pairs, if one
+/// is lent.
+pub fn rooms(limit: u64, lent: Lent, tally: Option<usize>, prune: Option<usize>) -> Option<Refusal> {
     if !(1..=1024).contains(&limit) {
         return Some(1);
     }
     let short = |length: usize, needed: u64| (length as u64) < needed;
     let trees = short(lent.spt.len(), RECORD_MOST * limit) || short(lent.tsp.len(), RECORD_MOST * limit);
     let directories = short(lent.spt_dir.len(), 2 * limit) || short(lent.tsp_dir.len(), 2 * limit);
-    (trees || directories || prune.is_some_and(|n| short(n, limit))).then_some(2)
+    let others = tally.is_some_and(|n| short(n, ITEM * limit)) || prune.is_some_and(|n| short(n, limit));
+    (trees || directories || others).then_some(2)
 }
 
 /// A path as a value: components one after another in 128 bytes, where each ends, and how many there are. None

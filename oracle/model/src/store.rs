@@ -21,18 +21,23 @@ pub struct Store {
     pub limit: Option<u64>,
     pub bounds: Bounds,
     list: Vec<Stored>,
+    /// The tally that calls are lent, as it is.
+    tally: Vec<u8>,
 }
 
 impl Store {
+    fn new(namespace: Namespace, limit: Option<u64>, bounds: Bounds) -> Store {
+        Store { namespace, limit, bounds, list: vec![], tally: vec![0; (ITEM * 1024) as usize] }
+    }
     pub fn unlimited(namespace: Namespace, bounds: Bounds) -> Store {
-        Store { namespace, limit: None, bounds, list: vec![] }
+        Store::new(namespace, None, bounds)
     }
     /// What a refused opening leaves: a state that is all 0, so that every call on the store is refused with 1.
     pub fn closed(bounds: Bounds) -> Store {
-        Store { namespace: [0; 16], limit: Some(0), bounds, list: vec![] }
+        Store::new([0; 16], Some(0), bounds)
     }
     pub fn open(namespace: Namespace, limit: u64, bounds: Bounds) -> Result<Store, Refusal> {
-        if (1..=1024).contains(&limit) { Ok(Store { namespace, limit: Some(limit), bounds, list: vec![] }) } else { Err(1) }
+        if (1..=1024).contains(&limit) { Ok(Store::new(namespace, Some(limit), bounds)) } else { Err(1) }
     }
     pub fn entries(&self) -> &[Stored] {
         &self.list
@@ -44,8 +49,26 @@ impl Store {
         }
         if paths.iter().all(|p| self.bounds.legal(p)) { Ok(()) } else { Err(4) }
     }
+    /// The same of a call that changes the store: 10 goes before 4, if the tally is not the one that the store gives.
+    fn changes(&self, paths: &[&Path]) -> Result<(), Refusal> {
+        self.refusal(&[])?;
+        if !is_tally(&self.list, self.room(), &self.tally) {
+            return Err(10);
+        }
+        self.refusal(paths)
+    }
+    /// How many items the tally has room for.
+    fn room(&self) -> u64 {
+        self.limit.unwrap_or(1024.max(self.list.len() as u64))
+    }
+    /// The tally worked out afresh; what lies beyond the limit's room stays.
+    fn retally(&mut self) {
+        let new = tally(&self.list, self.room());
+        let beyond = self.tally.split_off(new.len().min(self.tally.len()));
+        self.tally = [new, beyond].concat();
+    }
     pub fn ingest(&mut self, e: &Entry, token: &Token, prevent_pruning: bool) -> Result<Verdict, Refusal> {
-        self.refusal(&[&e.path])?;
+        self.changes(&[&e.path])?;
         if e.namespace != self.namespace {
             return Err(6);
         }
@@ -71,6 +94,7 @@ impl Store {
         let triple = |e: &Entry| (e.subspace, e.path.clone(), e.timestamp);
         let place = self.list.partition_point(|x| triple(&x.entry) < triple(e));
         self.list.insert(place, Stored { entry: e.clone(), token: *token, available: 0 });
+        self.retally();
         Ok(Verdict::Taken(pruned))
     }
     fn place_of(&self, s: &Subspace, p: &Path) -> Option<usize> {
@@ -78,19 +102,21 @@ impl Store {
     }
     /// An absent entry answers done, whatever digest was expected.
     pub fn forget_entry(&mut self, s: &Subspace, p: &Path, expected: Option<&Digest>) -> Result<(), Refusal> {
-        self.refusal(&[p])?;
+        self.changes(&[p])?;
         if let Some(i) = self.place_of(s, p) {
             if expected.is_some_and(|d| *d != self.list[i].entry.payload_digest) {
                 return Err(9);
             }
             self.list.remove(i);
+            self.retally();
         }
         Ok(())
     }
     pub fn forget_area(&mut self, area: &Area, protected: Option<&Area>) -> Result<u64, Refusal> {
-        self.refusal(&[Some(&area.path), protected.map(|a| &a.path)].into_iter().flatten().collect::<Vec<_>>())?;
+        self.changes(&[Some(&area.path), protected.map(|a| &a.path)].into_iter().flatten().collect::<Vec<_>>())?;
         let before = self.list.len();
         self.list.retain(|x| !area.includes(&x.entry) || protected.is_some_and(|a| a.includes(&x.entry)));
+        self.retally();
         Ok((before - self.list.len()) as u64)
     }
     pub fn entry(&self, s: &Subspace, p: &Path, ignore: Ignore) -> Result<Option<Stored>, Refusal> {
@@ -136,6 +162,12 @@ impl Store {
             }
         }
         Ok(r)
+    }
+    /// From outside, as no call of the store does: writes a number into the tally, where there is room for its 8 bytes.
+    pub fn poke_tally(&mut self, at: u64, n: u64) {
+        if let Some(to) = usize::try_from(at).ok().and_then(|at| self.tally.get_mut(at..)).and_then(|rest| rest.first_chunk_mut()) {
+            *to = n.to_be_bytes();
+        }
     }
     /// From outside, as no call of the store does: sets the available length, at most the payload length.
     pub fn poke_available(&mut self, s: &Subspace, p: &Path, n: u64) -> bool {

@@ -141,5 +141,38 @@ fn buffers() {
         bd[i] = !bd[i];
     }
     let lent = Lent { spt: &a, spt_dir: &ad, tsp: &b, tsp_dir: &bd };
-    assert_eq!((rooms(2, lent, Some(2)), rooms(0, lent, None), rooms(3, lent, None), rooms(2, lent, Some(1))), (None, Some(1), Some(2), Some(2)));
+    assert_eq!((rooms(2, lent, None, Some(2)), rooms(0, lent, None, None), rooms(3, lent, None, None), rooms(2, lent, None, Some(1))), (None, Some(1), Some(2), Some(2)));
+    assert_eq!((rooms(2, lent, Some(56), None), rooms(2, lent, Some(55), None), rooms(0, lent, Some(0), None)), (None, Some(2), Some(1)));
+}
+
+/// Document 02's U1: the items of a store, and refusal 10.
+#[test]
+fn tallies() {
+    let of = |subspace, path, timestamp| Entry { subspace, ..entry(path, timestamp, 0, 0) };
+    let high = [1, 0, 0, 0, 0, 0, 0, 0, 0, 0, 0, 0, 0, 0, 0, 0];
+    let mut s = Store::open([0; 16], 4, FIELD).unwrap();
+    s.ingest(&of(sub(0), p(&[]), 0), &TOKEN, false).unwrap();
+    assert_eq!(tally(s.entries(), 1), [&[0; 19][..], &[1], &[0; 8]].concat());
+    s.ingest(&of(high, p(&[]), u64::MAX), &TOKEN, false).unwrap();
+    s.ingest(&of(sub(7), p(&[&[0x61]]), 5), &TOKEN, false).unwrap();
+    s.ingest(&of(sub(7), p(&[&[0x62]]), 9), &TOKEN, false).unwrap();
+    assert_eq!(items(s.entries()), [(sub(0), 1, 0), (sub(7), 2, 9), (high, 1, u64::MAX)]);
+    assert_eq!(tally(s.entries(), 4)[28..56], [&sub(7)[..], &[0, 0, 0, 2], &[0, 0, 0, 0, 0, 0, 0, 9]].concat());
+    assert_eq!(tally(s.entries(), 4)[84..], [0; 28]);
+    assert_eq!(s.forget_entry(&sub(7), &p(&[&[0x62]]), None), Ok(()));
+    assert_eq!(items(s.entries()), [(sub(0), 1, 0), (sub(7), 1, 5), (high, 1, u64::MAX)]);
+    assert_eq!(s.forget_entry(&sub(7), &p(&[&[0x61]]), None), Ok(()));
+    assert_eq!(items(s.entries()), [(sub(0), 1, 0), (high, 1, u64::MAX)]);
+    let all = Area { subspace: None, path: p(&[]), times: Range { start: 0, end: None } };
+    let bad = Area { path: vec![vec![]; 9], ..all.clone() };
+    s.poke_tally(4 * 28 - 7, 0); // partly beyond the room
+    assert_eq!(s.forget_area(&bad, None), Err(4));
+    s.poke_tally(4 * 28 - 8, 1);
+    assert_eq!((s.forget_area(&bad, None), s.forget_entry(&sub(1), &bad.path, None)), (Err(10), Err(10)));
+    assert_eq!(s.ingest(&of(sub(1), bad.path.clone(), 5), &TOKEN, false), Err(10));
+    assert_eq!((s.count_area(&all), s.count_area(&bad)), (Ok(2), Err(4)));
+    s.poke_tally(4 * 28 - 8, 0);
+    s.poke_tally(4 * 28, 1); // beyond it
+    assert_eq!(s.forget_area(&all, None), Ok(2));
+    assert_eq!(Store::closed(FIELD).forget_area(&all, None), Err(1));
 }

@@ -1,4 +1,4 @@
-//! What the door answers. A yes or no is a byte, 0 or 1; a refusal is 0 or one of the nine numbers ([`crate::Refusal`]).
+//! What the door answers. A yes or no is a byte, 0 or 1; a refusal is 0 or one of the numbers of [`crate::Refusal`].
 use super::{layout, Entry, Pair, Path, Range, State, Subspace, LIMIT_MOST, MCL};
 
 /// What opening answers.
@@ -15,7 +15,7 @@ pub struct Opened {
 #[repr(C)]
 #[derive(Clone, Copy, Debug, PartialEq, Eq)]
 pub struct Ingested {
-    /// 0, or 1, 2, 3, 4, 6, 7, 8.
+    /// 0, or 1, 2, 3, 10, 4, 6, 7, 8.
     pub refusal: u8,
     /// 1: a stored entry is newer, and nothing changed.
     pub obsolete: u8,
@@ -43,7 +43,7 @@ pub struct PairsIngested {
 #[repr(C)]
 #[derive(Clone, Copy, Debug, PartialEq, Eq)]
 pub struct EntryForgotten {
-    /// 0, or 1, 2, 3, 4, 9.
+    /// 0, or 1, 2, 3, 10, 4, 9.
     pub refusal: u8,
     /// The state to hand in next.
     pub state: State,
@@ -53,7 +53,7 @@ pub struct EntryForgotten {
 #[repr(C)]
 #[derive(Clone, Copy, Debug, PartialEq, Eq)]
 pub struct AreaForgotten {
-    /// 0, or 1, 2, 3, 4.
+    /// 0, or 1, 2, 3, 10, 4.
     pub refusal: u8,
     /// The state to hand in next.
     pub state: State,

@@ -52,13 +52,15 @@ macro_rules! into_store {
     ($($(#[$doc:meta])* $name:ident = $symbol:ident($($first:ident: $kind:ty),*; $($lent:ident: [$element:ty])?; $($arg:ident: $type:ty),*) -> $answer:ty;)*) => {
         extern "C" {
             $(fn $symbol($($first: $kind,)* spt: *mut u8, spt_len: usize, spt_dir: *mut u32, spt_dir_len: usize,
-                tsp: *mut u8, tsp_len: usize, tsp_dir: *mut u32, tsp_dir_len: usize, $($lent: *mut $element, lent_len: usize,)? $($arg: $type),*) -> $answer;)*
+                tsp: *mut u8, tsp_len: usize, tsp_dir: *mut u32, tsp_dir_len: usize, tally: *mut u8, tally_len: usize,
+                $($lent: *mut $element, lent_len: usize,)? $($arg: $type),*) -> $answer;)*
         }
         $($(#[$doc])* pub fn $name($($first: $kind,)* store: &mut BuffersMut<'_>, $($lent: &mut [$element],)? $($arg: $type),*) -> $answer {
-            let BuffersMut { spt, spt_dir, tsp, tsp_dir } = store;
+            let BuffersMut { spt, spt_dir, tsp, tsp_dir, tally } = store;
             unsafe {
                 $symbol($($first,)* spt.as_mut_ptr(), spt.len(), spt_dir.as_mut_ptr(), spt_dir.len(),
-                    tsp.as_mut_ptr(), tsp.len(), tsp_dir.as_mut_ptr(), tsp_dir.len(), $($lent.as_mut_ptr(), $lent.len(),)? $($arg),*)
+                    tsp.as_mut_ptr(), tsp.len(), tsp_dir.as_mut_ptr(), tsp_dir.len(), tally.as_mut_ptr(), tally.len(),
+                    $($lent.as_mut_ptr(), $lent.len(),)? $($arg),*)
             }
         })*
     };
@@ -70,13 +72,13 @@ over_values! {
 }
 
 into_store! {
-    /// Opens a store of no entries, for at most `limit` of them: writes zeros up to the limit's room. Refused: 1, 2.
+    /// Opens a store of no entries, for at most `limit` of them: writes zeros up to the limit's room, in the tally too. Refused: 1, 2.
     open = vb_open(namespace_id: &[u8; 16], limit: usize;;) -> Opened;
 
-    /// Files an entry with its token and available length 0. It is obsolete, and nothing changes, if a stored entry of the subspace at a prefix of its
-    /// path is newer. Else what it outdates is removed: entries at its path or below that are not newer. The pairs of these, as they stood before the
+    /// Files an entry with its token and available length 0. It is obsolete, and nothing changes, if a stored entry of the subspace, at a prefix of its
+    /// path or the path itself, is newer. Else what it outdates is removed: entries at its path or below that are not newer. The pairs of these, as they stood before the
     /// call, in key order, go to the front of `prune`, which has at least `limit` pairs; `pruned` says how many, and what lies behind stays.
-    /// Refused: 1, 2, 3, 4, 6, then obsolete, then 7 (with `prevent_pruning`), 8.
+    /// Refused: 1, 2, 3, 10, 4, 6, then obsolete, then 7 (with `prevent_pruning`), 8.
     ingest_entry = vb_ingest_entry(state: State; prune: [Pair]; entry: Entry, token: &[u8; 64], prevent_pruning: u8) -> Ingested;
 
     /// [`ingest_entry`] over a prune list of at least 2 × limit numbers, offset and length by turns. Refused as there.
@@ -86,11 +88,11 @@ into_store! {
     ingest_entry_by_value = vb_ingest_entry_by_value(state: State;; prune: Pairs, entry: Entry, token: &[u8; 64], prevent_pruning: u8) -> PairsIngested;
 
     /// Drops the entry at a subspace and path, if there is one. With `expects`, only if its digest is the one expected; without, the digest is not
-    /// looked at. An absent entry answers done. Refused: 1, 2, 3, 4, 9.
+    /// looked at. An absent entry answers done. Refused: 1, 2, 3, 10, 4, 9.
     forget_entry = vb_forget_entry(state: State;; subspace: Subspace, path: Path, expects: u8, expected_digest: &[u8; 32]) -> EntryForgotten;
 
     /// Drops every entry that `area` includes and, with `protects`, `protected_area` does not; answers how many. Without `protects` the second area is
-    /// not looked at. Refused: 1, 2, 3, 4.
+    /// not looked at. Refused: 1, 2, 3, 10, 4.
     forget_area = vb_forget_area(state: State;; area: Area, protects: u8, protected_area: Area) -> AreaForgotten;
 }
 

@@ -2,7 +2,7 @@
 use super::layout;
 
 /// The edition of `virebony.h` that this crate is written for; compare [`edition`](super::edition).
-pub const EDITION: u32 = 1;
+pub const EDITION: u32 = 2;
 /// Entries that a store may be opened for.
 pub const LIMIT_MOST: usize = 1024;
 /// Bytes of a record: a tree has so many for each entry of the limit.
@@ -11,6 +11,8 @@ pub const RECORD_MOST: usize = 410;
 pub const KEY_MOST: usize = 298;
 /// Bytes of a record's value: payload length 8, digest 32, token 64, available length 8.
 pub const VALUE: usize = 112;
+/// Bytes of a tally's item: subspace 16, count 4, newest timestamp 8, each big-endian. A tally has so many for each entry of the limit.
+pub const ITEM: usize = 28;
 /// Bytes of a component.
 pub const MCL: usize = 64;
 /// Components of a path.
@@ -150,7 +152,7 @@ pub struct Ignore {
     pub empty_payloads: u8,
 }
 
-/// Kept by the caller from one call to the next, beside the four buffers; hand in the one that the last call answered.
+/// Kept by the caller from one call to the next, beside the buffers; hand in the one that the last call answered.
 #[repr(C)]
 #[derive(Clone, Copy, Debug, Default, PartialEq, Eq, Hash)]
 pub struct State {
@@ -186,8 +188,8 @@ impl Default for Pairs {
     }
 }
 
-/// The four buffers of a store, lent to a call that reads: slices of any length. The limit asks for 410 × limit bytes of a tree and 2 × limit numbers of
-/// a directory; what lies beyond is not read.
+/// The four buffers of a store that are lent to a call that reads: slices of any length. The limit asks for 410 × limit bytes of a tree and 2 × limit
+/// numbers of a directory; what lies beyond is not read. No call that reads takes the tally.
 #[derive(Clone, Copy, Debug)]
 pub struct Buffers<'a> {
     /// The subspace-first tree.
@@ -200,7 +202,7 @@ pub struct Buffers<'a> {
     pub tsp_dir: &'a [u32],
 }
 
-/// The four buffers of a store, lent to a call that writes: slices of any length. What lies beyond the limit's room is neither read nor written.
+/// The buffers of a store, lent to a call that writes: slices of any length. What lies beyond the limit's room is neither read nor written.
 #[derive(Debug)]
 pub struct BuffersMut<'a> {
     /// The subspace-first tree.
@@ -211,10 +213,12 @@ pub struct BuffersMut<'a> {
     pub tsp: &'a mut [u8],
     /// Its directory.
     pub tsp_dir: &'a mut [u32],
+    /// The tally, of at least 28 × limit bytes: for each subspace with entries, in ascending order, an item of 28 bytes ([`ITEM`]); zeros behind.
+    pub tally: &'a mut [u8],
 }
 
 impl BuffersMut<'_> {
-    /// The same buffers, for a call that reads.
+    /// The same buffers without the tally, for a call that reads.
     pub fn as_buffers(&self) -> Buffers<'_> {
         Buffers { spt: self.spt, spt_dir: self.spt_dir, tsp: self.tsp, tsp_dir: self.tsp_dir }
     }

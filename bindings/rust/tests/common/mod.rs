@@ -81,6 +81,7 @@ pub struct Kept {
     pub spt_dir: Vec<u32>,
     pub tsp: Vec<u8>,
     pub tsp_dir: Vec<u32>,
+    pub tally: Vec<u8>,
     pub prune: Vec<raw::Pair>,
 }
 
@@ -93,6 +94,7 @@ impl Kept {
             spt_dir: vec![0xeeee_eeee; 2 * limit],
             tsp: vec![0xee; 410 * limit],
             tsp_dir: vec![0xeeee_eeee; 2 * limit],
+            tally: vec![0xee; 28 * limit],
             prune: vec![UNTOUCHED; limit],
         }
     }
@@ -110,7 +112,8 @@ impl Kept {
     }
 
     pub fn buffers_mut(&mut self) -> raw::BuffersMut<'_> {
-        raw::BuffersMut { spt: &mut self.spt, spt_dir: &mut self.spt_dir, tsp: &mut self.tsp, tsp_dir: &mut self.tsp_dir }
+        let Kept { spt, spt_dir, tsp, tsp_dir, tally, .. } = self;
+        raw::BuffersMut { spt, spt_dir, tsp, tsp_dir, tally }
     }
 
     pub fn ingest(&mut self, entry: raw::Entry, prevent_pruning: u8) -> raw::Ingested {

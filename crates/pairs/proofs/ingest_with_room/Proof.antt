@@ -36,8 +36,11 @@ same-length-3 c = search needs
 same-length-4 : tie.Need-same-length-4
 same-length-4 c = search needs
 
+same-length-5 : tie.Need-same-length-5
+same-length-5 c = search needs
+
 returns : tie.Need-returns
-returns c = (with-front _ _ _ _ _ _ _ _ _ _ (c .before .before .before .before .before .before .before .before .before .before .before .before .before .before .before .before .numbers-used .ensures .0) (c .before .before .before .before .before .before .before .before .before .before .before .before .before .before .before .before .numbers-used .ensures .1) (c .before .numbers2 .given) (c .before .before .before .before .before .before .before .before .before .before .ingest-entry-numbers .ensures), c .pruned-count .ensures)
+returns c = let n = c .before .before .before .before .before .before .before .before .before .before .before .before .before .before .before .before .before .before .before .numbers-used .ensures in (with-front _ _ _ _ _ _ _ _ _ _ _ (n .0) (n .1) (c .before .numbers2 .given) (c .before .before .before .before .before .before .before .before .before .before .before .before .ingest-entry-numbers .ensures), c .pruned-count .ensures)
 
 pub ingest-with-room-spec : {M : Type 1} → statement M
 ingest-with-room-spec =
@@ -52,4 +55,5 @@ ingest-with-room-spec =
     same-length-2
     same-length-3
     same-length-4
+    same-length-5
     returns)

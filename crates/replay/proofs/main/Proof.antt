@@ -6,10 +6,10 @@ use Rattle.replay.proofs.main.Statement.{statement}
 use Rattle.replay.proofs.main.Tie as tie
 
 abbrev Inv-loop : tie.InvT-loop
-Inv-loop a₀ b₀ c₀ d₀ state₀ turns₀ t8 a b c d state turns = (length a ≡ 419840) × (length b ≡ 2048) × (length c ≡ 419840) × (length d ≡ 2048)
+Inv-loop a₀ b₀ c₀ d₀ e₀ state₀ turns₀ t8 a b c d e state turns = (length a ≡ 419840) × (length b ≡ 2048) × (length c ≡ 419840) × (length d ≡ 2048) × (length e ≡ 28672)
 
 abbrev μ-loop : tie.MeasureT-loop
-μ-loop a₀ b₀ c₀ d₀ state₀ turns₀ t8 a b c d state turns = turns
+μ-loop a₀ b₀ c₀ d₀ e₀ state₀ turns₀ t8 a b c d e state turns = turns
 
 tree-buffer-requires : tie.Need-tree-buffer-requires Inv-loop μ-loop
 tree-buffer-requires c κs = search needs
@@ -22,6 +22,9 @@ tree-buffer-requires-2 c κs = search needs
 
 pair-buffer-requires-2 : tie.Need-pair-buffer-requires-2 Inv-loop μ-loop
 pair-buffer-requires-2 c κs = search needs
+
+tally-buffer-requires : tie.Need-tally-buffer-requires Inv-loop μ-loop
+tally-buffer-requires c κs = search needs
 
 loop-holds : tie.Need-loop-holds Inv-loop μ-loop
 loop-holds c = search needs
@@ -50,6 +53,9 @@ slice-aggregate-act-4 c = search needs
 slice-aggregate-act-5 : tie.Need-slice-aggregate-act-5 Inv-loop μ-loop
 slice-aggregate-act-5 c = search needs
 
+slice-aggregate-act-6 : tie.Need-slice-aggregate-act-6 Inv-loop μ-loop
+slice-aggregate-act-6 c = search needs
+
 act-requires : tie.Need-act-requires Inv-loop μ-loop
 act-requires c κs = search needs
 
@@ -67,6 +73,9 @@ slice-aggregate-look-4 c = search needs
 
 slice-aggregate-look-5 : tie.Need-slice-aggregate-look-5 Inv-loop μ-loop
 slice-aggregate-look-5 c = search needs
+
+slice-aggregate-look-6 : tie.Need-slice-aggregate-look-6 Inv-loop μ-loop
+slice-aggregate-look-6 c = search needs
 
 look-requires : tie.Need-look-requires Inv-loop μ-loop
 look-requires c κs = search needs
@@ -102,6 +111,7 @@ main-spec =
     pair-buffer-requires
     tree-buffer-requires-2
     pair-buffer-requires-2
+    tally-buffer-requires
     loop-holds
     slice-aggregate-read-line
     read-line-requires
@@ -111,12 +121,14 @@ main-spec =
     slice-aggregate-act-3
     slice-aggregate-act-4
     slice-aggregate-act-5
+    slice-aggregate-act-6
     act-requires
     slice-aggregate-look
     slice-aggregate-look-2
     slice-aggregate-look-3
     slice-aggregate-look-4
     slice-aggregate-look-5
+    slice-aggregate-look-6
     look-requires
     tell-state-requires
     slice-aggregate-write-all

@@ -19,8 +19,11 @@ same-length-3 c = search needs
 same-length-4 : tie.Need-same-length-4
 same-length-4 c = search needs
 
+same-length-5 : tie.Need-same-length-5
+same-length-5 c = search needs
+
 returns : tie.Need-returns
-returns c = area-listed _ _ _ _ _ _ _ _ _ _ _ _ _ (c .before .before .before .before .before .before .before .before .forget-area .ensures)
+returns c = area-listed _ _ _ _ _ _ _ _ _ _ _ _ _ _ _ (c .before .before .before .before .before .before .before .before .before .before .forget-area .ensures)
 
 pub area-listed-spec : {M : Type 1} → statement M
-area-listed-spec = tie.close (tie.spec forget-area-requires same-length same-length-2 same-length-3 same-length-4 returns)
+area-listed-spec = tie.close (tie.spec forget-area-requires same-length same-length-2 same-length-3 same-length-4 same-length-5 returns)

@@ -22,8 +22,11 @@ same-length-4 c = search needs
 same-length-5 : tie.Need-same-length-5
 same-length-5 c = search needs
 
+same-length-6 : tie.Need-same-length-6
+same-length-6 c = search needs
+
 returns : tie.Need-returns
-returns c = numbers-listed _ _ _ _ _ _ _ _ _ _ _ _ _ (c .before .before .before .before .before .before .before .before .before .before .ingest-entry-numbers .ensures)
+returns c = numbers-listed _ _ _ _ _ _ _ _ _ _ _ _ _ _ _ (c .before .before .before .before .before .before .before .before .before .before .before .before .ingest-entry-numbers .ensures)
 
 pub numbers-listed-spec : {M : Type 1} → statement M
-numbers-listed-spec = tie.close (tie.spec ingest-entry-numbers-requires same-length same-length-2 same-length-3 same-length-4 same-length-5 returns)
+numbers-listed-spec = tie.close (tie.spec ingest-entry-numbers-requires same-length same-length-2 same-length-3 same-length-4 same-length-5 same-length-6 returns)

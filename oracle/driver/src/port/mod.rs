@@ -8,13 +8,14 @@ use spell::*;
 use values::{area_range, strict};
 use virebony::raw;
 
-/// A store's buffers and a prune list, longer than a store needs.
+/// A store's buffers, its tally and a prune list, longer than a store needs.
 #[derive(Clone, PartialEq)]
 pub struct Buffers {
     pub spt: Vec<u8>,
     pub spt_dir: Vec<u32>,
     pub tsp: Vec<u8>,
     pub tsp_dir: Vec<u32>,
+    pub tally: Vec<u8>,
     pub prune: Vec<raw::Pair>,
 }
 
@@ -23,21 +24,22 @@ pub struct Buffers {
 #[derive(Clone, Copy)]
 pub struct Handed {
     pub state: raw::State,
-    pub lengths: [usize; 5],
+    pub lengths: [usize; 6],
     pub key: usize,
 }
 
 impl Buffers {
-    pub fn lengths(&self) -> [usize; 5] {
-        [self.spt.len(), self.spt_dir.len(), self.tsp.len(), self.tsp_dir.len(), self.prune.len()]
+    pub fn lengths(&self) -> [usize; 6] {
+        [self.spt.len(), self.spt_dir.len(), self.tsp.len(), self.tsp_dir.len(), self.tally.len(), self.prune.len()]
     }
-    /// A byte of a tree (0, 2) or a number of a directory (1, 3).
+    /// A byte of a tree (0, 2) or of the tally (4), or a number of a directory (1, 3).
     pub fn at(&self, which: usize, at: usize) -> u32 {
         match which {
             0 => self.spt[at] as u32,
             1 => self.spt_dir[at],
             2 => self.tsp[at] as u32,
-            _ => self.tsp_dir[at],
+            3 => self.tsp_dir[at],
+            _ => self.tally[at] as u32,
         }
     }
     pub fn set(&mut self, which: usize, at: usize, to: u32) {
@@ -45,23 +47,25 @@ impl Buffers {
             0 => self.spt[at] = to as u8,
             1 => self.spt_dir[at] = to,
             2 => self.tsp[at] = to as u8,
-            _ => self.tsp_dir[at] = to,
+            3 => self.tsp_dir[at] = to,
+            _ => self.tally[at] = to as u8,
         }
     }
-    pub fn lent(&self, [a, b, c, d, _]: [usize; 5]) -> Lent<'_> {
+    pub fn lent(&self, [a, b, c, d, ..]: [usize; 6]) -> Lent<'_> {
         Lent { spt: &self.spt[..a], spt_dir: &self.spt_dir[..b], tsp: &self.tsp[..c], tsp_dir: &self.tsp_dir[..d] }
     }
-    fn shared(&self, [a, b, c, d, _]: [usize; 5]) -> raw::Buffers<'_> {
+    fn shared(&self, [a, b, c, d, ..]: [usize; 6]) -> raw::Buffers<'_> {
         raw::Buffers { spt: &self.spt[..a], spt_dir: &self.spt_dir[..b], tsp: &self.tsp[..c], tsp_dir: &self.tsp_dir[..d] }
     }
-    fn parts(&mut self, [a, b, c, d, e]: [usize; 5]) -> (raw::BuffersMut<'_>, &mut [raw::Pair]) {
+    fn parts(&mut self, [a, b, c, d, e, f]: [usize; 6]) -> (raw::BuffersMut<'_>, &mut [raw::Pair]) {
         let store = raw::BuffersMut {
             spt: &mut self.spt[..a],
             spt_dir: &mut self.spt_dir[..b],
             tsp: &mut self.tsp[..c],
             tsp_dir: &mut self.tsp_dir[..d],
+            tally: &mut self.tally[..e],
         };
-        (store, &mut self.prune[..e])
+        (store, &mut self.prune[..f])
     }
 }
 
@@ -164,7 +168,7 @@ impl Port {
                 let plain = raw::Ingested { obsolete: 1, newer: Spell::plain().entry(&newer), token: got.token, ..plain };
                 strict(got, plain, Answer::Obsolete(newer, got.token))
             }
-            (0, 0, _) if got.pruned <= h.lengths[4] => {
+            (0, 0, _) if got.pruned <= h.lengths[5] => {
                 let pairs = self.buffers.prune[..got.pruned].iter().map(|p| (p.offset, p.length)).collect();
                 strict(got, raw::Ingested { pruned: got.pruned, ..plain }, Answer::Taken(pairs))
             }

@@ -1,6 +1,6 @@
 //! The customer's Rust, the model and the port in one process, call by call. Answers are compared as values; after every
-//! call the port's state, both trees, both directories, the prune list and what lies beyond the bounds are compared byte
-//! for byte with what the model says, and the Rust's trees record by record.
+//! call the port's state, both trees, both directories, the tally, the prune list and what lies beyond the bounds are compared
+//! byte for byte with what the model says, and the Rust's trees record by record, with the tally that is counted in them.
 pub mod run;
 pub mod table;
 use crate::answer::{Answer, Records};
@@ -10,7 +10,8 @@ use crate::oracle::Oracle;
 use crate::params::Ns;
 use crate::port::{Buffers, Handed, Port};
 use crate::rng::Rng;
-use crate::step::{on_store, Front, Step};
+use crate::step::{changes, on_store, Front, Step};
+use crate::tally::counted;
 use model::*;
 use virebony::raw;
 
@@ -18,7 +19,7 @@ use virebony::raw;
 #[derive(Clone, Copy, Debug, PartialEq, Eq, PartialOrd, Ord)]
 pub enum Judged {
     ByBoth,
-    /// The Rust has not this: refusals 1, 2, 3; a store that was not opened; decoding by 01.
+    /// The Rust has not this: refusals 1, 2, 3, 10; a store that was not opened; decoding by 01.
     ByModel,
     /// The Rust's answer differs and is meant to: docs/DIFFERENCES.md 1.2 (`successor` carries) or 5 (the sum).
     SkippedArea,
@@ -35,6 +36,7 @@ pub struct Three {
     /// What the port's buffers must be.
     shadow: Buffers,
     records: [Records; 2],
+    items: Vec<Item>,
     /// No store is open: the Rust, which has no such thing, is not asked.
     closed: bool,
 }
@@ -58,6 +60,7 @@ fn buffers(r: &mut Rng, limit: u64) -> Buffers {
         spt_dir: numbers(r, pairs),
         tsp: pattern(r, room),
         tsp_dir: numbers(r, pairs),
+        tally: pattern(r, (ITEM * limit) as usize),
         prune: numbers(r, 2 * prune).chunks_exact(2).map(|n| raw::Pair { offset: n[0], length: n[1] }).collect(),
     }
 }
@@ -72,6 +75,7 @@ impl Three {
             port: Port { state: raw::State::default(), buffers: shadow.clone() },
             shadow,
             records: Default::default(),
+            items: vec![],
             closed: true,
         }
     }
@@ -79,16 +83,20 @@ impl Three {
         let s = &self.judge.store;
         raw::State { namespace_id: s.namespace, count: s.entries().len(), limit: s.limit.unwrap_or(1024) as usize }
     }
-    /// The model's view of what is handed in: the first of refusals 1, 2, 3.
+    /// The model's view of what is handed in: the first of refusals 1, 2, 3, 10.
     fn refused(&self, call: &Call, h: &Handed, limit: u64) -> Option<u8> {
-        let (lent, prune) = (self.port.buffers.lent(h.lengths), matches!(call, Call::Ingest(..)).then_some(h.lengths[4]));
+        let (lent, tally) = (self.port.buffers.lent(h.lengths), changes(call).then_some(h.lengths[4]));
+        let prune = matches!(call, Call::Ingest(..)).then_some(h.lengths[5]);
         match call {
             Call::Key(..) => (h.key < 298).then_some(2),
-            Call::Open(..) => rooms(limit, lent, None),
+            Call::Open(..) => rooms(limit, lent, Some(h.lengths[4]), None),
             _ if !on_store(call) => None,
-            _ => rooms(limit, lent, prune).or_else(|| {
+            _ => rooms(limit, lent, tally, prune).or_else(|| {
                 let state = State { namespace: h.state.namespace_id, count: h.state.count as u64, limit };
-                well_formed(&state, lent).is_none().then_some(3)
+                match well_formed(&state, lent) {
+                    None => Some(3),
+                    Some(list) => tally.is_some_and(|n| !is_tally(&list, limit, &self.port.buffers.tally[..n])).then_some(10),
+                }
             }),
         }
     }
@@ -97,22 +105,21 @@ impl Three {
     fn front(&mut self, step: &Step, plain: Handed) -> Result<(Handed, Option<u8>, Option<(usize, usize, u32)>), String> {
         let (mut h, mut undo) = (plain, None);
         let mut limit = h.state.limit as u64;
-        let room = |which: usize| [RECORD_MOST * limit, 2 * limit, RECORD_MOST * limit, 2 * limit, limit][which] as usize;
+        let room = |which: usize, limit: u64| [RECORD_MOST, 2, RECORD_MOST, 2, ITEM, 1][which].saturating_mul(limit) as usize;
         match step.front {
             Front::Plain => return Ok((plain, None, None)),
             Front::Limit(n) => h.state.limit = n as usize,
             Front::Count(n) => h.state.count = n as usize,
-            Front::Short(which, by) if which < 5 => {
+            Front::Short(which, by) if which < 6 => {
                 if let Call::Open(_, l) = step.call {
                     limit = l.unwrap_or(1024);
                 }
-                let needed = [RECORD_MOST, 2, RECORD_MOST, 2, 1][which].saturating_mul(limit) as usize;
-                h.lengths[which] = needed.saturating_sub(by).min(h.lengths[which]);
+                h.lengths[which] = room(which, limit).saturating_sub(by).min(h.lengths[which]);
             }
             Front::Short(_, by) => h.key = 298usize.saturating_sub(by),
             Front::Changed(which, at, by) => {
-                if room(which) > 0 && on_store(&step.call) {
-                    let at = at as usize % room(which);
+                if room(which, limit) > 0 && on_store(&step.call) {
+                    let at = at as usize % room(which, limit);
                     undo = Some((which, at, self.change(which, at, by)));
                 }
             }
@@ -148,7 +155,7 @@ impl Three {
         let mut r = Rng(step.salt);
         let b = &self.port.buffers;
         let room = b.spt.len().min(b.tsp.len()) as u64 >= RECORD_MOST * limit && b.spt_dir.len().min(b.tsp_dir.len()) as u64 >= 2 * limit;
-        if !(room && b.prune.len() as u64 >= limit && r.one_in(2)) {
+        if !(room && b.tally.len() as u64 >= ITEM * limit && b.prune.len() as u64 >= limit && r.one_in(2)) {
             self.port.buffers = buffers(&mut r, limit);
             self.shadow = self.port.buffers.clone();
         }
@@ -157,11 +164,14 @@ impl Three {
     fn draw(&mut self) {
         let (s, limit) = (&self.judge.store, self.judge.store.limit.unwrap_or(1024));
         self.records = [records(s.entries(), false), records(s.entries(), true)];
+        self.items = items(s.entries());
         let ((a, ad), (b, bd)) = (layout(&self.records[0], limit), layout(&self.records[1], limit));
+        let t = tally(s.entries(), limit);
         self.shadow.spt[..a.len()].copy_from_slice(&a);
         self.shadow.spt_dir[..ad.len()].copy_from_slice(&ad);
         self.shadow.tsp[..b.len()].copy_from_slice(&b);
         self.shadow.tsp_dir[..bd.len()].copy_from_slice(&bd);
+        self.shadow.tally[..t.len()].copy_from_slice(&t);
     }
     /// Makes a call in all three. The model's answer and who judged the port's; or the difference, in words.
     pub fn step(&mut self, step: &Step) -> Result<(Answer, Judged), String> {
@@ -260,7 +270,8 @@ impl Three {
             let trees = [at(&port.spt, &shadow.spt), at(&port.tsp, &shadow.tsp)];
             let directories = [n_at(&port.spt_dir, &shadow.spt_dir), n_at(&port.tsp_dir, &shadow.tsp_dir)];
             let prune = port.prune.iter().zip(&shadow.prune).position(|(x, y)| x != y);
-            return Err(format!("buffers differ first at: trees {trees:?}, directories {directories:?}, prune list {prune:?}"));
+            let tally = at(&port.tally, &shadow.tally);
+            return Err(format!("buffers differ first at: trees {trees:?}, directories {directories:?}, tally {tally:?}, prune list {prune:?}"));
         }
         if self.closed {
             return Ok(());
@@ -269,6 +280,9 @@ impl Three {
             let (rust, model) = (self.rust.raw(time_first), &self.records[time_first as usize]);
             if rust.len() != model.len() || rust.iter().zip(model).any(|((k, v), (l, w))| k[..] != l[..] || v[..] != w[..]) {
                 return Err(format!("the Rust's tree and the model's differ, time-first {time_first}"));
+            }
+            if counted(rust.iter().map(|(k, _)| &k[..]), time_first).as_ref() != Some(&self.items) {
+                return Err(format!("the tally of the Rust's tree and the model's differ, time-first {time_first}"));
             }
         }
         Ok(())

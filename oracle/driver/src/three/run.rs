@@ -1,9 +1,8 @@
 //! Runs of steps, and the smallest one that still shows a difference.
 use super::table::Table;
 use super::{Judged, Three};
-use crate::call::Call;
 use crate::show::show_call;
-use crate::step::Step;
+use crate::step::{changes, Step};
 use std::collections::BTreeMap;
 
 /// Runs all steps; the number of the first that differs, and how.
@@ -11,8 +10,7 @@ pub fn run(steps: &[Step], table: &mut Table, judged: &mut BTreeMap<Judged, u64>
     let mut three = Three::new();
     for (i, step) in steps.iter().enumerate() {
         // Where the call writes, the store before it is counted.
-        let writes = matches!(step.call, Call::Ingest(..) | Call::Forget(..) | Call::ForgetArea(..));
-        let before = writes.then(|| three.judge.store.clone());
+        let before = changes(&step.call).then(|| three.judge.store.clone());
         let (answer, by) = three.step(step).map_err(|words| (i, words))?;
         *judged.entry(by).or_default() += 1;
         table.count(before.as_ref().unwrap_or(&three.judge.store), step, &answer);

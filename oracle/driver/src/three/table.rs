@@ -13,10 +13,10 @@ const CALLS: [&str; 19] = [
     "open", "ingest", "forget", "farea", "entry", "qarea", "qrange", "narea", "nrange", "count", "size", "aoi", "arange",
     "above", "order", "newer", "inarea", "inrange", "key",
 ];
-const ROWS: [&str; 66] = [
+const ROWS: [&str; 72] = [
     "taken", "taken, nothing pruned", "taken, one pruned", "taken, several pruned", "obsolete", "obsolete by its own path",
     "obsolete by a prefix", "done", "done, an entry forgotten", "done, nothing there", "refused 1", "refused 2",
-    "refused 3", "refused 4", "refused 5", "refused 6", "refused 7", "refused 8", "refused 9", "tie: the longer is stored",
+    "refused 3", "refused 4", "refused 5", "refused 6", "refused 7", "refused 8", "refused 9", "refused 10", "tie: the longer is stored",
     "tie: the shorter is stored", "resend", "resend, pruning prevented", "resend with another token", "resend beside a tie",
     "resend with an available length", "prevented, nothing to prune", "ingestion into a full store",
     "ingestion into a full store of 1,024", "taken by a full store", "protected area", "protected area that saves",
@@ -28,6 +28,7 @@ const ROWS: [&str; 66] = [
     "9 components alone are wrong", "129 bytes alone are wrong", "65 bytes alone are wrong", "empty path",
     "digest whose bytes differ", "token whose bytes differ", "subspace of 16 bytes", "timestamp from 2^63 on",
     "length from 2^63 on", "namespace not 0", "key that no encoder writes", "key of 298 bytes", "least path above: none",
+    "a new item", "a new item between others", "an item that goes", "an item that goes from between others", "newest timestamp lowered",
 ];
 
 fn name(c: &Call) -> &'static str {
@@ -124,7 +125,7 @@ impl Table {
         }
         self.values(c);
         // Nothing below is met by a call that is refused for what it is handed.
-        if matches!(answer, Answer::Refused(1..=4)) && (on_store(c) || step.front != Front::Plain) {
+        if matches!(answer, Answer::Refused(1..=4 | 10)) && (on_store(c) || step.front != Front::Plain) {
             return;
         }
         match c {
@@ -134,6 +135,9 @@ impl Table {
                 self.add("done", *answer == Answer::Done);
                 self.add("done, an entry forgotten", *answer == Answer::Done && there);
                 self.add("done, nothing there", *answer == Answer::Done && !there);
+                if *answer == Answer::Done && there {
+                    self.forgotten(store, s, p);
+                }
             }
             Call::ForgetArea(a, Some(b)) => {
                 self.add("protected area", true);
@@ -196,6 +200,9 @@ impl Table {
                 self.add("taken", true);
                 self.add(["taken, nothing pruned", "taken, one pruned", "taken, several pruned"][pairs.len().min(2)], true);
                 self.add("taken by a full store", full);
+                let of: Vec<_> = items(store.entries()).into_iter().map(|item| item.0).collect();
+                self.add("a new item", !of.contains(&e.subspace));
+                self.add("a new item between others", !of.contains(&e.subspace) && of.iter().any(|s| *s < e.subspace) && of.iter().any(|s| *s > e.subspace));
                 self.add("prevented, nothing to prune", prevent);
             }
             Answer::Obsolete(newer, _) => {
@@ -214,6 +221,15 @@ impl Table {
             self.add("resend beside a tie", ties(true) || ties(false));
             self.add("resend with an available length", x.available > 0);
         }
+    }
+    /// What becomes of the tally when the entry at a place is forgotten.
+    fn forgotten(&mut self, store: &Store, s: &Subspace, p: &Path) {
+        let of = items(store.entries());
+        let newest = |left: &dyn Fn(&Entry) -> bool| store.entries().iter().map(|x| &x.entry).filter(|e| left(e)).map(|e| e.timestamp).max();
+        let (before, after) = (newest(&|e| e.subspace == *s), newest(&|e| e.subspace == *s && e.path != *p));
+        self.add("an item that goes", after.is_none());
+        self.add("an item that goes from between others", after.is_none() && of[0].0 < *s && *s < of[of.len() - 1].0);
+        self.add("newest timestamp lowered", after.is_some() && after < before);
     }
     fn flags<'a>(&mut self, i: Ignore, met: impl IntoIterator<Item = &'a Stored>) {
         self.add("both flags", i.incomplete && i.empty);

@@ -15,7 +15,7 @@ use Rattle.listing.proofs.answer.answer_end.Statement.{statement}
 use Rattle.listing.proofs.answer.answer_end.Tie as tie
 
 abbrev lent : tie.Start → Left
-lent p = leaving (p .args .given) (p .args .spt .now) (p .args .«spt-dir» .now) (p .args .tsp .now) (p .args .«tsp-dir» .now) (p .args .prune .now)
+lent p = leaving (p .args .given) (p .args .spt .now) (p .args .«spt-dir» .now) (p .args .tsp .now) (p .args .«tsp-dir» .now) (p .args .tally .now) (p .args .prune .now)
 
 answer-last-requires : tie.Need-answer-last-requires
 answer-last-requires c κs = search needs
@@ -31,22 +31,22 @@ part-write-list-end c = search needs
 
 write-list-requires : tie.Need-write-list-requires
 write-list-requires c κs =
-    let p = (c .before .before .before .before .before .before .before .before .before .before .before .before .before .before .before .before .before .before .before .before .before .before .before .before .before .before .before .before .before .before .before .before) in
-    let g = c .before .before .before .before .before .before .before .before .before .before .before .before .before .before .before .before .before .before .answer-last in
+    let p = (c .before .before .before .before .before .before .before .before .before .before .before .before .before .before .before .before .before .before .before .before .before .before .before .before .before .before .before .before .before .before .before .before .before .before .before .before) in
+    let g = c .before .before .before .before .before .before .before .before .before .before .before .before .before .before .before .before .before .before .before .before .answer-last in
     let h = after-more (after-lines (p .pre .0)) (lastLine (p .args .line .now)) _ (ap (λ (x : Written). x .left) (g .ensures .1)) in
-    let out = g .last .1 .1 .1 .1 .1 .1 .1 .0 in
-    let one : length out ≡ length (p .args .out .now) = g .kept .1 .1 .1 .1 .1 .1 .1 .0 in
+    let out = g .last .1 .1 .1 .1 .1 .1 .1 .1 .0 in
+    let one : length out ≡ length (p .args .out .now) = g .kept .1 .1 .1 .1 .1 .1 .1 .1 .0 in
     let l = limit-is h in
     (not-refused h, omega (arith, l, one, g .ensures .0, p .pre .1, length-piece (g .result .written) (length out) out (le-refl (length out))))
 
 add-result : tie.Need-add-result
 add-result c =
-    let p = (c .before .before .before .before .before .before .before .before .before .before .before .before .before .before .before .before .before .before .before .before .before .before .before .before .before .before .before .before .before .before .before .before .before .before .before) in
-    let g = c .before .before .before .before .before .before .before .before .before .before .before .before .before .before .before .before .before .before .before .before .before .answer-last in
+    let p = (c .before .before .before .before .before .before .before .before .before .before .before .before .before .before .before .before .before .before .before .before .before .before .before .before .before .before .before .before .before .before .before .before .before .before .before .before .before .before .before) in
+    let g = c .before .before .before .before .before .before .before .before .before .before .before .before .before .before .before .before .before .before .before .before .before .before .before .answer-last in
     let w = c .before .before .write-list in
-    let out = g .last .1 .1 .1 .1 .1 .1 .1 .0 in
-    let one : length out ≡ length (p .args .out .now) = g .kept .1 .1 .1 .1 .1 .1 .1 .0 in
-    omega (arith, one, p .good .1 .1 .1 .1 .1 .1 .1 .0 .0, g .ensures .0, p .pre .1, w .ensures .1, length-piece (g .result .written) (length out) out (le-refl (length out)))
+    let out = g .last .1 .1 .1 .1 .1 .1 .1 .1 .0 in
+    let one : length out ≡ length (p .args .out .now) = g .kept .1 .1 .1 .1 .1 .1 .1 .1 .0 in
+    omega (arith, one, p .good .1 .1 .1 .1 .1 .1 .1 .1 .0 .0, g .ensures .0, p .pre .1, w .ensures .1, length-piece (g .result .written) (length out) out (le-refl (length out)))
 
 same-length : tie.Need-same-length
 same-length c = search needs
@@ -66,13 +66,16 @@ same-length-5 c = search needs
 same-length-6 : tie.Need-same-length-6
 same-length-6 c = search needs
 
+same-length-7 : tie.Need-same-length-7
+same-length-7 c = search needs
+
 returns : tie.Need-returns
 returns c =
-    let p = (c .before .before .before .before .before .before .before .before .before .before .before .before .before .before .before .before .before .before .before .before .before .before .before .before .before .before .before .before .before .before .before .before .before .before .before) in
-    let g = c .before .before .before .before .before .before .before .before .before .before .before .before .before .before .before .before .before .before .before .before .before .answer-last in
+    let p = (c .before .before .before .before .before .before .before .before .before .before .before .before .before .before .before .before .before .before .before .before .before .before .before .before .before .before .before .before .before .before .before .before .before .before .before .before .before .before .before) in
+    let g = c .before .before .before .before .before .before .before .before .before .before .before .before .before .before .before .before .before .before .before .before .before .before .before .answer-last in
     let w = c .before .before .write-list in
-    let out = g .last .1 .1 .1 .1 .1 .1 .1 .0 in
-    let one : length out ≡ length (p .args .out .now) = g .kept .1 .1 .1 .1 .1 .1 .1 .0 in
+    let out = g .last .1 .1 .1 .1 .1 .1 .1 .1 .0 in
+    let one : length out ≡ length (p .args .out .now) = g .kept .1 .1 .1 .1 .1 .1 .1 .1 .0 in
     let two : g .result .written ≤ length out = omega (arith, one, g .ensures .0, p .pre .1) in
     let q = length-piece (g .result .written) (length out) out (le-refl (length out)) in
     let e = end-written (lent p) _ (lastLine (p .args .line .now)) (p .args .out .now) out (w .last .1 .1 .1 .1 .1 .0) (g .result .written) (w .result) (omega (arith, one, two)) (g .ensures .1) (omega (arith, two, w .ensures .1, q)) (w .ensures .0) (w .ensures .2) in
@@ -94,4 +97,5 @@ answer-end-spec =
     same-length-4
     same-length-5
     same-length-6
+    same-length-7
     returns)

@@ -12,11 +12,11 @@ use Rattle.listing.proofs.answer.answer_last.Statement.{statement}
 use Rattle.listing.proofs.answer.answer_last.Tie as tie
 
 abbrev lent : tie.Start → Left
-lent p = leaving (p .args .given) (p .args .spt .now) (p .args .«spt-dir» .now) (p .args .tsp .now) (p .args .«tsp-dir» .now) (p .args .prune .now)
+lent p = leaving (p .args .given) (p .args .spt .now) (p .args .«spt-dir» .now) (p .args .tsp .now) (p .args .«tsp-dir» .now) (p .args .tally .now) (p .args .prune .now)
 
 returns : tie.Need-returns
 returns c =
-    let p = (c .before .before .before .before .before .before .before .before) in
+    let p = (c .before .before .before .before .before .before .before .before .before) in
     (omega arith, last-none (lent p) (p .args .line .now) (p .args .out .now) (c .if1 .taken))
 
 answer-line-requires : tie.Need-answer-line-requires
@@ -40,11 +40,14 @@ same-length-5 c = search needs
 same-length-6 : tie.Need-same-length-6
 same-length-6 c = search needs
 
+same-length-7 : tie.Need-same-length-7
+same-length-7 c = search needs
+
 returns-2 : tie.Need-returns-2
 returns-2 c =
-    let p = (c .before .before .before .before .before .before .before .before .before .before .before .before .before .before .before .before .before .before .before .before .before .before .before .before .before .before .before) in
-    let g = c .before .before .before .before .before .before .before .before .before .before .before .before .answer-line in
-    (g .ensures .0, g .ensures .1 ∙ ap (λ (ls : List (List ℕ)). linesWritten field (lent p) ls (p .args .out .now)) (last-some (p .args .line .now) (c .before .before .before .before .before .before .before .before .before .before .before .before .before .before .before .before .before .before .before .if1 .left)))
+    let p = (c .before .before .before .before .before .before .before .before .before .before .before .before .before .before .before .before .before .before .before .before .before .before .before .before .before .before .before .before .before .before .before) in
+    let g = c .before .before .before .before .before .before .before .before .before .before .before .before .before .before .answer-line in
+    (g .ensures .0, g .ensures .1 ∙ ap (λ (ls : List (List ℕ)). linesWritten field (lent p) ls (p .args .out .now)) (last-some (p .args .line .now) (c .before .before .before .before .before .before .before .before .before .before .before .before .before .before .before .before .before .before .before .before .before .before .if1 .left)))
 
 pub answer-last-spec : {M : Type 1} → statement M
 answer-last-spec =
@@ -58,4 +61,5 @@ answer-last-spec =
     same-length-4
     same-length-5
     same-length-6
+    same-length-7
     returns-2)

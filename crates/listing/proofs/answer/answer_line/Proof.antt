@@ -29,13 +29,16 @@ same-length-5 c = search needs
 same-length-6 : tie.Need-same-length-6
 same-length-6 c = search needs
 
+same-length-7 : tie.Need-same-length-7
+same-length-7 c = search needs
+
 returns : tie.Need-returns
 returns c =
-    let p = (c .before .before .before .before .before .before .before .before .before .before .before .before .before .before .before .before .before .before .before .before .before .before .before .before .before .before .before .before) in
+    let p = (c .before .before .before .before .before .before .before .before .before .before .before .before .before .before .before .before .before .before .before .before .before .before .before .before .before .before .before .before .before .before .before .before) in
     let a = p .args in
-    let g = c .before .before .before .before .before .before .before .before .before .before .before .before .before .before .before .carry-out in
+    let g = c .before .before .before .before .before .before .before .before .before .before .before .before .before .before .before .before .before .carry-out in
     let f = c .before .before .write-answer in
-    (f .ensures .1, line-written (leaving (a .given) (a .spt .now) (a .«spt-dir» .now) (a .tsp .now) (a .«tsp-dir» .now) (a .prune .now)) (a .line .now) (a .out .now) (f .last .1 .0) _ (f .result) (g .ensures) (f .ensures .0) (f .ensures .2))
+    (f .ensures .1, line-written (leaving (a .given) (a .spt .now) (a .«spt-dir» .now) (a .tsp .now) (a .«tsp-dir» .now) (a .tally .now) (a .prune .now)) (a .line .now) (a .out .now) (f .last .1 .0) _ (f .result) (g .ensures) (f .ensures .0) (f .ensures .2))
 
 pub answer-line-spec : {M : Type 1} → statement M
 answer-line-spec =
@@ -49,4 +52,5 @@ answer-line-spec =
     same-length-4
     same-length-5
     same-length-6
+    same-length-7
     returns)

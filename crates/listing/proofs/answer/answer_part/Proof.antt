@@ -17,21 +17,21 @@ use Rattle.listing.proofs.answer.answer_part.Statement.{statement}
 use Rattle.listing.proofs.answer.answer_part.Tie as tie
 
 abbrev Inv-loop : tie.InvT-loop
-Inv-loop bytes spt₀ spt-dir₀ tsp₀ tsp-dir₀ prune₀ line₀ so-far out₀ state₀ n₀ at₀ to₀ stop₀ spt spt-dir tsp tsp-dir prune line out state n at to stop =
-    (stop ≡ at + length (front newline (drop at bytes))) × (stop ≤ length bytes) × (n ≤ keptMost) × (length line ≡ keptMost) × (to + answerTextMost * (length bytes - at) ≤ length out) × (length spt ≡ length spt₀) × (length spt-dir ≡ length spt-dir₀) × (length tsp ≡ length tsp₀) × (length tsp-dir ≡ length tsp-dir₀) × (length prune ≡ length prune₀) × (length out ≡ length out₀) × Answering (leaving state₀ spt₀ spt-dir₀ tsp₀ tsp-dir₀ prune₀) (take so-far line₀) bytes out₀ (leaving state spt spt-dir tsp tsp-dir prune) (take n line) (drop at bytes) out to
+Inv-loop bytes spt₀ spt-dir₀ tsp₀ tsp-dir₀ tally₀ prune₀ line₀ so-far out₀ state₀ n₀ at₀ to₀ stop₀ spt spt-dir tsp tsp-dir tally prune line out state n at to stop =
+    (stop ≡ at + length (front newline (drop at bytes))) × (stop ≤ length bytes) × (n ≤ keptMost) × (length line ≡ keptMost) × (to + answerTextMost * (length bytes - at) ≤ length out) × (length spt ≡ length spt₀) × (length spt-dir ≡ length spt-dir₀) × (length tsp ≡ length tsp₀) × (length tsp-dir ≡ length tsp-dir₀) × (length tally ≡ length tally₀) × (length prune ≡ length prune₀) × (length out ≡ length out₀) × Answering (leaving state₀ spt₀ spt-dir₀ tsp₀ tsp-dir₀ tally₀ prune₀) (take so-far line₀) bytes out₀ (leaving state spt spt-dir tsp tsp-dir tally prune) (take n line) (drop at bytes) out to
 
 abbrev μ-loop : tie.MeasureT-loop
-μ-loop bytes spt₀ spt-dir₀ tsp₀ tsp-dir₀ prune₀ line₀ so-far out₀ state₀ n₀ at₀ to₀ stop₀ spt spt-dir tsp tsp-dir prune line out state n at to stop = length bytes - at
+μ-loop bytes spt₀ spt-dir₀ tsp₀ tsp-dir₀ tally₀ prune₀ line₀ so-far out₀ state₀ n₀ at₀ to₀ stop₀ spt spt-dir tsp tsp-dir tally prune line out state n at to stop = length bytes - at
 
 field-end-requires : tie.Need-field-end-requires Inv-loop μ-loop
 field-end-requires c κs = search needs
 
 loop-holds : tie.Need-loop-holds Inv-loop μ-loop
 loop-holds c =
-    let p = (c .before .before .before .before .before .before .before .before .before) in
+    let p = (c .before .before .before .before .before .before .before .before .before .before) in
     let a = p .args in
     let f = c .field-end in
-    (f .ensures .0, f .ensures .1, p .pre .1, p .pre .0, omega (arith, p .pre .2), refl, refl, refl, refl, refl, refl, answering-none (leaving (a .given) (a .spt .now) (a .«spt-dir» .now) (a .tsp .now) (a .«tsp-dir» .now) (a .prune .now)) (take (a .«so-far») (a .line .now)) (a .bytes .now) (a .out .now))
+    (f .ensures .0, f .ensures .1, p .pre .1, p .pre .0, omega (arith, p .pre .2), refl, refl, refl, refl, refl, refl, refl, answering-none (leaving (a .given) (a .spt .now) (a .«spt-dir» .now) (a .tsp .now) (a .«tsp-dir» .now) (a .tally .now) (a .prune .now)) (take (a .«so-far») (a .line .now)) (a .bytes .now) (a .out .now))
 
 sub-append : tie.Need-sub-append Inv-loop μ-loop
 sub-append c =
@@ -57,8 +57,8 @@ slice-aggregate-l c =
 
 sub-answer-line : tie.Need-sub-answer-line Inv-loop μ-loop
 sub-answer-line c =
-    let l = c .before .before .before .before .before .before .before .before .before .before .before .before .loop in
-    let t = c .before .before .before .before .before .before .before .before .before .before .before .loop-test .taken in omega (arith, l .inv .4)
+    let l = c .before .before .before .before .before .before .before .before .before .before .before .before .before .loop in
+    let t = c .before .before .before .before .before .before .before .before .before .before .before .before .loop-test .taken in omega (arith, l .inv .4)
 
 part-answer-line-start : tie.Need-part-answer-line-start Inv-loop μ-loop
 part-answer-line-start c = search needs
@@ -68,53 +68,54 @@ part-answer-line-end c = search needs
 
 answer-line-requires : tie.Need-answer-line-requires Inv-loop μ-loop
 answer-line-requires c κs =
-    let l = c .before .before .before .before .before .before .before .before .before .before .before .before .before .loop in
-    let t = c .before .before .before .before .before .before .before .before .before .before .before .before .loop-test .taken in omega (arith, t, l .inv .0, l .inv .4, length-piece (l .to) (length (l .out)) (l .out) (le-refl (length (l .out))))
+    let l = c .before .before .before .before .before .before .before .before .before .before .before .before .before .before .loop in
+    let t = c .before .before .before .before .before .before .before .before .before .before .before .before .before .loop-test .taken in omega (arith, t, l .inv .0, l .inv .4, length-piece (l .to) (length (l .out)) (l .out) (le-refl (length (l .out))))
 
 add-to : tie.Need-add-to Inv-loop μ-loop
 add-to c =
-    let l = c .before .before .before .before .before .before .before .before .before .before .before .before .before .before .before .before .before .before .before .before .before .before .before .before .before .before .before .before .loop in
-    let t = c .before .before .before .before .before .before .before .before .before .before .before .before .before .before .before .before .before .before .before .before .before .before .before .before .before .before .before .loop-test .taken in
-    let p = (c .before .before .before .before .before .before .before .before .before .before .before .before .before .before .before .before .before .before .before .before .before .before .before .before .before .before .before .before .before .before .before .before .before .before .before .before .before .before) in
-    let g = c .before .before .before .before .before .before .before .before .before .before .before .before .before .before .answer-line in
-    omega (arith, t, l .inv .0, l .inv .4, l .inv .10, g .ensures .0, p .good .1 .1 .1 .1 .1 .1 .1 .1 .1 .0 .0)
+    let l = c .before .before .before .before .before .before .before .before .before .before .before .before .before .before .before .before .before .before .before .before .before .before .before .before .before .before .before .before .before .before .before .loop in
+    let t = c .before .before .before .before .before .before .before .before .before .before .before .before .before .before .before .before .before .before .before .before .before .before .before .before .before .before .before .before .before .before .loop-test .taken in
+    let p = (c .before .before .before .before .before .before .before .before .before .before .before .before .before .before .before .before .before .before .before .before .before .before .before .before .before .before .before .before .before .before .before .before .before .before .before .before .before .before .before .before .before .before) in
+    let g = c .before .before .before .before .before .before .before .before .before .before .before .before .before .before .before .before .answer-line in
+    omega (arith, t, l .inv .0, l .inv .4, l .inv .11, g .ensures .0, p .good .1 .1 .1 .1 .1 .1 .1 .1 .1 .1 .0 .0)
 
 add-at : tie.Need-add-at Inv-loop μ-loop
 add-at c =
-    let l = c .before .before .before .before .before .before .before .before .before .before .before .before .before .before .before .before .before .before .before .before .before .before .before .before .before .before .before .before .loop in
-    let t = c .before .before .before .before .before .before .before .before .before .before .before .before .before .before .before .before .before .before .before .before .before .before .before .before .before .before .before .loop-test .taken in
-    let p = (c .before .before .before .before .before .before .before .before .before .before .before .before .before .before .before .before .before .before .before .before .before .before .before .before .before .before .before .before .before .before .before .before .before .before .before .before .before .before) in
+    let l = c .before .before .before .before .before .before .before .before .before .before .before .before .before .before .before .before .before .before .before .before .before .before .before .before .before .before .before .before .before .before .before .loop in
+    let t = c .before .before .before .before .before .before .before .before .before .before .before .before .before .before .before .before .before .before .before .before .before .before .before .before .before .before .before .before .before .before .loop-test .taken in
+    let p = (c .before .before .before .before .before .before .before .before .before .before .before .before .before .before .before .before .before .before .before .before .before .before .before .before .before .before .before .before .before .before .before .before .before .before .before .before .before .before .before .before .before .before) in
     omega (arith, t, p .good .0 .0)
 
 field-end-requires-2 : tie.Need-field-end-requires-2 Inv-loop μ-loop
 field-end-requires-2 c κs =
-    let l = c .before .before .before .before .before .before .before .before .before .before .before .before .before .before .before .before .before .before .before .before .before .before .before .before .before .before .before .before .loop in
-    let t = c .before .before .before .before .before .before .before .before .before .before .before .before .before .before .before .before .before .before .before .before .before .before .before .before .before .before .before .loop-test .taken in omega (arith, t)
+    let l = c .before .before .before .before .before .before .before .before .before .before .before .before .before .before .before .before .before .before .before .before .before .before .before .before .before .before .before .before .before .before .before .loop in
+    let t = c .before .before .before .before .before .before .before .before .before .before .before .before .before .before .before .before .before .before .before .before .before .before .before .before .before .before .before .before .before .before .loop-test .taken in omega (arith, t)
 
 loop-less : tie.Need-loop-less Inv-loop μ-loop
 loop-less c =
-    let l = c .before .before .before .before .before .before .before .before .before .before .before .before .before .before .before .before .before .before .before .before .before .before .before .before .before .before .before .before .before .loop in
-    let t = c .before .before .before .before .before .before .before .before .before .before .before .before .before .before .before .before .before .before .before .before .before .before .before .before .before .before .before .before .loop-test .taken in omega (arith, t, l .inv .0)
+    let l = c .before .before .before .before .before .before .before .before .before .before .before .before .before .before .before .before .before .before .before .before .before .before .before .before .before .before .before .before .before .before .before .before .loop in
+    let t = c .before .before .before .before .before .before .before .before .before .before .before .before .before .before .before .before .before .before .before .before .before .before .before .before .before .before .before .before .before .before .before .loop-test .taken in omega (arith, t, l .inv .0)
 
 loop-again : tie.Need-loop-again Inv-loop μ-loop
 loop-again c =
-    let l = c .before .before .before .before .before .before .before .before .before .before .before .before .before .before .before .before .before .before .before .before .before .before .before .before .before .before .before .before .before .loop in
-    let t = c .before .before .before .before .before .before .before .before .before .before .before .before .before .before .before .before .before .before .before .before .before .before .before .before .before .before .before .before .loop-test .taken in
-    let p = (c .before .before .before .before .before .before .before .before .before .before .before .before .before .before .before .before .before .before .before .before .before .before .before .before .before .before .before .before .before .before .before .before .before .before .before .before .before .before .before) in
-    let w = c .before .before .before .before .before .before .before .before .before .before .before .before .before .before .before .before .before .before .before .before .before .before .before .before .before .append in
-    let g = c .before .before .before .before .before .before .before .before .before .before .before .before .before .before .before .answer-line in
+    let l = c .before .before .before .before .before .before .before .before .before .before .before .before .before .before .before .before .before .before .before .before .before .before .before .before .before .before .before .before .before .before .before .before .loop in
+    let t = c .before .before .before .before .before .before .before .before .before .before .before .before .before .before .before .before .before .before .before .before .before .before .before .before .before .before .before .before .before .before .before .loop-test .taken in
+    let p = (c .before .before .before .before .before .before .before .before .before .before .before .before .before .before .before .before .before .before .before .before .before .before .before .before .before .before .before .before .before .before .before .before .before .before .before .before .before .before .before .before .before .before .before) in
+    let w = c .before .before .before .before .before .before .before .before .before .before .before .before .before .before .before .before .before .before .before .before .before .before .before .before .before .before .before .before .append in
+    let g = c .before .before .before .before .before .before .before .before .before .before .before .before .before .before .before .before .before .answer-line in
     let f = c .field-end2 in
-    let n = part-turn (p .args .bytes .now) (leaving (l .state) (l .spt) (l .«spt-dir») (l .tsp) (l .«tsp-dir») (l .prune)) (l .line) (l .out) (l .at) (l .n) (l .to) (l .stop) (l .inv .3) (l .inv .11) (l .inv .0) t _ (w .ensures .1) _ (g .result .written) (g .last .1 .1 .1 .1 .1 .1 .1 .0) (g .ensures .1) (omega (arith, t, l .inv .0, l .inv .4, g .ensures .0)) in (
+    let n = part-turn (p .args .bytes .now) (leaving (l .state) (l .spt) (l .«spt-dir») (l .tsp) (l .«tsp-dir») (l .tally) (l .prune)) (l .line) (l .out) (l .at) (l .n) (l .to) (l .stop) (l .inv .3) (l .inv .12) (l .inv .0) t _ (w .ensures .1) _ (g .result .written) (g .last .1 .1 .1 .1 .1 .1 .1 .1 .0) (g .ensures .1) (omega (arith, t, l .inv .0, l .inv .4, g .ensures .0)) in (
       f .ensures .0,
       f .ensures .1,
       omega arith,
       w .kept .0 ∙ l .inv .3,
-      omega (arith, t, l .inv .0, l .inv .4, g .ensures .0, n .wrote .size, l .inv .10),
+      omega (arith, t, l .inv .0, l .inv .4, g .ensures .0, n .wrote .size, l .inv .11),
       g .kept .1 .1 .0 ∙ l .inv .5,
       g .kept .1 .1 .1 .0 ∙ l .inv .6,
       g .kept .1 .1 .1 .1 .0 ∙ l .inv .7,
       g .kept .1 .1 .1 .1 .1 .0 ∙ l .inv .8,
       g .kept .1 .1 .1 .1 .1 .1 .0 ∙ l .inv .9,
+      g .kept .1 .1 .1 .1 .1 .1 .1 .0 ∙ l .inv .10,
       n .wrote .size,
       n,
     )
@@ -154,13 +155,16 @@ same-length-6 c = search needs
 same-length-7 : tie.Need-same-length-7 Inv-loop μ-loop
 same-length-7 c = search needs
 
+same-length-8 : tie.Need-same-length-8 Inv-loop μ-loop
+same-length-8 c = search needs
+
 returns : tie.Need-returns Inv-loop μ-loop
 returns c =
     let l = c .before .before .before .before .before .before .loop in
-    let p = (c .before .before .before .before .before .before .before .before .before .before .before .before .before .before .before .before) in
+    let p = (c .before .before .before .before .before .before .before .before .before .before .before .before .before .before .before .before .before) in
     let t = c .before .before .before .before .before .loop-test .left in
     let w = c .before .before .append2 in
-    let e = part-end (p .args .bytes .now) (leaving (l .state) (l .spt) (l .«spt-dir») (l .tsp) (l .«tsp-dir») (l .prune)) (l .line) (l .out) (l .at) (l .n) (l .to) (l .stop) (l .inv .3) (l .inv .11) (l .inv .0) t _ (w .ensures .1) in
+    let e = part-end (p .args .bytes .now) (leaving (l .state) (l .spt) (l .«spt-dir») (l .tsp) (l .«tsp-dir») (l .tally) (l .prune)) (l .line) (l .out) (l .at) (l .n) (l .to) (l .stop) (l .inv .3) (l .inv .12) (l .inv .0) t _ (w .ensures .1) in
     (omega (arith, w .ensures .0, l .inv .3), e .0, e .1)
 
 pub answer-part-spec : {M : Type 1} → statement M
@@ -197,4 +201,5 @@ answer-part-spec =
     same-length-5
     same-length-6
     same-length-7
+    same-length-8
     returns)

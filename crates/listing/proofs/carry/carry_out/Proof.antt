@@ -6,7 +6,7 @@ use mathlib.Core.Logic.{⊎-elim}
 use native.Mathlib.Omega.{arith}
 use types.Run.{OneOf}
 use denote.Enum.Declared.{tagOf}
-use Rattle.store.specs.Store.{Store, storeOf}
+use Rattle.store.specs.Store.{Tallied, talliedOf}
 use Rattle.text.specs.declared.path.Outcome.{Outcome}
 use Rattle.text.specs.declared.path.Outcome.the-variants.{Good, Illegal, Bad}
 use Rattle.text.proofs.path.Outcome.{the-type}
@@ -17,8 +17,8 @@ use borrow.Author.Needs.{needs}
 use Rattle.listing.proofs.carry.carry_out.Statement.{statement}
 use Rattle.listing.proofs.carry.carry_out.Tie as tie
 
-abbrev lent : tie.Start → Store
-lent p = storeOf (p .args .state) (p .args .spt .now) (p .args .«spt-dir» .now) (p .args .tsp .now) (p .args .«tsp-dir» .now)
+abbrev lent : tie.Start → Tallied
+lent p = talliedOf (p .args .state) (p .args .spt .now) (p .args .«spt-dir» .now) (p .args .tsp .now) (p .args .«tsp-dir» .now) (p .args .tally .now)
 
 -- An outcome whose tag is 1 or 2 is not good.
 other : (o : Outcome) → OneOf (1 ∷ 2 ∷ []) (tagOf the-type o) → o ≡ Good → ⊥
@@ -56,21 +56,24 @@ same-length-4 c = search needs
 same-length-5 : tie.Need-same-length-5
 same-length-5 c = search needs
 
+same-length-6 : tie.Need-same-length-6
+same-length-6 c = search needs
+
 returns : tie.Need-returns
 returns c =
-    let p = (c .before .before .before .before .before .before .before .before .before .before .before .before .before .before .before .before .before .before .before .before .before .before .before .before .before .before .before .before) in
-    let g = c .before .before .before .before .before .before .before .before .before .before .before .before .ingest-entry-numbers in
-    let r : Answer → LineOutcome = λ x. record { answer = x; store = storeOf (g .result .state) (g .last .1 .0) (g .last .1 .1 .0) (g .last .1 .1 .1 .0) (g .last .1 .1 .1 .1 .0); prune = g .last .1 .1 .1 .1 .1 .0 } in
+    let p = (c .before .before .before .before .before .before .before .before .before .before .before .before .before .before .before .before .before .before .before .before .before .before .before .before .before .before .before .before .before .before .before .before) in
+    let g = c .before .before .before .before .before .before .before .before .before .before .before .before .before .before .ingest-entry-numbers in
+    let r : Answer → LineOutcome = λ x. record { answer = x; tallied = talliedOf (g .result .state) (g .last .1 .0) (g .last .1 .1 .0) (g .last .1 .1 .1 .0) (g .last .1 .1 .1 .1 .0) (g .last .1 .1 .1 .1 .1 .0); prune = g .last .1 .1 .1 .1 .1 .1 .0 } in
     ap r (c .answer-of .ensures)
-    ∙ line-taken (lent p) (p .args .prune .now) (p .args .line .now) (c .before .before .before .before .before .before .before .before .before .before .before .before .before .before .before .before .before .before .before .before .before .read-line .result) (c .before .before .before .before .before .before .before .before .before .before .before .before .before .before .before .before .before .before .before .before .before .read-line .ensures) (c .before .before .before .before .before .before .before .before .before .before .before .before .before .before .before .before .before .before .before .enum-told .given .1) _ (c .before .before .before .before .before .before .before .before .before .before .before .before .before .ingestion-of-line .ensures) _ (g .ensures)
+    ∙ line-taken (lent p) (p .args .prune .now) (p .args .line .now) (c .before .before .before .before .before .before .before .before .before .before .before .before .before .before .before .before .before .before .before .before .before .before .before .before .read-line .result) (c .before .before .before .before .before .before .before .before .before .before .before .before .before .before .before .before .before .before .before .before .before .before .before .before .read-line .ensures) (c .before .before .before .before .before .before .before .before .before .before .before .before .before .before .before .before .before .before .before .before .before .before .enum-told .given .1) _ (c .before .before .before .before .before .before .before .before .before .before .before .before .before .before .before .ingestion-of-line .ensures) _ (g .ensures)
 
 answer-without-requires : tie.Need-answer-without-requires
 answer-without-requires c κs = search needs
 
 returns-2 : tie.Need-returns-2
 returns-2 c =
-    let p = (c .before .before .before .before .before .before .before .before .before) in
-    ap (λ (x : Answer). record { answer = x; store = lent p; prune = p .args .prune .now }) (c .answer-without .ensures)
+    let p = (c .before .before .before .before .before .before .before .before .before .before) in
+    ap (λ (x : Answer). record { answer = x; tallied = lent p; prune = p .args .prune .now }) (c .answer-without .ensures)
     ∙ line-left (lent p) (p .args .prune .now) (p .args .line .now) (c .before .before .read-line .result) (c .before .before .read-line .ensures) (other _ (c .before .match .keys2))
 
 pub carry-out-spec : {M : Type 1} → statement M
@@ -87,6 +90,7 @@ carry-out-spec =
     same-length-3
     same-length-4
     same-length-5
+    same-length-6
     returns
     answer-without-requires
     returns-2)

@@ -23,7 +23,7 @@ same-length-2 : tie.Need-same-length-2
 same-length-2 c = search needs
 
 returns : tie.Need-returns
-returns c = c .before .before .before .before .file-marked .ensures
+returns c = c .before .before .before .before .file-marked .ensures .0
 
 pub file-in-spec : {M : Type 1} → statement M
 file-in-spec =

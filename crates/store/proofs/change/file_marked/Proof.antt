@@ -3,22 +3,32 @@ use borrow.Author.Needs.{needs}
 use Rattle.store.proofs.change.file_marked.Statement.{statement}
 use Rattle.store.proofs.change.file_marked.Tie as tie
 use Prim.Native.Nat.{ℕ, _≤_}
-use mathlib.Core.Path.{sym}
+use mathlib.Core.Path.{_≡_, sym}
 use native.Mathlib.Omega.{arith}
 use lib.ListN.{length, length-replicate}
 use lib.Seq.{length-take-le}
 use Rattle.data_model.specs.Entry.{entryOf, rankOf}
 use Rattle.key_laws.specs.Bytes.{Bytes}
+use Rattle.layout.specs.Layout.{records}
 use Rattle.tree.specs.Stored.{storedOf, tripleOf}
 use Rattle.tree.proofs.FormedLaws.{whole-editable}
-use Rattle.store.proofs.ChangeLaws.{Handed, written-least, written-most, front-written, front-key, filing-editable, filing-searchable, filing-numbers, filing-many, filing-bytes, filing-place, filing-done}
+use Rattle.store.proofs.ChangeLaws.{Handed, written-least, written-most, front-written, front-key, filing-editable, filing-searchable, filing-numbers, filing-many, filing-bytes, filing-place, filing-done, inserted-lawful}
 use Rattle.tree.specs.Value.{valueLength}
 use Rattle.store.specs.Store.{recordMost}
 use Rattle.data_model.specs.Path.{field}
 
 handed : (c : tie.Start) → Handed (storedOf (c .args .a))
 unfolding tripleOf storedOf entryOf rankOf
-handed c = record { sized = record { high = search needs; low = search needs; time = search needs }; digest = search needs; token = search needs }
+handed c = record {
+  sized = record { high = search needs; low = search needs; time = search needs };
+  payload = search needs;
+  digest = search needs;
+  token = search needs;
+  available = search needs;
+}
+
+path-long : (c : tie.Start) → length (c .args .a .entry .path .bytes) ≡ 128
+path-long c = search needs
 
 known : (c : tie.After-slice-known) → Bytes (c .before .args .tree .now)
 known c i = c .slice-known .given i .fits
@@ -93,9 +103,11 @@ returns c =
     let p = c .before .before .before .before .before .before .before .before .before .before .before .before .before .before .before .before .before .before .before .before .before .before .before .before .before in
     let r = c .before .before .before .before .before .before .before .before .before .before .before .before .before .before .before .before .before .before .before .retain in
     let e = c .before .before .before .before .before .before .before .before .before .before .before .before .before .encode-record in
-    let i = c .before .before .before .before .insert-at in
-    filing-done (p .pre .0) (handed p) (known (c .before .before .before .before .before .before .before .before .before .before .before .before .before .before .before .before .before .before .before .before .before .before .before .before)) _ _ (p .pre .1) (r .result) (r .last .1 .0) (r .last .1 .1 .0) (r .ensures .0) (r .ensures .1 .0) (r .ensures .1 .1) _
-    (front-written _ _ (e .last .1 .1 .0) (e .result) (e .ensures .0) (e .ensures .1)) _ (front-key _ _ (e .last .1 .1 .0) (e .result) (e .ensures .0) (e .ensures .1)) _ (c .before .before .before .before .before .before .before .before .find .ensures .0) _ _ (i .ensures .0) (i .ensures .1)
+    let i = c .before .before .before .before .insert-at in (
+      filing-done (p .pre .0) (handed p) (known (c .before .before .before .before .before .before .before .before .before .before .before .before .before .before .before .before .before .before .before .before .before .before .before .before)) _ _ (p .pre .1) (r .result) (r .last .1 .0) (r .last .1 .1 .0) (r .ensures .0) (r .ensures .1 .0) (r .ensures .1 .1) _
+          (front-written _ _ (e .last .1 .1 .0) (e .result) (e .ensures .0) (e .ensures .1)) _ (front-key _ _ (e .last .1 .1 .0) (e .result) (e .ensures .0) (e .ensures .1)) _ (c .before .before .before .before .before .before .before .before .find .ensures .0) _ _ (i .ensures .0) (i .ensures .1),
+      inserted-lawful (p .args .order) (p .args .a) (handed p) (omega (arith, path-long p)) (p .pre .0 .path) _ (front-written _ _ (e .last .1 .1 .0) (e .result) (e .ensures .0) (e .ensures .1)) _ (c .before .before .before .before .before .before .before .before .find .result .at) (records (r .result) (r .last .1 .0) (r .last .1 .1 .0)) _ (λ j. c .slice-known6 .given j .fits) (i .ensures .0),
+    )
 
 pub file-marked-spec : {M : Type 1} → statement M
 file-marked-spec =

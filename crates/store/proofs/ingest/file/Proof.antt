@@ -3,6 +3,7 @@ use Prim.Native.Nat.{_*_}
 use mathlib.Core.Path.{sym}
 use native.Mathlib.Omega.{arith}
 use lib.Seq.{length-take-le}
+use Rattle.tree.specs.Stored.{storedOf}
 use Rattle.store.specs.Store.{Store, storeOf}
 use Rattle.store.proofs.IngestLaws.{Ready}
 use Rattle.store.proofs.FileLaws.{may-ready, may-many, may-prune, pruned-done, marked-spt, files-spt, files-tsp, filed-both}
@@ -105,12 +106,13 @@ same-length-5 : tie.Need-same-length-5
 same-length-5 c = search needs
 
 returns : tie.Need-returns
+unfolding storedOf
 returns c =
     let p = c .before .before .before .before .before .before .before .before .before .before .before .before .before .before .before .before .before .before .before .before .before .before .before .before .before .before .before .before in
     let x = c .before .before .before .before .before .before .before .before .before .before .before .file-marked in
     let y = c .before .before .before .before .file-in in (
-      filed-both (lent p) (p .args .prune .now) (p .args .ingestion .entry) (p .pre .0) (p .args .ingestion .token) (x .last .1 .1 .0) (x .last .1 .1 .1 .0) (y .last .1 .1 .0) (y .last .1 .1 .1 .0) (x .result) (y .result) (x .ensures) (y .ensures),
-      pruned-done (lent p) (p .args .prune .now) (p .args .ingestion .entry) (p .pre .0) (p .args .removed .now) (p .pre .1) (p .pre .2) _ (c .before .before .before .before .before .before .before .before .before .before .before .before .before .before .before .before .write-pairs .ensures .1),
+      filed-both (lent p) (p .args .prune .now) (p .args .ingestion .entry) (p .pre .0) (p .args .ingestion .token) (x .last .1 .1 .0) (x .last .1 .1 .1 .0) (y .last .1 .1 .0) (y .last .1 .1 .1 .0) (x .result) (y .result) (x .ensures .0) (y .ensures),
+      (pruned-done (lent p) (p .args .prune .now) (p .args .ingestion .entry) (p .pre .0) (p .args .removed .now) (p .pre .1) (p .pre .2) _ (c .before .before .before .before .before .before .before .before .before .before .before .before .before .before .before .before .write-pairs .ensures .1), x .ensures .1),
     )
 
 pub file-spec : {M : Type 1} → statement M

@@ -6,7 +6,7 @@ use native.Mathlib.Omega.{arith}
 use lib.Seq.{length-take-le}
 use Rattle.data_model.specs.Path.{field}
 use Rattle.data_model.specs.Entry.{entryOf}
-use Rattle.store.specs.Store.{Store, storeOf}
+use Rattle.store.specs.Store.{Tallied, talliedOf}
 use Rattle.store.specs.Ingest.{verdictSays, ingestRefusal, placeDecided}
 use Rattle.store.specs.declared.ingest.Ingestion.{Ingestion}
 use Rattle.store.proofs.IngestLaws.{Ready, inSpt, decided-own, ready, ready-formed, answers-refused, answers-late, old-bounds, answers-old, take-fits, answers-take, marked-own, refused-unlike, obsolete-unlike}
@@ -14,27 +14,27 @@ use borrow.Author.Needs.{needs}
 use Rattle.store.proofs.ingest.ingest_answer.Statement.{statement}
 use Rattle.store.proofs.ingest.ingest_answer.Tie as tie
 
--- The store that was handed in; nothing of 1 to 6 is refused where the answer is not plain.
-abbrev lent : tie.Start → Store
-lent p = storeOf (p .args .state) (p .args .spt .now) (p .args .«spt-dir» .now) (p .args .tsp .now) (p .args .«tsp-dir» .now)
+-- What was handed in; nothing of 1 to 6 or 10 is refused where the answer is not plain.
+abbrev lent : tie.Start → Tallied
+lent p = talliedOf (p .args .state) (p .args .spt .now) (p .args .«spt-dir» .now) (p .args .tsp .now) (p .args .«tsp-dir» .now) (p .args .tally .now)
 
 abbrev start : tie.Else1 → tie.Start
-start c = c .before .before .before .before .before .before .before .before .before
+start c = c .before .before .before .before .before .before .before .before .before .before
 
 zero : (c : tie.Else1) → ingestRefusal field (lent (start c)) (start c .args .prune .now) (start c .args .ingestion .entry) ≡ 0
 zero c = sym (c .before .ingest-refusal .ensures) ∙ c .if1 .left
 
-known : (c : tie.Else1) → Ready (lent (start c)) (start c .args .prune .now) (start c .args .ingestion .entry)
+known : (c : tie.Else1) → Ready (lent (start c) .store) (start c .args .prune .now) (start c .args .ingestion .entry)
 known c = ready (lent (start c)) (start c .args .prune .now) (start c .args .ingestion .entry) (zero c)
 
 -- What is decided, in the store's namespace.
 abbrev tested : tie.After-decide → tie.Else1
 tested c = c .before .before .before .before
 
-own : (c : tie.After-decide) → c .decide .result ≡ placeDecided (start (tested c) .args .state .limit) (inSpt (lent (start (tested c)))) (entryOf (start (tested c) .args .ingestion .entry)) (start (tested c) .args .ingestion .«prevent_pruning»)
+own : (c : tie.After-decide) → c .decide .result ≡ placeDecided (start (tested c) .args .state .limit) (inSpt (lent (start (tested c)) .store)) (entryOf (start (tested c) .args .ingestion .entry)) (start (tested c) .args .ingestion .«prevent_pruning»)
 own c =
     let p = start (tested c) in
-    decided-own (lent p) (p .args .prune .now) (p .args .ingestion .entry) (p .args .ingestion .«prevent_pruning») (known (tested c)) (c .decide .result) (c .decide .ensures .0)
+    decided-own (lent p .store) (p .args .prune .now) (p .args .ingestion .entry) (p .args .ingestion .«prevent_pruning») (known (tested c)) (c .decide .result) (c .decide .ensures .0)
 
 ingest-refusal-requires : tie.Need-ingest-refusal-requires
 ingest-refusal-requires c κs = search needs
@@ -45,7 +45,7 @@ plain-answer-requires c κs = search needs
 returns : tie.Need-returns
 unfolding verdictSays
 returns c =
-    let p = (c .before .before .before .before .before .before .before .before .before .before) in
+    let p = (c .before .before .before .before .before .before .before .before .before .before .before) in
     let f = (c .before .before) .ingest-refusal in
     (answers-refused (lent p) (p .args .prune .now) (p .args .ingestion) (f .result) (f .ensures) ((c .before) .if1 .taken) _ (c .plain-answer .ensures), λ n q. refused-unlike (c .plain-answer .ensures) q)
 
@@ -76,7 +76,7 @@ decide-requires c κs =
     let v = known e in
     let m = v .passes .most in
     let f = v .passes .few in
-    (ready-formed (lent p) (p .args .prune .now) (p .args .ingestion .entry) v, omega arith, v .legal-path, omega (arith, p .pre))
+    (ready-formed (lent p .store) (p .args .prune .now) (p .args .ingestion .entry) v, omega arith, v .legal-path, omega (arith, p .pre))
 
 enum-known-d : tie.Need-enum-known-d
 enum-known-d c = search needs
@@ -151,7 +151,7 @@ returns-4 c =
     let p = start e in (
       answers-take (lent p) (p .args .prune .now) (p .args .ingestion) (zero e) ((c .before .before .before .before .before .before) .decide .result) (own (c .before .before .before .before .before .before))
           _ ((c .before .before) .d3 .given .1) _ (c .taken-answer .ensures),
-      λ n q. marked-own (lent p) (p .args .prune .now) (p .args .ingestion .entry) (known e) _ ((c .before .before .before .before .before .before) .decide .ensures .1 _ ((c .before .before) .d3 .given .1)),
+      λ n q. marked-own (lent p .store) (p .args .prune .now) (p .args .ingestion .entry) (known e) _ ((c .before .before .before .before .before .before) .decide .ensures .1 _ ((c .before .before) .d3 .given .1)),
     )
 
 pub ingest-answer-spec : {M : Type 1} → statement M

@@ -9,17 +9,17 @@ use types.Run.{OneOf}
 use denote.Enum.Declared.{tagOf}
 use Rattle.data_model.specs.Said.{says}
 use Rattle.store.specs.Ingest.{succeeds, verdictSays, ingestedSays}
-use Rattle.store.specs.Store.{Store, storeOf, limitMost}
+use Rattle.store.specs.Store.{limitMost, Tallied, talliedOf}
 use Rattle.store.specs.declared.ingest.IngestVerdict.{IngestVerdict}
 use Rattle.store.specs.declared.ingest.IngestVerdict.the-variants.{Success, Obsolete, Refused}
 use Rattle.store.proofs.ingest.IngestVerdict.{the-type}
-use Rattle.store.proofs.FileLaws.{success-may, outcome-filed, outcome-same}
+use Rattle.store.proofs.FileLaws.{success-may, filed-asks, filed-tallied, outcome-filed, outcome-same}
 use borrow.Author.Needs.{needs}
 use Rattle.store.proofs.ingest.ingest_entry_numbers.Statement.{statement}
 use Rattle.store.proofs.ingest.ingest_entry_numbers.Tie as tie
 
-abbrev lent : tie.Start → Store
-lent p = storeOf (p .args .state) (p .args .spt .now) (p .args .«spt-dir» .now) (p .args .tsp .now) (p .args .«tsp-dir» .now)
+abbrev lent : tie.Start → Tallied
+lent p = talliedOf (p .args .state) (p .args .spt .now) (p .args .«spt-dir» .now) (p .args .tsp .now) (p .args .«tsp-dir» .now) (p .args .tally .now)
 
 -- A verdict whose tag is 1 or 2 is no success.
 other : (v : IngestVerdict) → OneOf (1 ∷ 2 ∷ []) (tagOf the-type v) → (n : ℕ) → verdictSays v ≡ says (succeeds n) → ⊥
@@ -43,10 +43,20 @@ slice-aggregate-file c = search needs
 file-requires : tie.Need-file-requires
 unfolding verdictSays
 file-requires c κs =
-    let p = (c .before .before .before .before .before .before .before .before .before .before .before .before .before .before .before .before .before .before .before .before .before) in
-    let a = (c .before .before .before .before .before .before .before .before .before) .ingest-answer in
-    let q = ap verdictSays ((c .before .before .before .before .before .before) .enum-told .given .1) in
-    (success-may (lent p) (p .args .prune .now) (p .args .ingestion) (ingestedSays (a .result)) (a .ensures .0) _ q, a .ensures .1 _ q, omega (arith, a .kept .1 .1 .1 .1 .1 .1 .1 .0, length-replicate {A = ℕ} limitMost 0))
+    let p = c .before .before .before .before .before .before .before .before .before .before .before .before .before .before .before .before .before .before .before .before .before .before .before in
+    let a = c .before .before .before .before .before .before .before .before .before .ingest-answer in
+    let q = ap verdictSays (c .before .before .before .before .before .before .enum-told .given .1) in
+    (success-may (lent p) (p .args .prune .now) (p .args .ingestion) (ingestedSays (a .result)) (a .ensures .0) _ q, a .ensures .1 _ q, omega (arith, a .kept .1 .1 .1 .1 .1 .1 .1 .1 .0, length-replicate {A = ℕ} limitMost 0))
+
+retally-requires : tie.Need-retally-requires
+unfolding verdictSays
+retally-requires c κs =
+    let p = c .before .before .before .before .before .before .before .before .before .before .before .before .before .before .before .before .before .before .before .before .before .before .before .before .before .before .before .before .before .before .before .before .before .before .before .before .before in
+    let a = c .before .before .before .before .before .before .before .before .before .before .before .before .before .before .before .before .before .before .before .before .before .before .before .ingest-answer in
+    let f = c .before .before .before .before .before .before .before .before .before .before .before .before .before .file in
+    filed-asks (lent p) (p .args .prune .now) (p .args .ingestion) (ingestedSays (a .result)) (a .ensures .0) _ (ap verdictSays (c .before .before .before .before .before .before .before .before .before .before .before .before .before .before .before .before .before .before .before .before .enum-told .given .1)) (f .ensures .1 .1)
+    (λ i. c .before .before .before .before .before .before .before .before .before .before .before .before .before .before .before .before .before .before .before .before .before .before .before .before .before .before .before .before .before .before .before .before .before .before .before .before .slice-known .given i .fits) (λ i. c .before .before .before .before .before .before .before .before .before .before .before .before .before .before .before .before .before .before .before .before .before .before .before .before .before .before .before .before .before .before .before .before .before .before .slice-known3 .given i .fits)
+    (f .last .1 .0) (f .last .1 .1 .0) (f .last .1 .1 .1 .0) (f .last .1 .1 .1 .1 .0) (f .ensures .0)
 
 same-length : tie.Need-same-length
 same-length c = search needs
@@ -63,17 +73,23 @@ same-length-4 c = search needs
 same-length-5 : tie.Need-same-length-5
 same-length-5 c = search needs
 
+same-length-6 : tie.Need-same-length-6
+same-length-6 c = search needs
+
 returns : tie.Need-returns
 unfolding verdictSays
 returns c =
-    let p = (c .before .before .before .before .before .before .before .before .before .before .before .before .before .before .before .before .before .before .before .before .before .before .before .before .before .before .before .before .before .before .before .before) in
-    let a = (c .before .before .before .before .before .before .before .before .before .before .before .before .before .before .before .before .before .before .before .before) .ingest-answer in
-    let f = (c .before .before .before .before .before .before .before .before .before .before) .file in
-    outcome-filed (lent p) (p .args .prune .now) (p .args .ingestion) (ingestedSays (a .result)) (a .ensures .0) _ (ap verdictSays ((c .before .before .before .before .before .before .before .before .before .before .before .before .before .before .before .before .before) .enum-told .given .1))
-    (f .last .1 .0) (f .last .1 .1 .0) (f .last .1 .1 .1 .0) (f .last .1 .1 .1 .1 .0) (f .last .1 .1 .1 .1 .1 .0) (f .ensures .0) (f .ensures .1)
-
-same-length-6 : tie.Need-same-length-6
-same-length-6 c = search needs
+    let p = c .before .before .before .before .before .before .before .before .before .before .before .before .before .before .before .before .before .before .before .before .before .before .before .before .before .before .before .before .before .before .before .before .before .before .before .before .before .before .before .before in
+    let a = c .before .before .before .before .before .before .before .before .before .before .before .before .before .before .before .before .before .before .before .before .before .before .before .before .before .before .ingest-answer in
+    let f = c .before .before .before .before .before .before .before .before .before .before .before .before .before .before .before .before .file in
+    let t = c .before .before .retally in
+    let q = ap verdictSays (c .before .before .before .before .before .before .before .before .before .before .before .before .before .before .before .before .before .before .before .before .before .before .before .enum-told .given .1) in
+    outcome-filed (lent p) (p .args .prune .now) (p .args .ingestion) (ingestedSays (a .result)) (a .ensures .0) _ q
+    (f .last .1 .0) (f .last .1 .1 .0) (f .last .1 .1 .1 .0) (f .last .1 .1 .1 .1 .0) (t .last .1 .1 .1 .0) (f .last .1 .1 .1 .1 .1 .0)
+    (filed-tallied (lent p) (p .args .prune .now) (p .args .ingestion) (ingestedSays (a .result)) (a .ensures .0) _ q (f .ensures .1 .1)
+    (λ i. c .before .before .before .before .before .before .before .before .before .before .before .before .before .before .before .before .before .before .before .before .before .before .before .before .before .before .before .before .before .before .before .before .before .before .before .before .before .before .before .slice-known .given i .fits) (λ i. c .before .before .before .before .before .before .before .before .before .before .before .before .before .before .before .before .before .before .before .before .before .before .before .before .before .before .before .before .before .before .before .before .before .before .before .before .before .slice-known3 .given i .fits)
+    (f .last .1 .0) (f .last .1 .1 .0) (f .last .1 .1 .1 .0) (f .last .1 .1 .1 .1 .0) (f .ensures .0) (t .last .1 .1 .1 .0) (t .ensures))
+    (f .ensures .1 .0)
 
 same-length-7 : tie.Need-same-length-7
 same-length-7 c = search needs
@@ -87,9 +103,15 @@ same-length-9 c = search needs
 same-length-10 : tie.Need-same-length-10
 same-length-10 c = search needs
 
+same-length-11 : tie.Need-same-length-11
+same-length-11 c = search needs
+
+same-length-12 : tie.Need-same-length-12
+same-length-12 c = search needs
+
 returns-2 : tie.Need-returns-2
 returns-2 c =
-    let p = (c .before .before .before .before .before .before .before .before .before .before .before .before .before .before) in
+    let p = (c .before .before .before .before .before .before .before .before .before .before .before .before .before .before .before .before) in
     let a = (c .before .before) .ingest-answer in
     outcome-same (lent p) (p .args .prune .now) (p .args .ingestion) (ingestedSays (a .result)) (a .ensures .0) (other _ (c .match .keys2))
 
@@ -102,15 +124,18 @@ ingest-entry-numbers-spec =
     enum-told
     slice-aggregate-file
     file-requires
+    retally-requires
     same-length
     same-length-2
     same-length-3
     same-length-4
     same-length-5
-    returns
     same-length-6
+    returns
     same-length-7
     same-length-8
     same-length-9
     same-length-10
+    same-length-11
+    same-length-12
     returns-2)

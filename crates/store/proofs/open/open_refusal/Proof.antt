@@ -20,10 +20,17 @@ returns-2 : tie.Need-returns-2
 unfolding openRefusal unless _orElse_ roomy
 returns-2 c = simp (holds (c .before .before .before .limit-ok .ensures) (c .before .before .if1 .left), fails (c .before .is-roomy .ensures) (c .if2 .taken))
 
+tally-fits-requires : tie.Need-tally-fits-requires
+tally-fits-requires c κs = search needs
+
 returns-3 : tie.Need-returns-3
 unfolding openRefusal unless _orElse_ roomy
-returns-3 c = simp (holds (c .before .before .before .limit-ok .ensures) (c .before .before .if1 .left), holds (c .before .is-roomy .ensures) (c .if2 .left))
+returns-3 c = simp (holds (c .before .before .before .before .before .limit-ok .ensures) (c .before .before .before .before .if1 .left), holds (c .before .before .before .is-roomy .ensures) (c .before .before .if2 .left), fails (c .before .tally-fits .ensures) (c .if3 .taken))
+
+returns-4 : tie.Need-returns-4
+unfolding openRefusal unless _orElse_ roomy
+returns-4 c = simp (holds (c .before .before .before .before .before .limit-ok .ensures) (c .before .before .before .before .if1 .left), holds (c .before .before .before .is-roomy .ensures) (c .before .before .if2 .left), holds (c .before .tally-fits .ensures) (c .if3 .left))
 
 pub open-refusal-spec : {M : Type 1} → statement M
 open-refusal-spec =
-    tie.close (tie.spec limit-ok-requires returns is-roomy-requires returns-2 returns-3)
+    tie.close (tie.spec limit-ok-requires returns is-roomy-requires returns-2 tally-fits-requires returns-3 returns-4)

@@ -2,7 +2,7 @@
 use mathlib.Core.Path.{ap, _∙_}
 use mathlib.Core.Bool.{Bool}
 use Rattle.data_model.specs.Path.{field}
-use Rattle.store.specs.Store.{storeOf}
+use Rattle.store.specs.Store.{talliedOf}
 use Rattle.store.specs.Forget.{entryForgotten}
 use borrow.Author.Needs.{needs}
 use Rattle.virebony.proofs.change.vb_forget_entry.Statement.{statement}
@@ -26,10 +26,13 @@ same-length-3 c = search needs
 same-length-4 : tie.Need-same-length-4
 same-length-4 c = search needs
 
+same-length-5 : tie.Need-same-length-5
+same-length-5 c = search needs
+
 returns : tie.Need-returns
 returns c =
-    let p = c .before .before .before .before .before .before .before .before .before .before .before .before .before .before .before .before .before .before .before in
-    c .before .before .before .before .before .before .before .before .forget-entry .ensures ∙ ap (λ (b : Bool). entryForgotten field (storeOf (p .args .state) (p .args .spt .now) (p .args .«spt-dir» .now) (p .args .tsp .now) (p .args .«tsp-dir» .now)) (p .args .subspace) (p .args .path) b (p .args .«expected-digest» .now)) (c .before .before .before .before .before .before .before .before .before .before .before .before .before .before .is-yes .ensures)
+    let p = c .before .before .before .before .before .before .before .before .before .before .before .before .before .before .before .before .before .before .before .before .before .before .before in
+    c .before .before .before .before .before .before .before .before .before .before .forget-entry .ensures ∙ ap (λ (b : Bool). entryForgotten field (talliedOf (p .args .state) (p .args .spt .now) (p .args .«spt-dir» .now) (p .args .tsp .now) (p .args .«tsp-dir» .now) (p .args .tally .now)) (p .args .subspace) (p .args .path) b (p .args .«expected-digest» .now)) (c .before .before .before .before .before .before .before .before .before .before .before .before .before .before .before .before .before .is-yes .ensures)
 
 pub vb-forget-entry-spec : {M : Type 1} → statement M
-vb-forget-entry-spec = tie.close (tie.spec is-yes-requires forget-entry-requires same-length same-length-2 same-length-3 same-length-4 returns)
+vb-forget-entry-spec = tie.close (tie.spec is-yes-requires forget-entry-requires same-length same-length-2 same-length-3 same-length-4 same-length-5 returns)

@@ -1,0 +1,4 @@
+pub mod TallyLaws
+pub mod OneTally
+pub mod RunLaws
+pub mod TallyBytes
