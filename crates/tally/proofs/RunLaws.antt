@@ -28,12 +28,12 @@ use Rattle.tree.proofs.AgreeLaws.{contents-ascends}
 use Rattle.tree.proofs.FormedContents.{formed-next, formed-done}
 use Rattle.tree.proofs.WalkLaws.{entryBelow}
 use Rattle.tree.proofs.WithinLaws.{formed-recorded}
-use Rattle.tally.specs.Tally.{later, itemOf, enter, tallyOf}
+use Rattle.tally.specs.Tally.{laterOf, itemOf, enter, tallyOf}
 use Rattle.tally.specs.declared.item.Item.{Item}
 use Rattle.tally.proofs.TallyLaws.{subspaceOf, tally-said}
 
-later-assoc : (a b c : ℕ) → later a (later b c) ≡ later (later a b) c
-unfolding later
+later-assoc : (a b c : ℕ) → laterOf a (laterOf b c) ≡ laterOf (laterOf a b) c
+unfolding laterOf
 later-assoc a b c = split (ltb a b)
     (λ p. split (ltb b c)
     (λ q. rw (p, q, lt-ltb a c (omega (arith, ltb-true a b p, ltb-true b c q))))
@@ -44,7 +44,7 @@ later-assoc a b c = split (ltb a b)
 
 -- Two items of a subspace as one. An item in front of others: as one with the first if that is of its subspace.
 abbrev merged : Item → Item → Item
-merged i j = record { subspace = i .subspace; count = i .count + j .count; newest = later (i .newest) (j .newest) }
+merged i j = record { subspace = i .subspace; count = i .count + j .count; newest = laterOf (i .newest) (j .newest) }
 
 unfoldable pub front : Item → List Item → List Item
 front i [] = i ∷ []
@@ -88,7 +88,7 @@ enter-front x (j ∷ l) h = three (bySubspace (subspaceOf x) (j .subspace))
     let s : subspaceOf x ≡ j .subspace = subspace-linear .equal (subspaceOf x) (j .subspace) e in
     let q : sameSubspace (subspaceOf x) (j .subspace) ≡ true = ap (sameSubspace (subspaceOf x)) (sym s) ∙ subspace-equality .self (subspaceOf x) in
     let n : suc (j .count) ≡ 1 + j .count = omega arith in
-    rw (e, q) (ap (_∷ l) λ d. record { subspace = sym s d; count = n d; newest = later (x .entry .rank .timestamp) (j .newest) }))
+    rw (e, q) (ap (_∷ l) λ d. record { subspace = sym s d; count = n d; newest = laterOf (x .entry .rank .timestamp) (j .newest) }))
     (λ e. absurd (h j (here refl) e))
 
 -- In key order no later entry is of a subspace below.
@@ -189,14 +189,14 @@ module _ {count : ℕ} {dir tree : List ℕ} (v : Ordered Spt count dir tree) (b
             (ap₂ sameSubspace (sym f) (sym e) ∙ o) (sym e ∙ q ∙ sym (y .2)))
             (uncons (subst (y .0 ∈_) (formed-next (v .formed) ns end more) (y .1)))
 
-        pub run-turn : not (sameSubspace next s) ≡ false → (time u : ℕ) → time ≡ tripleAt Spt (recordAt end dir tree) .timestamp → u ≡ later t time
+        pub run-turn : not (sameSubspace next s) ≡ false → (time u : ℕ) → time ≡ tripleAt Spt (recordAt end dir tree) .timestamp → u ≡ laterOf t time
             → tallyOf (drop k entries) ≡ front (runItem s k (end + 1) u) (tallyOf (drop (end + 1) entries))
         unfolding stored storedFrom
         run-turn n time u g l =
             let o : s ≡ next = sym (subspace-equality .equal next s (not-false (sameSubspace next s) n)) in
             let m : end - k + 1 ≡ end + 1 - k = omega arith in
             let i : merged (runItem s k end t) (itemOf (entryAt end)) ≡ runItem s k (end + 1) u
-            = λ d. record { subspace = s; count = m d; newest = (ap (later t) (sym g) ∙ sym l) d } in
+            = λ d. record { subspace = s; count = m d; newest = (ap (laterOf t) (sym g) ∙ sym l) d } in
             inv
             ∙ ap (front (runItem s k end t)) (next-tally end more)
             ∙ front-merged (runItem s k end t) (itemOf (entryAt end)) (tallyOf (drop (end + 1) entries)) (o ∙ f)

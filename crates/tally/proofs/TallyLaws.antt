@@ -16,7 +16,7 @@ use Rattle.data_model.specs.Subspace.{sameSubspace, bySubspace}
 use Rattle.data_model.specs.declared.parameters.Subspace.{Subspace}
 use Rattle.data_model.proofs.Orders.{subspace-linear, subspace-equality}
 use Rattle.tree.specs.Stored.{Stored}
-use Rattle.tally.specs.Tally.{later, itemOf, withOne, enter, tallyOf, itemBelow, TallySaid}
+use Rattle.tally.specs.Tally.{laterOf, itemOf, withOne, enter, tallyOf, itemBelow, TallySaid}
 use Rattle.tally.specs.declared.item.Item.{Item}
 
 abbrev pub subspaceOf : Stored → Subspace
@@ -26,16 +26,16 @@ abbrev timeOf : Stored → ℕ
 timeOf x = x .entry .rank .timestamp
 
 -- The later of two timestamps.
-later-left : (a b : ℕ) → a ≤ later a b
-unfolding later
+later-left : (a b : ℕ) → a ≤ laterOf a b
+unfolding laterOf
 later-left a b = split (ltb a b) (λ q. let h = ltb-true a b q in rw q (omega arith)) (λ q. rw q (omega arith))
 
-later-right : (a b : ℕ) → b ≤ later a b
-unfolding later
+later-right : (a b : ℕ) → b ≤ laterOf a b
+unfolding laterOf
 later-right a b = split (ltb a b) (λ q. rw q (omega arith)) (λ q. let h = ltb-false a b q in rw q (omega arith))
 
-later-one : (a b : ℕ) → (later a b ≡ a) ⊎ (later a b ≡ b)
-unfolding later
+later-one : (a b : ℕ) → (laterOf a b ≡ a) ⊎ (laterOf a b ≡ b)
+unfolding laterOf
 later-one a b = split (ltb a b) (λ q. inr (rw q)) (λ q. inl (rw q))
 
 -- An item of the list with one entry more: one that was there and is of another subspace, the entry's own, or the old one of its subspace with it.
@@ -149,7 +149,7 @@ module _ (x : Stored) (l : List Stored) (v : TallySaid l) where
       (λ d. subst (λ (z : Stored). timeOf z ≤ i .newest) (sym d) (let z = ap (λ (y : Item). y .newest) q in omega arith))
       (λ j. absurd (fresh h y j (e ∙ ap (λ (z : Item). z .subspace) q))) (uncons m)
   none-later-more i (again j n q d) y m e =
-      let z : i .newest ≡ later (timeOf x) (j .newest) = ap (λ (y : Item). y .newest) d in
+      let z : i .newest ≡ laterOf (timeOf x) (j .newest) = ap (λ (y : Item). y .newest) d in
       ⊎-elim
       (λ c. subst (λ (y : Stored). timeOf y ≤ i .newest) (sym c) (let g = later-left (timeOf x) (j .newest) in omega arith))
       (λ c. let h = v .none-later j n y c (e ∙ ap (λ (y : Item). y .subspace) d) in let g = later-right (timeOf x) (j .newest) in omega arith) (uncons m)

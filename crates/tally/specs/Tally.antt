@@ -18,15 +18,15 @@ use Rattle.tree.specs.Stored.{Stored}
 use Rattle.tally.specs.declared.item.Item.{Item}
 
 -- The later of two timestamps.
-unfoldable pub later : ℕ → ℕ → ℕ
-later a b = cond (ltb a b) b a
+unfoldable pub laterOf : ℕ → ℕ → ℕ
+laterOf a b = cond (ltb a b) b a
 
 -- The item of one entry, and an item with one entry more.
 abbrev pub itemOf : Stored → Item
 itemOf x = record { subspace = x .entry .subspace; count = 1; newest = x .entry .rank .timestamp }
 
 abbrev pub withOne : Stored → Item → Item
-withOne x i = record { subspace = i .subspace; count = suc (i .count); newest = later (x .entry .rank .timestamp) (i .newest) }
+withOne x i = record { subspace = i .subspace; count = suc (i .count); newest = laterOf (x .entry .rank .timestamp) (i .newest) }
 
 -- One entry more in ascending items: in the item of its subspace, or in one of its own at its place. The order says how its subspace stands to that of the
 -- first item.

@@ -17,7 +17,7 @@ ghost use Rattle.keys.specs.Encode.{be};
 ghost use Rattle.tree.specs.Stored.{contents};
 ghost use Rattle.tree.specs.Tree.{Ordered};
 ghost use Rattle.tree.specs.declared.stored.KeyOrder.the-variants.{Spt};
-ghost use Rattle.tally.specs.Tally.{itemLength, itemBytes, tallyOf, later};
+ghost use Rattle.tally.specs.Tally.{itemLength, itemBytes, tallyOf, laterOf};
 
 // Where the count and the newest timestamp begin, and the bytes of an item.
 const COUNT_AT: usize = 16;
@@ -56,7 +56,7 @@ pub fn write_item(item: Item, out: &mut [u8])
 
 // The later of two timestamps.
 fn later_of(a: u64, b: u64) -> u64
-    ensures { λ r. ⌜ r ≡ later a b ⌝ }
+    ensures { λ r. ⌜ r ≡ laterOf a b ⌝ }
 {
     if a < b {
         return b;
