@@ -1,6 +1,6 @@
 /* One call of the door, for a count of its instructions: `calls CALL ENTRIES MORE SUBSPACES` builds a store of so many entries, their paths with so
    many components of 16 bytes more, in so many subspaces by turns, and makes the call once in `measured`. `calls` alone names the calls. With one subspace the entries are
-   those of times.c. With VB_NO_TALLY it is for an archive of edition 1, whose calls take no tally. */
+   those of times.c. The call `again` files a stored entry once more: from edition 3 on it must be held. With VB_NO_TALLY it is for an archive of edition 1, whose calls take no tally. */
 #ifdef VB_NO_TALLY /* the header's declarations of these go to other names */
 #define vb_open tallied_open
 #define vb_ingest_entry tallied_ingest_entry
@@ -106,5 +106,6 @@ int main(int argc, char **argv) {
     vb_entry first = entry(0);
     if (call == 1 || call == 2) state = vb_forget_entry(state, STORE, first.subspace_id, first.path, 0, first.payload_digest).state;
     const size_t wanted[CALLS] = {4, entries, entries, entries, 1, entries - 1, entries / 2, entries, 1, 1, entries / 2, 101};
-    return measured(call) != wanted[call];
+    if (measured(call) != wanted[call]) return 1;
+    return call == 3 && vb_edition() > 2 && !vb_ingest_entry(state, STORE, prune, entries, entry(entries / 2), token, 0).held;
 }

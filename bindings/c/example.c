@@ -1,4 +1,4 @@
-/* Opens a store, files five readings, lists what it then holds, asks the tally for a recorder's, and drops an area. Build: cc example.c libvirebony.a */
+/* Opens a store, files five readings and the last of them again, lists what it then holds, asks the tally for a recorder's, and drops an area. Build: cc example.c libvirebony.a */
 #include "virebony.h"
 #include <stdio.h>
 #include <string.h>
@@ -56,20 +56,20 @@ static void print_recorder(uint64_t low, size_t count) {
 }
 
 int main(void) {
-    static const char *const paths[] = {"ward/3/ann", "ward/3/bob", "ward/4", "ward/3", "ward/3/ann"};
+    static const char *const paths[] = {"ward/3/ann", "ward/3/bob", "ward/4", "ward/3", "ward/3/ann", "ward/3/ann"};
     const uint8_t namespace_id[16] = {1}, token[64] = {7};
     vb_opened opened = vb_open(namespace_id, LIMIT, STORE);
     if (vb_edition() != VB_EDITION || opened.refusal) return 1;
     vb_state state = opened.state;
-    for (uint64_t i = 0; i < 5; i++) { /* the fourth prunes the first two */
+    for (uint64_t i = 0; i < 6; i++) { /* the fourth prunes the first two, the last is the fifth again */
         vb_entry e;
         memset(&e, 0, sizeof e);
         memcpy(e.namespace_id, namespace_id, 16);
         e.path = path_of(paths[i]);
-        e.timestamp = 100 + i;
+        e.timestamp = 100 + (i < 5 ? i : 4);
         e.subspace_id.low = 9; /* the recorder */
         vb_ingested r = vb_ingest_entry(state, STORE, pruned, LIMIT, e, token, 0);
-        printf("%s: %s, %zu pruned\n", paths[i], r.refusal ? vb_refusal_text(r.refusal) : r.obsolete ? "obsolete" : "taken", r.pruned);
+        printf("%s: %s, %zu pruned\n", paths[i], r.refusal ? vb_refusal_text(r.refusal) : r.obsolete ? "obsolete" : r.held ? "held already" : "taken", r.pruned);
         state = r.state;
     }
     vb_area all;

@@ -121,7 +121,11 @@ static void refusal_four(vb_path bad) {
     vb_entry good, none; /* the timestamps differ, so the path is not needed; it is refused all the same */
     memset(&good, 0, sizeof good);
     none = good, none.path = bad, none.timestamp = 9;
-    says_four(vb_entry_is_newer_than(good, none)), says_four(vb_entry_is_newer_than(none, good)), says_four(vb_entry_is_newer_than(none, none));
+    const vb_entries_compared e[3] = {vb_entry_compare(good, none), vb_entry_compare(none, good), vb_entry_compare(none, none)};
+    for (int i = 0; i < 3; i++) {
+        IS(e[i].refusal, 4);
+        IS(e[i].newer | e[i].older, 0);
+    }
     says_four(vb_entry_prunes(good, none)), says_four(vb_entry_prunes(none, good)), says_four(vb_entry_prunes(none, none));
     says_four(vb_entry_is_pruned_by(good, none)), says_four(vb_entry_is_pruned_by(none, good)), says_four(vb_entry_is_pruned_by(none, none));
     none.namespace_id[0] = 1, none.subspace_id.high = 1; /* nor is it, where another namespace and subspace decide */

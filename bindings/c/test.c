@@ -207,28 +207,40 @@ static void paths(void) {
     same_path(a.path, "");
 }
 
+/* How two entries compare, and the other way round. */
+static void compared_as(vb_entry a, vb_entry b, uint8_t newer, uint8_t older) {
+    vb_entries_compared there = vb_entry_compare(a, b), back = vb_entry_compare(b, a);
+    IS(there.refusal | back.refusal, 0);
+    IS(there.newer, newer);
+    IS(there.older, older);
+    IS(back.newer, older);
+    IS(back.older, newer);
+}
+
 static void entries(void) {
     vb_entry a = entry(1, "61", 5, 3, 9), b = entry(1, "61/62", 5, 3, 9), bad = b;
     bad.path = illegal(1);
-    IS(vb_entry_is_newer_than(a, b).yes, 0); /* a tie */
-    IS(vb_entry_is_newer_than(b, a).yes, 0);
+    compared_as(a, b, 0, 0); /* a tie: the same, whatever the paths */
     a.payload_length = 4;
-    IS(vb_entry_is_newer_than(a, b).yes, 1);
+    compared_as(a, b, 1, 0);
     IS(vb_entry_prunes(a, b).yes, 1);
     IS(vb_entry_prunes(b, a).yes, 0);
     IS(vb_entry_is_pruned_by(b, a).yes, 1);
     IS(vb_entry_is_pruned_by(a, b).yes, 0);
     b.payload_digest[31] = 10; /* the digest goes before the length */
-    IS(vb_entry_is_newer_than(b, a).yes, 1);
+    compared_as(b, a, 1, 0);
     b.payload_digest[0] = 8;
-    IS(vb_entry_is_newer_than(b, a).yes, 0);
+    compared_as(b, a, 0, 1);
     b.timestamp = UINT64_MAX; /* the timestamp before both */
-    IS(vb_entry_is_newer_than(b, a).yes, 1);
-    b.namespace_id[15] = 1;
+    compared_as(b, a, 1, 0);
+    b.namespace_id[15] = 1, b.subspace_id.high = 1; /* play no part */
+    compared_as(b, a, 1, 0);
+    b.subspace_id.high = 0;
     b.timestamp = 0;
     IS(vb_entry_prunes(a, b).yes, 0);
-    IS(vb_entry_is_newer_than(a, bad).refusal, 4);
-    IS(vb_entry_is_newer_than(bad, a).refusal, 4);
+    IS(vb_entry_compare(a, bad).refusal, 4);
+    IS(vb_entry_compare(bad, a).refusal, 4);
+    IS(vb_entry_compare(a, bad).newer | vb_entry_compare(a, bad).older | vb_entry_compare(bad, a).newer | vb_entry_compare(bad, a).older, 0);
     IS(vb_entry_prunes(a, bad).refusal, 4);
     IS(vb_entry_prunes(bad, a).refusal, 4);
     IS(vb_entry_is_pruned_by(a, bad).refusal, 4);
@@ -535,7 +547,7 @@ static void openings(void) {
 static void ingestion(void) {
     kept k = store_of(4);
     vb_ingested r = ingest(&k, entry(1, "61/62", 5, 3, 9), 0);
-    IS(r.refusal | r.obsolete | r.pruned, 0);
+    IS(r.refusal | r.obsolete | r.held | r.pruned, 0);
     IS(r.state.count, 1);
     IS(k.spt_dir[0], 0);
     IS(k.spt_dir[1], 144); /* key 16 + 8 + 8, value 112 */
@@ -547,6 +559,7 @@ static void ingestion(void) {
     vb_ingested refused = ingest(&k, entry(1, "61/62", 4, 3, 9), 2); /* obsolete goes before 7 */
     IS(refused.refusal, 0);
     IS(refused.obsolete, 1);
+    IS(refused.held, 0);
     IS(refused.newer.timestamp, 5);
     IS(refused.newer.payload_digest[31], 9);
     IS(refused.token[0], 0x42);
@@ -554,14 +567,14 @@ static void ingestion(void) {
     unchanged(&k, &before);
     drop(&before);
     r = ingest(&k, entry(1, "61", 5, 3, 9), 0); /* a tie is removed */
-    IS(r.refusal | r.obsolete, 0);
+    IS(r.refusal | r.obsolete | r.held, 0);
     IS(r.pruned, 1);
     IS(r.state.count, 1);
     IS(k.prune[0].offset, 0);
     IS(k.prune[0].length, 144);
     IS(k.prune[1].offset, 0xeeeeeeee);
     r = ingest(&k, entry(1, "61/62", 5, 3, 9), 255); /* the other way round: two */
-    IS(r.refusal | r.obsolete | r.pruned, 0);
+    IS(r.refusal | r.obsolete | r.held | r.pruned, 0);
     IS(r.state.count, 2);
     IS(r.newer.timestamp | r.token[0], 0);
     drop(&k);
@@ -771,6 +784,53 @@ static void tallies(void) {
     drop(&k);
 }
 
+/* The verdict held, and nothing else in the answer but the state. */
+static void is_held(vb_ingested r, const kept *k) {
+    IS(r.held, 1);
+    IS(r.refusal | r.obsolete | r.pruned, 0);
+    IS(r.state.count, k->state.count);
+    IS(r.state.limit, k->state.limit);
+    IS(memcmp(r.state.namespace_id, k->state.namespace_id, 16), 0);
+    IS(r.newer.timestamp | r.newer.payload_length | r.newer.subspace_id.low | r.newer.namespace_id[0] | r.newer.payload_digest[0] | r.token[0] | r.token[63], 0);
+    same_path(r.newer.path, "");
+}
+
+/* The same entry twice: [61] and [61][62], which tie, in a store of two, which is then full. A resend of either is held, with pruning prevented too, with
+   another token, with other bytes and ends behind its path, and where a part of its payload is there; nothing changes. */
+static void resends(void) {
+    static vb_pairs by_value;
+    uint8_t other[64];
+    memset(other, 1, sizeof other), memset(&by_value, 0xdd, sizeof by_value);
+    kept k = store_of(2);
+    IS(ingest(&k, entry(1, "61", 5, 3, 9), 0).held, 0);
+    IS(ingest(&k, entry(1, "61/62", 5, 3, 9), 0).held, 0);
+    k.spt[140] = k.tsp[140] = 2; /* of [61], available length 2 of 3 */
+    IS(vb_find_entry(k.state, READ(&k), subspace(1), path("61"), ignore(0, 0)).lengthy.available, 2);
+    kept before = copy_of(&k);
+    for (int i = 0; i < 2; i++) {
+        vb_entry e = entry(1, i ? "61/62" : "61", 5, 3, 9), elsewhere = e, longer = e, digest = e, later = e, older = e;
+        for (size_t n = e.path.count; n < VB_MCC; n++) e.path.ends[n] = SIZE_MAX - n;
+        memset(e.path.bytes + 2, 0x5a + i, sizeof e.path.bytes - 2);
+        for (int prevent = 0; prevent < 2; prevent++) {
+            is_held(ingest(&k, e, prevent), &before);
+            is_held(vb_ingest_entry(k.state, STORE(&k), k.prune, 2, e, other, prevent), &before);
+            is_held(vb_ingest_entry_numbers(k.state, STORE(&k), (uint32_t *)k.prune, 4, e, other, prevent), &before);
+            vb_pairs_ingested v = vb_ingest_entry_by_value(k.state, STORE(&k), by_value, e, other, prevent);
+            is_held(v.ingested, &before);
+            IS(memcmp(v.pairs, by_value.pairs, sizeof v.pairs), 0);
+        }
+        elsewhere.namespace_id[15] ^= 1, longer.payload_length = 4, digest.payload_digest[31] = 10, later.timestamp = 6, older.payload_length = 2;
+        IS(ingest(&k, elsewhere, 1).refusal, 6);
+        IS(ingest(&k, longer, 1).refusal, 7); /* no resend: it would prune the stored one */
+        IS(ingest(&k, digest, 1).refusal, 7);
+        IS(ingest(&k, later, 1).refusal, 7);
+        IS(ingest(&k, older, 1).obsolete, 1);
+    }
+    unchanged(&k, &before);
+    drop(&before);
+    drop(&k);
+}
+
 /* A call that changes a store, by its number: its refusal. */
 static uint8_t changes(int call, vb_state s, kept *k, vb_entry e, size_t tally_len) {
     static vb_pairs by_value;
@@ -784,12 +844,13 @@ static uint8_t changes(int call, vb_state s, kept *k, vb_entry e, size_t tally_l
     }
 }
 
-/* Refusal 10: behind 1, 2 and 3, before 4, 6, a verdict of obsolete, 7, 8 and 9. Calls that read are not lent the tally. */
+/* Refusal 10: behind 1, 2 and 3, before 4, 6, a verdict of obsolete or held, 7, 8 and 9. Calls that read are not lent the tally. */
 static void wrong_tallies(void) {
     kept k = store_of(2);
     IS(ingest(&k, entry(1, "61", 5, 3, 9), 0).refusal, 0);
     IS(ingest(&k, entry(1, "62", 5, 3, 9), 0).refusal, 0);
-    vb_entry bad = entry(1, "61", 4, 3, 8), older = bad, elsewhere = bad, resent = entry(1, "61", 5, 3, 9), third = entry(1, "63", 5, 3, 9);
+    vb_entry bad = entry(1, "61", 4, 3, 8), older = bad, elsewhere = bad, resent = entry(1, "61", 5, 3, 9), later = entry(1, "61", 6, 3, 9),
+             third = entry(1, "63", 5, 3, 9);
     bad.path = illegal(1);
     elsewhere.namespace_id[3] = 1;
     for (size_t at = 0; at < VB_ITEM * 2; at++) { /* a byte of the item, or behind it */
@@ -800,6 +861,7 @@ static void wrong_tallies(void) {
             IS(changes(call, k.state, &k, older, VB_ITEM * 2), VB_WRONG_TALLY);
             IS(changes(call, k.state, &k, elsewhere, VB_ITEM * 2), VB_WRONG_TALLY);
             IS(changes(call, k.state, &k, resent, VB_ITEM * 2), VB_WRONG_TALLY);
+            IS(changes(call, k.state, &k, later, VB_ITEM * 2), VB_WRONG_TALLY);
             IS(changes(call, k.state, &k, third, VB_ITEM * 2), VB_WRONG_TALLY);
             IS(changes(call, k.state, &k, bad, VB_ITEM * 2 - 1), VB_SHORT_BUFFER);
             IS(changes(call, k.state, &k, bad, 0), VB_SHORT_BUFFER);
@@ -815,10 +877,10 @@ static void wrong_tallies(void) {
         IS(vb_count_area(k.state, READ(&k), area(1, 0, path(""), times(0, 0, 1))).count, 2);
         k.tally[at] ^= 1;
     }
-    static const uint8_t refusals[][5] = {{4, 0, 6, 7, 8}, {4, 0, 6, 7, 8}, {4, 0, 6, 7, 8}, {4, 9, 9, 0, 0}, {4, 0, 0, 0, 0}};
+    static const uint8_t refusals[][6] = {{4, 0, 6, 0, 7, 8}, {4, 0, 6, 0, 7, 8}, {4, 0, 6, 0, 7, 8}, {4, 9, 9, 0, 0, 0}, {4, 0, 0, 0, 0, 0}};
     for (int call = 0; call < 5; call++) { /* the same calls with the right tally; an area that protects itself drops nothing */
-        const vb_entry asked[] = {bad, older, elsewhere, resent, third};
-        for (int i = 0; i < 5; i++) {
+        const vb_entry asked[] = {bad, older, elsewhere, resent, later, third};
+        for (int i = 0; i < 6; i++) {
             kept one = copy_of(&k);
             IS(changes(call, one.state, &one, asked[i], VB_ITEM * 2), refusals[call][i]);
             drop(&one);
@@ -839,6 +901,7 @@ int main(void) {
     odd_values();
     openings();
     ingestion();
+    resends();
     reading_and_forgetting();
     tallies();
     wrong_tallies();

@@ -26,7 +26,7 @@ extern "C" {
 #endif
 
 /* The edition of this header. */
-#define VB_EDITION 2
+#define VB_EDITION 3
 
 enum {
     VB_LIMIT_MOST = 1024, /* entries that a store may be opened for */
@@ -41,7 +41,7 @@ enum {
 
 /* Why a call was refused. */
 enum {
-    VB_DONE = 0,              /* It was not. */
+    VB_DONE = 0,              /* It was not. An entry that is handed in may still be obsolete, or held: see vb_ingested. */
     VB_BAD_LIMIT = 1,         /* The limit is not 1 to 1024. */
     VB_SHORT_BUFFER = 2,      /* A lent buffer is shorter than the limit asks, or a key's buffer than 298 bytes. */
     VB_NOT_WELL_FORMED = 3,   /* The state and the buffers are not a well-formed store. */
@@ -114,8 +114,9 @@ typedef struct { vb_pair pairs[VB_LIMIT_MOST]; } vb_pairs;
 /* ---- Answers ---- */
 
 typedef struct { uint8_t refusal; vb_state state; } vb_opened;
-/* Taken, with how many entries were pruned; or `obsolete`, with a stored entry that is newer and its token; or refused. */
-typedef struct { uint8_t refusal, obsolete; size_t pruned; vb_state state; vb_entry newer; uint8_t token[64]; } vb_ingested;
+/* Refused; or `obsolete`, with a stored entry that is newer and its token; or `held`, the very entry being stored already; or, if all three are 0, taken, with
+   how many entries were pruned. Only an entry that is taken changes anything. */
+typedef struct { uint8_t refusal, obsolete, held; size_t pruned; vb_state state; vb_entry newer; uint8_t token[64]; } vb_ingested;
 typedef struct { vb_ingested ingested; vb_pair pairs[VB_LIMIT_MOST]; } vb_pairs_ingested;
 typedef struct { uint8_t refusal; vb_state state; } vb_entry_forgotten;
 typedef struct { uint8_t refusal; vb_state state; size_t forgotten; } vb_area_forgotten;
@@ -130,6 +131,8 @@ typedef struct { uint8_t refusal; vb_range range; } vb_area_range;
 typedef struct { uint8_t refusal, yes; } vb_answer;
 /* Equal if neither. */
 typedef struct { uint8_t refusal, less, greater; } vb_compared;
+/* The same if all three are 0. */
+typedef struct { uint8_t refusal, newer, older; } vb_entries_compared;
 typedef struct { uint8_t refusal, found; vb_path path; } vb_above;
 typedef struct { uint8_t refusal; size_t length; } vb_encoded;
 typedef struct { uint8_t refusal; vb_subspace subspace; vb_path path; uint64_t timestamp; } vb_decoded;
@@ -161,9 +164,11 @@ uint32_t vb_edition(void);
 vb_opened vb_open(const uint8_t namespace_id[16], size_t limit, VB_BUFFERS);
 
 /* Files an entry with its token and available length 0. It is obsolete, and nothing changes, if a stored entry of the subspace, at a prefix of its
-   path or the path itself, is newer. Else what it outdates is removed: entries at its path or below that are not newer. The pairs of these, as they stood before the call,
-   in key order, go to the front of `prune`, which has at least `limit` pairs; `pruned` says how many, and what lies behind stays.
-   Refused: 1, 2, 3, 10, 4, 6, then obsolete, then 7 (with `prevent_pruning`), 8. */
+   path or the path itself, is newer. It is held, and nothing changes, if an entry of the same subspace, path, timestamp, digest and length is stored: the
+   stored one keeps its token and available length, whatever token comes now. Else what it outdates is removed: entries at its path or below that are not
+   newer. The pairs of these, as they stood before the call, in key order, go to the front of `prune`, which has at least `limit` pairs; `pruned` says how
+   many, and what lies behind stays.
+   Refused: 1, 2, 3, 10, 4, 6, then obsolete, held, then 7 (with `prevent_pruning`), 8. */
 vb_ingested vb_ingest_entry(vb_state state, VB_BUFFERS, vb_pair *prune, size_t prune_len, vb_entry entry, const uint8_t token[64], uint8_t prevent_pruning);
 
 /* vb_ingest_entry over a prune list of at least 2 * limit numbers, offset and length by turns. Refused as there. */
@@ -221,8 +226,9 @@ vb_answer vb_path_is_prefix_of(vb_path p, vb_path q);
 /* The least legal path above p that p does not prefix, if there is one. Refused: 4. */
 vb_above vb_path_greater_but_not_prefixed(vb_path p);
 
-/* Whether a is newer than b: by timestamp, then digest as bytes, then payload length, each strictly. Refused: 4. */
-vb_answer vb_entry_is_newer_than(vb_entry a, vb_entry b);
+/* Whether a is newer than b, older or the same: by timestamp, then digest as bytes, then payload length. Namespace, subspace and
+   path play no part, but an illegal path is refused; so entries at two places may be the same, and the second is not held for it. Refused: 4. */
+vb_entries_compared vb_entry_compare(vb_entry a, vb_entry b);
 
 /* Whether a prunes b: of one namespace and subspace, a's path is b's or prefixes it, and a is newer. Refused: 4. */
 vb_answer vb_entry_prunes(vb_entry a, vb_entry b);
@@ -283,7 +289,7 @@ VB_ASSERT(sizeof(vb_state) == 32 && offsetof(vb_state, count) == 16 && offsetof(
 VB_ASSERT(sizeof(vb_pair) == 8, "vb_pair");
 VB_ASSERT(sizeof(vb_pairs) == 8192, "vb_pairs");
 VB_ASSERT(sizeof(vb_opened) == 40 && offsetof(vb_opened, state) == 8, "vb_opened");
-VB_ASSERT(sizeof(vb_ingested) == 392 && offsetof(vb_ingested, obsolete) == 1 && offsetof(vb_ingested, pruned) == 8 &&
+VB_ASSERT(sizeof(vb_ingested) == 392 && offsetof(vb_ingested, obsolete) == 1 && offsetof(vb_ingested, held) == 2 && offsetof(vb_ingested, pruned) == 8 &&
               offsetof(vb_ingested, state) == 16 && offsetof(vb_ingested, newer) == 48 && offsetof(vb_ingested, token) == 328, "vb_ingested");
 VB_ASSERT(sizeof(vb_pairs_ingested) == 8584 && offsetof(vb_pairs_ingested, pairs) == 392, "vb_pairs_ingested");
 VB_ASSERT(sizeof(vb_entry_forgotten) == 40, "vb_entry_forgotten");
@@ -297,6 +303,7 @@ VB_ASSERT(sizeof(vb_counted) == 16 && offsetof(vb_counted, count) == 8, "vb_coun
 VB_ASSERT(sizeof(vb_area_range) == 480 && offsetof(vb_area_range, range) == 8, "vb_area_range");
 VB_ASSERT(sizeof(vb_answer) == 2, "vb_answer");
 VB_ASSERT(sizeof(vb_compared) == 3, "vb_compared");
+VB_ASSERT(sizeof(vb_entries_compared) == 3, "vb_entries_compared");
 VB_ASSERT(sizeof(vb_above) == 208 && offsetof(vb_above, path) == 8, "vb_above");
 VB_ASSERT(sizeof(vb_encoded) == 16 && offsetof(vb_encoded, length) == 8, "vb_encoded");
 VB_ASSERT(sizeof(vb_decoded) == 232 && offsetof(vb_decoded, subspace) == 8 && offsetof(vb_decoded, path) == 24 &&

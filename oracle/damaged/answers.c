@@ -1,4 +1,4 @@
-/* What a call answers on the store that was read, and what it leaves in the buffers: document 01 over a plain list of items. Nothing of the trees
+/* What a call answers on the store that was read, and what it leaves in the buffers: documents 01 and 02 over a plain list of items. Nothing of the trees
    is edited: what is left is laid again, record after record, from its triple and its value. */
 #include "items.h"
 #include <stdlib.h>
@@ -45,25 +45,50 @@ static answer refused(answer a, int number) {
     return a;
 }
 
-static answer ingested(const call *c, lent *after, answer a) {
-    static item new;
+static item new;
+
+/* The entry that a call hands in, with its token, as an item. */
+static void take_new(const call *c) {
     static uint8_t value[VALUE_BYTES];
-    size_t n = 0, pruned = 0;
-    if (!judge_is_legal(&c->entry.path)) return refused(a, 4);
-    if (memcmp(c->entry.namespace_id, after->state.namespace_id, 16)) return refused(a, 6);
     take_subspace(c->entry.subspace_id, new.subspace), take_path(&c->entry.path, &new);
     new.time = c->entry.timestamp, new.value = value;
     put64(value, c->entry.payload_length), memcpy(value + DIGEST_AT, c->entry.payload_digest, 32), memcpy(value + TOKEN_AT, c->token, 64);
+}
+
+/* "the same subspace, path, timestamp, digest and length" */
+static bool same_entry(const item *a, const item *b) { return same_subspace(a, b) && same_path(a, b) && compared(a, b) == SAME; }
+
+held_how judge_held_how(const call *c) {
+    held_how how = {false, false, false};
+    take_new(c);
+    for (size_t k = 0; k < judged_store->state.count; k++) {
+        const item *e = judged_items + k;
+        if (same_entry(e, &new)) how.available = be64(e->value + AVAILABLE_AT), how.other_token = memcmp(e->value + TOKEN_AT, c->token, 64);
+        else if (same_subspace(e, &new) && (prefixes(e, &new) || prefixes(&new, e)) && compared(e, &new) == SAME) how.beside_tie = true;
+    }
+    return how;
+}
+
+static answer ingested(const call *c, lent *after, answer a) {
+    size_t n = 0, pruned = 0;
+    if (!judge_is_legal(&c->entry.path)) return refused(a, 4);
+    if (memcmp(c->entry.namespace_id, after->state.namespace_id, 16)) return refused(a, 6);
+    take_new(c);
     for (size_t k = 0; k < after->state.count; k++) {
         const item *e = judged_items + k;
-        if (same_subspace(e, &new) && prefixes(e, &new) && newer(e, &new)) {
+        if (same_subspace(e, &new) && prefixes(e, &new) && compared(e, &new) == NEWER) {
             a.yes = 1;
             return a;
         }
     }
+    for (size_t k = 0; k < after->state.count; k++)
+        if (same_entry(judged_items + k, &new)) { /* "Nothing changes then, the token included" */
+            a.held = 1;
+            return a;
+        }
     for (size_t k = 0; k < after->state.count; k++) {
         const item *e = judged_items + k;
-        if (same_subspace(e, &new) && prefixes(&new, e) && !newer(e, &new)) pruned++;
+        if (same_subspace(e, &new) && prefixes(&new, e) && compared(e, &new) != NEWER) pruned++;
         else left[n++] = e;
     }
     if (c->prevent_pruning && pruned) return refused(a, 7);

@@ -42,7 +42,7 @@ static lent in_buffers(Buffers *b) {
 static answer told_ingested(vb_ingested r) {
     answer a;
     memset(&a, 0, sizeof a);
-    a.refusal = r.refusal, a.yes = r.obsolete, a.number = r.pruned, a.state = r.state, a.lengthy.entry = r.newer;
+    a.refusal = r.refusal, a.yes = r.obsolete, a.held = r.held, a.number = r.pruned, a.state = r.state, a.lengthy.entry = r.newer;
     memcpy(a.lengthy.token, r.token, 64);
     return a;
 }
@@ -103,13 +103,16 @@ static answer make(const call *c, lent *s) {
 static const char *const names[] = {"open", "ingest", "ingest, numbers", "ingest, by value", "forget entry", "forget area", "find entry", "area place",
                                     "area part", "range place", "range part", "count area", "summarise", "area of interest"};
 
-/* What came, by kind: each number of a refusal; answers of yes (obsolete, found); those that name something (pruned, forgotten, counted, a part, times that
-   start elsewhere than the area's). */
-static long came[CALL_KINDS][11], yeses[CALL_KINDS], named[CALL_KINDS], calls;
+/* What came, by kind: each number of a refusal; answers of yes (obsolete, found); those of held; those that name something (pruned, forgotten, counted, a part,
+   times that start elsewhere than the area's). */
+static long came[CALL_KINDS][11], yeses[CALL_KINDS], helds[CALL_KINDS], named[CALL_KINDS], calls;
+/* How an entry was held: with pruning prevented, by a full store, with another token, beside a tie, with an available length. */
+static long held_ways[5];
 
 static void fault(const char *what, const call *c, const answer *want, const answer *got, int damage) {
-    printf("fault: %s, call '%s', damage %d, refusal %d, verdict %d, number %llu; by 01 %d, %d, %llu; seed %llx\n", what, names[c->kind], damage, got->refusal,
-           got->yes, (unsigned long long)got->number, want->refusal, want->yes, (unsigned long long)want->number, (unsigned long long)seed);
+    printf("fault: %s, call '%s', damage %d, refusal %d, verdict %d, held %d, number %llu; by the papers %d, %d, %d, %llu; seed %llx\n", what, names[c->kind], damage,
+           got->refusal, got->yes, got->held, (unsigned long long)got->number, want->refusal, want->yes, want->held, (unsigned long long)want->number,
+           (unsigned long long)seed);
     exit(1);
 }
 
@@ -124,7 +127,12 @@ static answer judged_call(const call *c, int damage) {
     if (field) fault(field, c, &want, &got, damage);
     if (differ(&now, writes ? &after : &before)) fault("a byte", c, &want, &got, damage);
     came[c->kind][want.refusal]++;
-    yeses[c->kind] += want.yes;
+    yeses[c->kind] += want.yes, helds[c->kind] += want.held;
+    if (want.held) {
+        held_how how = judge_held_how(c);
+        held_ways[0] += c->prevent_pruning != 0, held_ways[1] += store.state.count == store.state.limit, held_ways[2] += how.other_token;
+        held_ways[3] += how.beside_tie, held_ways[4] += how.available;
+    }
     named[c->kind] += want.number || want.part.length || (c->kind == INTEREST && !want.refusal && want.range.times.start != c->area.times.start);
     return got;
 }
@@ -203,17 +211,20 @@ static void every_call(int damage) {
 
 /* What came, by kind. A branch of 01 that was never reached is a fault of this program. */
 static int table(bool enough) {
-    static const char *const can[] = {"012", "y+01234678t", "y+01234678t", "y+01234678t", "012349t", "+01234t", "y01234", "y+01234", "+0", "y+01234", "+0", "+01234", "+01234", "+01234"};
+    static const char *const can[] = {"012", "yh+01234678t", "yh+01234678t", "yh+01234678t", "012349t", "+01234t", "y01234", "y+01234", "+0", "y+01234", "+0", "+01234", "+01234", "+01234"};
     int missing = 0;
-    printf("%-17s %9s %9s %9s", "call", "answered", "of yes", "naming");
+    printf("%-17s %9s %9s %9s %9s", "call", "answered", "of yes", "held", "naming");
     for (int n = 1; n < 11; n++) printf(" %8d", n);
     puts("");
     for (int k = 0; k < CALL_KINDS; k++) {
-        printf("%-17s %9ld %9ld %9ld", names[k], came[k][0], yeses[k], named[k]);
+        printf("%-17s %9ld %9ld %9ld %9ld", names[k], came[k][0], yeses[k], helds[k], named[k]);
         for (int n = 1; n < 11; n++) printf(" %8ld", came[k][n]);
         puts("");
-        for (const char *p = can[k]; *p; p++) missing += !(*p == 'y' ? yeses[k] : *p == '+' ? named[k] : came[k][*p == 't' ? 10 : *p - '0']);
+        for (const char *p = can[k]; *p; p++) missing += !(*p == 'y' ? yeses[k] : *p == 'h' ? helds[k] : *p == '+' ? named[k] : came[k][*p == 't' ? 10 : *p - '0']);
     }
+    printf("held: with pruning prevented %ld, by a full store %ld, with another token %ld, beside a tie %ld, with an available length %ld\n", held_ways[0], held_ways[1],
+           held_ways[2], held_ways[3], held_ways[4]);
+    for (int i = 0; i < 5; i++) missing += !held_ways[i];
     if (missing && enough) printf("fault: %d kinds of answers never came\n", missing);
     return missing && enough;
 }

@@ -42,14 +42,14 @@ static const char *shown(const call *c, const answer *got) {
         vb_lengthy_entry one;
         give_entry(e, &one);
         one.available = 0; /* is not told */
-        if (same_subspace(e, &new) && prefixes(e, &new) && newer(e, &new) && !entries_differ(&one, &got->lengthy)) return NULL;
+        if (same_subspace(e, &new) && prefixes(e, &new) && compared(e, &new) == NEWER && !entries_differ(&one, &got->lengthy)) return NULL;
     }
     return "the newer entry shown";
 }
 
 const char *judge_differs(const call *c, const answer *want, const answer *got) {
     if (want->refusal != got->refusal) return "the refusal";
-    if (want->yes != got->yes) return "the verdict";
+    if (want->yes != got->yes || want->held != got->held) return "the verdict";
     if (want->number != got->number) return "the number";
     if (memcmp(want->state.namespace_id, got->state.namespace_id, 16)) return "the state's namespace";
     if (want->state.count != got->state.count) return "the state's count";

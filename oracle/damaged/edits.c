@@ -82,11 +82,13 @@ static bool covers(const Copy *a, const Copy *b) { return a->subspace == b->subs
 
 static void take_out(size_t k) { memmove(copies + k, copies + k + 1, (--copied - k) * sizeof(Copy)); }
 
-/* 0 if taken, 8 if full, -1 if obsolete; the pairs of what it prunes. */
+/* 0 if taken, 8 if full, -1 if obsolete, -2 if held; the pairs of what it prunes. Digest, length and token are always the same. */
 static int put_in(const Copy *c, size_t *pruned) {
     size_t at = 0;
     for (size_t k = 0; k < copied; k++)
         if (covers(copies + k, c) && copies[k].time > c->time) return -1;
+    for (size_t k = 0; k < copied; k++)
+        if (covers(copies + k, c) && copies[k].more == c->more && copies[k].time == c->time) return -2;
     *pruned = 0;
     for (size_t k = 0, offset = 0; k < copied; k++) {
         if (covers(c, copies + k) && copies[k].time <= c->time)
@@ -173,6 +175,7 @@ static const char *ingest(long *kinds) {
     Copy c;
     memset(&c, 0, sizeof c);
     c.n = rand() % (rand() % 5 > 1 ? 1000 : 10), c.more = rand() % 4, c.time = rand() % 8, c.subspace = rand() % 3 ? 1 : rand() % SUBSPACES;
+    if (copied && rand() % 8 == 0) c = copies[rand() % copied]; /* once more */
     write_records(&c);
     vb_entry e = entry(&c);
     uint8_t token[64];
@@ -180,10 +183,10 @@ static const char *ingest(long *kinds) {
     for (int i = 0; i < 64; i++) token[i] = 32 + i;
     int said = put_in(&c, &pruned);
     vb_ingested r = vb_ingest_entry(state, STORE, prune, state.limit, e, token, 0);
-    if (r.obsolete != (said < 0) || r.refusal != (said > 0 ? said : 0)) return "a verdict";
+    if (r.obsolete != (said == -1) || r.held != (said == -2) || r.refusal != (said > 0 ? said : 0)) return "a verdict";
     if (!said && (r.pruned != pruned || memcmp(prune, want_prune, pruned * sizeof *prune))) return "a pair";
     state = r.state;
-    kinds[said < 0 ? 1 : said ? 2 : pruned ? 3 : 0]++;
+    kinds[said == -1 ? 1 : said == -2 ? 6 : said ? 2 : pruned ? 3 : 0]++;
     return NULL;
 }
 
@@ -211,7 +214,7 @@ static const char *forget(long *kinds) {
 
 int main(void) {
     static const uint8_t namespace_id[16];
-    long done = 0, kinds[6] = {0};
+    long done = 0, kinds[7] = {0};
     for (int seed = 0; seed < 220; seed++) {
         srand(seed);
         copied = 0, state.limit = 1 + rand() % MOST;
@@ -224,7 +227,7 @@ int main(void) {
             done++;
         }
     }
-    printf("%ld random edits beside a plain copy: %ld put in, %ld obsolete, %ld full, %ld that prune, %ld entries and %ld areas forgotten\n", done, kinds[0],
-           kinds[1], kinds[2], kinds[3], kinds[4], kinds[5]);
+    printf("%ld random edits beside a plain copy: %ld put in, %ld obsolete, %ld held, %ld full, %ld that prune, %ld entries and %ld areas forgotten\n", done, kinds[0],
+           kinds[1], kinds[6], kinds[2], kinds[3], kinds[4], kinds[5]);
     return 0;
 }

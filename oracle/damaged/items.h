@@ -68,11 +68,13 @@ static inline bool prefixes(const item *a, const item *b) {
 
 static inline bool same_path(const item *a, const item *b) { return a->parts == b->parts && prefixes(a, b); }
 
-/* "by timestamp, then digest as bytes, then payload length, each strict" */
-static inline bool newer(const item *a, const item *b) {
-    if (a->time != b->time) return a->time > b->time;
+/* "newer, older or same": by timestamp, then digest as bytes, then payload length. */
+enum recency { OLDER = -1, SAME, NEWER };
+static inline enum recency compared(const item *a, const item *b) {
+    if (a->time != b->time) return a->time > b->time ? NEWER : OLDER;
     int d = memcmp(a->value + DIGEST_AT, b->value + DIGEST_AT, 32);
-    if (d) return d > 0;
-    return be64(a->value) > be64(b->value);
+    if (d) return d > 0 ? NEWER : OLDER;
+    uint64_t m = be64(a->value), n = be64(b->value);
+    return m > n ? NEWER : m < n ? OLDER : SAME;
 }
 #endif

@@ -1,4 +1,4 @@
-/* A judge of the store's calls, written from document 01 and from 02's U1 (the tally), and sharing no code and no number with the port or with whoever
+/* A judge of the store's calls, written from document 01 and from 02's U1 (the tally) and U2 (the same entry twice), and sharing no code and no number with the port or with whoever
    makes the calls: of the header it uses the shapes of values only. It reads a store once, as it was lent, and then says of each call on it what the answer
    is and what every byte of the buffers is afterwards. */
 #ifndef JUDGE_H
@@ -34,7 +34,7 @@ typedef struct {
 
 /* The answer of every kind of call; what a kind does not answer is 0. */
 typedef struct {
-    uint8_t refusal, yes; /* obsolete, or found */
+    uint8_t refusal, yes, held; /* yes: obsolete, or found */
     size_t number;        /* pruned, forgotten, counted, or a place */
     vb_state state;
     vb_part part;
@@ -50,6 +50,10 @@ answer judge_answers(const call *c, lent *after);
 
 /* The first field in which an answer is not the judge's, or NULL. Of an obsolete verdict: whether the entry shown is one that 01 allows. */
 const char *judge_differs(const call *c, const answer *want, const answer *got);
+
+/* Of an ingestion that is held on the store that was read: whether an entry that ties with it is stored, a part of its payload is there, the token is another. */
+typedef struct { bool beside_tie, available, other_token; } held_how;
+held_how judge_held_how(const call *c);
 
 /* Whether a path is legal. */
 bool judge_is_legal(const vb_path *p);

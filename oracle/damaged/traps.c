@@ -1,5 +1,5 @@
-/* Stores and calls on which a plausible wrong port fails, each answer written by hand from 01, and from 02's U1 for the tally. Ends with 1 if one is not as
-   written. */
+/* Stores and calls on which a plausible wrong port fails, each answer written by hand from 01, and from 02: U1 for the tally, U2 for the same entry twice.
+   Ends with 1 if one is not as written. */
 #include "virebony.h"
 #include <stdbool.h>
 #include <stdio.h>
@@ -87,8 +87,30 @@ static void ingests(const char *what, vb_entry e, bool prevent, int refusal, boo
     vb_ingested r = vb_ingest_entry(state, STORE, prune, lent, e, token, prevent);
     expect(what, r.refusal, refusal);
     expect(what, r.obsolete, obsolete);
+    expect(what, r.held, false);
     expect(what, r.pruned, pruned);
     state = r.state;
+}
+
+/* The verdict held: nothing else in the answer but the state that was handed in, and no byte of any buffer is another. */
+static void holds(const char *what, vb_entry e, bool prevent) {
+    static uint8_t trees[sizeof tree], items[sizeof tally];
+    static uint32_t dirs[2][2 * MOST + 8];
+    static vb_pair pairs[MOST + 4];
+    memcpy(trees, tree, sizeof tree), memcpy(items, tally, sizeof tally), memcpy(dirs, dir, sizeof dir), memcpy(pairs, prune, sizeof prune);
+    vb_ingested r = vb_ingest_entry(state, STORE, prune, lent, e, token, prevent);
+    expect(what, r.held, true);
+    expect(what, r.refusal | r.obsolete | r.pruned, 0);
+    expect(what, r.state.count, state.count), expect(what, r.state.limit, state.limit);
+    expect(what, memcmp(r.state.namespace_id, state.namespace_id, 16), 0);
+    uint8_t told = 0;
+    for (int i = 0; i < 16; i++) told |= r.newer.namespace_id[i];
+    for (int i = 0; i < 32; i++) told |= r.newer.payload_digest[i];
+    for (int i = 0; i < 64; i++) told |= r.token[i];
+    for (int i = 0; i < VB_MPL; i++) told |= r.newer.path.bytes[i];
+    expect(what, told, 0);
+    expect(what, r.newer.timestamp | r.newer.payload_length | r.newer.subspace_id.high | r.newer.subspace_id.low | r.newer.path.count | r.newer.path.ends[0], 0);
+    expect(what, memcmp(trees, tree, sizeof tree) || memcmp(items, tally, sizeof tally) || memcmp(dirs, dir, sizeof dir) || memcmp(pairs, prune, sizeof prune), 0);
 }
 
 static vb_entry named(vb_entry e) { /* of the store's namespace */
@@ -127,17 +149,32 @@ static void ties(void) {
     expect("the other is left", f.state.count, 1);
 }
 
-/* Limit 1, full. The same entry with another token: with pruning prevented 7, and the old token stays; else a success that prunes one and
-   has the new token. Then an older entry, pruning prevented: obsolete, not 7 or 8; of another namespace too: 6; with an illegal path too:
-   4; with a short prune list too: 2. */
+/* Limit 1, full. The same entry with another token: held, not 7 or 8, and the old token stays; of another namespace 6, with a wrong tally 10. The same place
+   with another length, digest or time is no resend: 7 with pruning prevented, else a success that prunes one and has the new token. Then an older entry,
+   pruning prevented: obsolete, not 7 or 8; of another namespace too: 6; with an illegal path too: 4; with a short prune list too: 2. */
 static void full(void) {
     fresh(1), in("a", 5, 3, 1);
     memset(token, 9, sizeof token);
-    ingests("resent, prevented", named(entry("a", 5, 3, 1)), true, 7, false, 0);
+    vb_entry again = named(entry("a", 5, 3, 1)), elsewhere = again;
+    holds("resent, prevented", again, true), holds("resent", again, false);
     expect("the old token stays", tree[0][29 + 40], 1);
-    ingests("resent", named(entry("a", 5, 3, 1)), false, 0, false, 1);
+    elsewhere.namespace_id[15] = 1;
+    ingests("resent, another namespace", elsewhere, false, 6, false, 0);
+    tally[27] ^= 1;
+    ingests("resent, wrong tally", again, false, 10, false, 0), ingests("resent, wrong tally, prevented", again, true, 10, false, 0);
+    tally[27] ^= 1;
+    lent = 0;
+    ingests("resent, a short prune list", again, false, 2, false, 0);
+    lent = MOST;
+    tree[1][RECORD - 1] = 1;
+    ingests("resent, not well-formed", again, false, 3, false, 0);
+    tree[1][RECORD - 1] = 0;
+    static const struct { uint64_t time, length; uint8_t digest; } near[] = {{5, 4, 1}, {5, 3, 2}, {6, 3, 1}};
+    for (int i = 0; i < 3; i++) ingests("no resend, prevented", named(entry("a", near[i].time, near[i].length, near[i].digest)), true, 7, false, 0);
+    ingests("no resend: another length", named(entry("a", 5, 4, 1)), false, 0, false, 1);
     expect("the new token", tree[0][29 + 40], 9);
     expect("resent, count", state.count, 1);
+    ingests("what was stored is now obsolete", again, true, 0, true, 0);
     vb_entry older = named(entry("a", 4, 3, 1));
     ingests("obsolete in a full store", older, true, 0, true, 0);
     older.namespace_id[15] = 1;
@@ -147,6 +184,34 @@ static void full(void) {
     lent = 0;
     ingests("a short prune list", older, true, 2, false, 0);
     lent = MOST;
+}
+
+/* [61] and [61][62], which tie, of available lengths 2 and 0: a resend of either is held, and both stay. Other bytes behind the path's total and other ends
+   behind its count make no other entry, nor does a component's end that is where another path has a byte: [61][62] is not [6162], nor [61][62][]. At [61][63],
+   where nothing is, an entry of that rank is none that is held. */
+static void resends(void) {
+    fresh(4), in("a", 5, 3, 1), in("a/b", 5, 3, 1);
+    memset(token, 9, sizeof token);
+    holds("resent above a tie", named(entry("a", 5, 3, 1)), false);
+    tree[0][29 + 111] = tree[1][29 + 111] = 2;
+    for (int i = 0; i < 2; i++) {
+        vb_entry again = named(entry(i ? "a/b" : "a", 5, 3, 1));
+        holds("resent beside a tie", again, i), holds("resent beside a tie", again, !i);
+        for (size_t k = 1 + (size_t)i; k < VB_MPL; k++) again.path.bytes[k] = (uint8_t)(0x62 + k);
+        holds("other bytes behind the path", again, i);
+        for (size_t k = again.path.count; k < VB_MCC; k++) again.path.ends[k] = k % 2 ? GREATEST : 0;
+        holds("other ends behind its count", again, !i);
+    }
+    vb_entry_found f = vb_find_entry(state, READ, subspace(1), path("a"), ignore(false, false));
+    expect("its token stays", f.lengthy.token[0], 1), expect("its available length stays", f.lengthy.available, 2);
+    vb_entry below = named(entry("a/b", 5, 3, 1)), other = named(entry("a", 5, 3, 1));
+    below.path.ends[2] = 2, below.path.count = 3;
+    ingests("[61][62][]", below, true, 0, false, 0), ingests("[6162]", named(entry("ab", 5, 3, 1)), true, 0, false, 0);
+    other.subspace_id = subspace(2);
+    ingests("another subspace", other, true, 8, false, 0);
+    ingests("[61][63]", named(entry("a/c", 5, 3, 1)), true, 8, false, 0);
+    holds("[61][62][] again", below, true);
+    counts("four", all(), 0, 4);
 }
 
 /* [61][62] alone, whose key has 16 + 8 + 8 bytes, then a newer [61]: the pair is that of the record before the call, later pairs are
@@ -372,7 +437,7 @@ static void behind(void) {
     item("untouched", 0, 0, 1, 1, 5, false);
 }
 
-/* Wrong tally and illegal path, another namespace, an entry that would be obsolete, one that would prune while that is prevented, a full store, another
+/* Wrong tally and illegal path, another namespace, an entry that would be obsolete or held, one that would prune while that is prevented, a full store, another
    digest: 10. Not well-formed and wrong tally: 3. Short tally and not well-formed: 2; a limit of 0 too: 1. Calls that read don't take it. An opening has
    no 10. */
 static void turned_away(void) {
@@ -386,6 +451,7 @@ static void turned_away(void) {
     ingests("would be obsolete", named(entry("a", 4, 3, 1)), false, 10, false, 0);
     ingests("would be prevented", named(entry("a", 7, 3, 1)), true, 10, false, 0);
     ingests("would be full", named(entry("b", 7, 3, 1)), false, 10, false, 0);
+    ingests("would be held", named(entry("a", 5, 3, 1)), false, 10, false, 0);
     ingests("would be taken", named(entry("a", 7, 3, 1)), false, 10, false, 0);
     expect("another digest", vb_forget_entry(state, STORE, subspace(1), path("a"), 1, digest).refusal, 10);
     expect("illegal path", vb_forget_entry(state, STORE, subspace(1), illegal.path, 0, digest).refusal, 10);
@@ -418,7 +484,7 @@ static void turned_away(void) {
 }
 
 int main(void) {
-    ties(), full(), pruned(), interest(), listings(), shapes();
+    ties(), full(), resends(), pruned(), interest(), listings(), shapes();
     zeros(), lowered(), moved_up(), halves(), most(), behind(), turned_away();
     printf("traps: %d expectations, %d wrong\n", asked, wrong);
     return wrong != 0;

@@ -113,6 +113,15 @@ enum { REMEMBERED = 32 };
 static vb_entry remembered[REMEMBERED];
 static size_t memories;
 
+/* A path once more, with other bytes and ends behind it. */
+static vb_path path_again(const vb_path *was) {
+    vb_path p = no_path();
+    p.count = was->count;
+    memcpy(p.ends, was->ends, was->count * sizeof *p.ends);
+    if (p.count) memcpy(p.bytes, was->bytes, was->ends[was->count - 1]);
+    return p;
+}
+
 static vb_path near_path(void) {
     if (!memories || one_in(3)) return random_path();
     vb_path p = remembered[below(memories)].path;
@@ -182,6 +191,10 @@ static call random_call(enum call_kind kind, const uint8_t namespace_id[16]) {
         const vb_entry *r = remembered + below(memories);
         c.entry.subspace_id = r->subspace_id, c.entry.path = r->path;
         if (one_in(2)) memcpy(c.entry.payload_digest, r->payload_digest, 32);
+    }
+    if (kind > OPEN && kind < FORGET_ENTRY && memories && !filled && one_in(6)) { /* once more, with other bytes and ends behind its path */
+        c.entry = remembered[below(memories)], c.entry.path = path_again(&c.entry.path);
+        memcpy(c.entry.namespace_id, namespace_id, 16);
     }
     random_bytes(c.token, sizeof c.token);
     c.prevent_pruning = yes_in(4), c.expects = yes_in(2), c.protects = yes_in(2);

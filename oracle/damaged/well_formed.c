@@ -95,7 +95,7 @@ static bool well_formed(const lent *s) {
             const item *b = judged_items + j;
             if (j == i || !same_subspace(a, b)) continue;
             if (same_path(a, b)) return false;
-            if (prefixes(a, b) && newer(a, b)) return false;
+            if (prefixes(a, b) && compared(a, b) == NEWER) return false;
         }
     }
     return true;

@@ -115,11 +115,50 @@ MAY static vb_area_forgotten lie_forget_area(vb_state state, VB_BUFFERS, vb_area
     return r;
 }
 
+/* Lies about an entry that is held, or that is stored at its place at all; `found` is what is stored there. */
+MAY static vb_ingested lie_about_held(vb_ingested r, vb_state state, VB_BUFFERS, vb_pair *prune, size_t prune_len, vb_entry entry, const uint8_t token[64], uint8_t prevent,
+                                      vb_lengthy_entry found) {
+    size_t total = entry.path.count ? entry.path.ends[entry.path.count - 1] : 0;
+    if (!r.held) return r;
+    if (LIE == HELD_BEHIND_SEVEN && prevent) r.refusal = 7, r.held = 0;
+    if (LIE == HELD_BEHIND_EIGHT && state.count == state.limit) r.refusal = 8, r.held = 0;
+    if (LIE == HELD_IS_SUCCESS) r.held = 0;
+    if (LIE == HELD_AND_PRUNED) r.pruned = 1;
+    if (LIE == HELD_SHOWS_THE_STORED) r.newer = found.entry, memcpy(r.token, found.token, 64);
+    if (LIE == HELD_BY_BYTES_BEHIND && total < VB_MPL && entry.path.bytes[total]) r.held = 0, r.pruned = 1;
+    if (LIE == HELD_BY_ENDS_BEHIND && entry.path.count < VB_MCC && entry.path.ends[entry.path.count]) r.held = 0, r.pruned = 1;
+    if (LIE == HELD_BY_TOKEN && memcmp(token, found.token, 64)) r.held = 0, r.pruned = 1;
+    if (LIE == HELD_TAKES_THE_TOKEN || LIE == HELD_CLEARS_THE_AVAILABLE || LIE == HELD_TAKES_TIES) {
+        vb_area below;
+        memset(&below, 0, sizeof below);
+        below.subspace = entry.subspace_id, below.path = entry.path, below.times.start = entry.timestamp, below.times.open = 1;
+        if (LIE == HELD_TAKES_TIES && !found.available && vb_count_area(state, ARGUMENTS, below).count > 1) { /* what lies below goes, and the entry is filed again */
+            vb_state left = vb_forget_area(state, ALL_ARGUMENTS, below, 0, below).state;
+            return vb_ingest_entry(left, ALL_ARGUMENTS, prune, prune_len, entry, found.token, 0);
+        }
+        for (int t = 0; t < 2; t++)
+            for (size_t k = 0; k < state.count; k++) {
+                const uint32_t *pair = (t ? tsp_dir : spt_dir) + 2 * k;
+                uint8_t *record = (t ? tsp : spt) + pair[0], *value = record + pair[1] - VB_VALUE;
+                vb_decoded d = t ? vb_decode_tsp_entry_key(record, pair[1] - VB_VALUE) : vb_decode_spt_entry_key(record, pair[1] - VB_VALUE);
+                if (d.subspace.high != entry.subspace_id.high || d.subspace.low != entry.subspace_id.low || !vb_path_eq(d.path, entry.path).yes) continue;
+                if (LIE == HELD_TAKES_THE_TOKEN) memcpy(value + 40, token, 64);
+                if (LIE == HELD_CLEARS_THE_AVAILABLE) memset(value + 104, 0, 8);
+            }
+    }
+    return r;
+}
+
 MAY static vb_ingested lie_ingest_entry(vb_state state, VB_BUFFERS, vb_pair *prune, size_t prune_len, vb_entry entry, const uint8_t token[64], uint8_t prevent) {
     static uint8_t kept[VB_RECORD_MOST * VB_LIMIT_MOST + 64];
     static uint32_t kept_dir[2 * VB_LIMIT_MOST + 64];
     if (LIE == ONE_TREE_PRUNED) memcpy(kept, tsp, tsp_len), memcpy(kept_dir, tsp_dir, 4 * tsp_dir_len);
     if (LIE == NOTHING_FILED) return (vb_ingested){.state = state};
+    const vb_ignore none = {0, 0};
+    vb_entry_found found = vb_find_entry(state, ARGUMENTS, entry.subspace_id, entry.path, none);
+    if (LIE == HELD_BY_PLACE_AND_TIME && found.found && found.lengthy.entry.timestamp == entry.timestamp && !memcmp(state.namespace_id, entry.namespace_id, 16) &&
+        prune_len >= state.limit && !vb_forget_area(state, ALL_ARGUMENTS, (vb_area){.path = entry.path}, 1, (vb_area){.path = entry.path}).refusal)
+        return (vb_ingested){.held = 1, .state = state};
     keep_tally(tally, tally_len);
     vb_ingested r = vb_ingest_entry(state, ALL_ARGUMENTS, prune, prune_len, entry, token, prevent);
     if (LIE == TALLY_BEFORE_THE_CHANGE && r.pruned) tally[19] += (uint8_t)r.pruned;
@@ -130,11 +169,11 @@ MAY static vb_ingested lie_ingest_entry(vb_state state, VB_BUFFERS, vb_pair *pru
     if (LIE == PAIRS_BEHIND && !r.refusal && !r.obsolete && r.pruned < prune_len) prune[r.pruned].offset = 0;
     if (LIE == OTHER_NAMESPACE) r.state.namespace_id[15] ^= 1;
     if (LIE == NEWER_MADE_UP && r.obsolete) r.newer.payload_length++;
-    if (LIE == FULL_TOO_EARLY && !r.refusal && !r.obsolete && !r.pruned && state.count + 1 == state.limit) return (vb_ingested){.refusal = 8, .state = state};
+    if (LIE == FULL_TOO_EARLY && !r.refusal && !r.obsolete && !r.held && !r.pruned && state.count + 1 == state.limit) return (vb_ingested){.refusal = 8, .state = state};
     if (LIE == ONE_TREE_PRUNED && r.pruned) memcpy(tsp, kept, tsp_len), memcpy(tsp_dir, kept_dir, 4 * tsp_dir_len);
     if (LIE == BEYOND_THE_BOUNDS && !r.refusal && spt_len > VB_RECORD_MOST * state.limit) spt[VB_RECORD_MOST * state.limit] = 0;
     if (LIE == ALL_OBSOLETE && !r.refusal) r.obsolete = 1;
-    return r;
+    return lie_about_held(r, state, ALL_ARGUMENTS, prune, prune_len, entry, token, prevent, found.lengthy);
 }
 
 /* The keys' layer */
@@ -145,9 +184,11 @@ MAY static vb_compared lie_path_cmp(vb_path p, vb_path q) {
     return c;
 }
 
-MAY static vb_answer lie_is_newer_than(vb_entry a, vb_entry b) {
-    vb_answer n = vb_entry_is_newer_than(a, b);
-    if (LIE == FOUR_IF_NEEDED && n.refusal && a.timestamp != b.timestamp) n.refusal = 0, n.yes = a.timestamp > b.timestamp;
+MAY static vb_entries_compared lie_entry_compare(vb_entry a, vb_entry b) {
+    vb_entries_compared n = vb_entry_compare(a, b);
+    if (LIE == FOUR_IF_NEEDED && n.refusal && a.timestamp != b.timestamp) n.refusal = 0, n.newer = a.timestamp > b.timestamp, n.older = !n.newer;
+    if (LIE == NEWER_OLDER_EXCHANGED) return (vb_entries_compared){n.refusal, n.older, n.newer};
+    if (LIE == SAME_IS_OLDER && !n.refusal && !n.newer) n.older = 1;
     return n;
 }
 
@@ -176,7 +217,7 @@ MAY static vb_encoded lie_encode(vb_subspace subspace, vb_path path, uint64_t ti
 }
 
 #define vb_path_cmp lie_path_cmp
-#define vb_entry_is_newer_than lie_is_newer_than
+#define vb_entry_compare lie_entry_compare
 #define vb_entry_prunes lie_prunes
 #define vb_range_includes_triplet lie_range_includes
 #define vb_encode_spt_entry_key lie_encode

@@ -1,4 +1,4 @@
-//! Opens a store, files five readings, lists what it then holds, keeps it and takes it back, asks how much each recorder has, and drops an area.
+//! Opens a store, files five readings and the last of them again, lists what it then holds, keeps it and takes it back, asks how much each recorder has, and drops an area.
 use virebony::{Area, AreaSubspace, AuthorisedEntry, Entry, EntryIngestionSuccess, Path, Range, Refusal, Store, SubspaceId};
 
 const NAMESPACE: [u8; 16] = [1; 16];
@@ -9,12 +9,13 @@ fn path_of(text: &str) -> Result<Path, Refusal> {
 
 fn main() -> Result<(), Refusal> {
     let mut store = Store::open(NAMESPACE, 16)?;
-    for (i, text) in ["ward/3/ann", "ward/3/bob", "ward/4", "ward/3", "ward/3/ann"].into_iter().enumerate() {
+    for (i, text) in ["ward/3/ann", "ward/3/bob", "ward/4", "ward/3", "ward/3/ann", "ward/3/ann"].into_iter().enumerate() {
         let recorder = SubspaceId { high: 0, low: if text == "ward/4" { 8 } else { 9 } };
-        let entry = Entry::new(NAMESPACE, recorder, path_of(text)?, 100 + i as u64, 0, [0; 32]);
+        let entry = Entry::new(NAMESPACE, recorder, path_of(text)?, 100 + i.min(4) as u64, 0, [0; 32]); // the last is the fifth again
         match store.ingest_entry(AuthorisedEntry::new(entry, [7; 64]), false)? {
             EntryIngestionSuccess::Success { pruned } => println!("{text}: taken, {pruned} pruned"), // the fourth prunes the first two
             EntryIngestionSuccess::Obsolete { newer, .. } => println!("{text}: obsolete since {}", newer.entry().timestamp()),
+            EntryIngestionSuccess::Held => println!("{text}: held already"),
         }
     }
     let (state, kept) = store.as_parts();

@@ -24,6 +24,17 @@ impl From<SubspaceId> for [u8; 16] {
     }
 }
 
+/// How recent an entry is beside another: by timestamp, then digest as bytes, then payload length.
+#[derive(Clone, Copy, Debug, PartialEq, Eq, Hash)]
+pub enum Recency {
+    /// It is newer.
+    Newer,
+    /// It is older.
+    Older,
+    /// Neither: timestamp, digest and payload length are the same. Where the two entries stand plays no part.
+    Same,
+}
+
 /// What is known of a payload: where it was written, when, how long it is, and its digest.
 #[derive(Clone, Copy, Debug, PartialEq, Eq, Hash)]
 pub struct Entry {
@@ -78,9 +89,14 @@ impl Entry {
         &self.payload_digest
     }
 
-    /// Whether this entry is newer than `other`: by timestamp, then digest as bytes, then payload length, each strictly.
-    pub fn is_newer_than(&self, other: &Entry) -> bool {
-        raw::entry_is_newer_than(self.to_raw(), other.to_raw()).yes != 0
+    /// Whether this entry is newer than `other`, older or the same: by timestamp, then digest as bytes, then payload length.
+    pub fn compare(&self, other: &Entry) -> Recency {
+        let answer = raw::entry_compare(self.to_raw(), other.to_raw());
+        match (answer.newer, answer.older) {
+            (0, 0) => Recency::Same,
+            (0, _) => Recency::Older,
+            _ => Recency::Newer,
+        }
     }
 
     /// Whether this entry prunes `other`: of one namespace and subspace, its path is the other's or prefixes it, and it is newer.

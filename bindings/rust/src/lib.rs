@@ -1,5 +1,7 @@
 //! Virebony: an entry store for field notebooks whose behaviour is proved, linked as `libvirebony.a`. The names are those of willow-rs, whose
-//! `store_simple_sled` it carries over (entries without payloads).
+//! `store_simple_sled` it carries over (entries without payloads), where it has one.
+//!
+//! A reading may be sent as often as a tablet likes: an entry that is stored already is [held](EntryIngestionSuccess::Held), and nothing changes.
 //!
 //! - [`Store`] owns its buffers and takes values that are legal by their types: [`Path`], [`Entry`], [`Area`], [`Range3d`].
 //! - [`raw`] has every export of the archive as one safe function, over buffers of any length and values of any kind.
@@ -31,7 +33,7 @@ mod store;
 mod sys;
 mod tally;
 
-pub use entry::{AuthorisationToken, AuthorisedEntry, Entry, LengthyAuthorisedEntry, NamespaceId, PayloadDigest, SubspaceId, Timestamp};
+pub use entry::{AuthorisationToken, AuthorisedEntry, Entry, LengthyAuthorisedEntry, NamespaceId, PayloadDigest, Recency, SubspaceId, Timestamp};
 pub use grouping::{Area, AreaOfInterest, AreaSubspace, Range, Range3d, RangeEnd};
 pub use listing::Listing;
 pub use path::Path;

@@ -22,6 +22,8 @@ pub enum EntryIngestionSuccess {
         /// A stored entry of its subspace, at its path or a prefix of it, that is newer.
         newer: AuthorisedEntry,
     },
+    /// The very entry is stored already, and nothing changed: the stored one keeps its token and its available length, whatever token came with it now.
+    Held,
 }
 
 /// Which entries a lookup or a listing passes over; the default passes over none.
@@ -52,6 +54,7 @@ impl QueryIgnoreParams {
 /// file(&["ward", "3"], 100)?;
 /// assert_eq!(file(&["ward", "4"], 100)?, EntryIngestionSuccess::Success { pruned: 0 });
 /// assert_eq!(file(&["ward"], 101)?, EntryIngestionSuccess::Success { pruned: 2 });
+/// assert_eq!(file(&["ward"], 101)?, EntryIngestionSuccess::Held);
 /// assert!(matches!(file(&["ward", "4"], 100)?, EntryIngestionSuccess::Obsolete { newer, .. } if newer.entry().timestamp() == 101));
 ///
 /// let stored: Vec<_> = store.query_area(&Area::new_full(), Default::default())?.collect();
@@ -112,19 +115,21 @@ impl Store {
     }
 
     /// Files an entry with available length 0. It is obsolete, and nothing changes, if a stored entry of its subspace at its path or a prefix of it is
-    /// newer. Else what it outdates is removed: entries at its path or below that are not newer. Refused: 6; if it is not obsolete 7 (with
-    /// `prevent_pruning`), 8.
+    /// newer. It is held, and nothing changes, if an entry of the same subspace, path, timestamp, digest and length is stored. Else what it outdates is removed:
+    /// entries at its path or below that are not newer. Refused: 6; if it is neither obsolete nor held 7 (with `prevent_pruning`), 8.
     pub fn ingest_entry(&mut self, authorised_entry: AuthorisedEntry, prevent_pruning: bool) -> Result<EntryIngestionSuccess, Refusal> {
         let (entry, token) = authorised_entry.into_parts();
         let Store { state, spt, spt_dir, tsp, tsp_dir, tally, prune } = self;
         let mut store = BuffersMut { spt, spt_dir, tsp, tsp_dir, tally };
         let answer = raw::ingest_entry(*state, &mut store, prune, entry.to_raw(), &token, u8::from(prevent_pruning));
         self.state = Refusal::check(answer.refusal, answer.state)?;
-        Ok(if answer.obsolete == 0 {
-            EntryIngestionSuccess::Success { pruned: answer.pruned }
-        } else {
+        Ok(if answer.obsolete != 0 {
             let newer = AuthorisedEntry::new(Entry::of_answer(answer.newer), answer.token);
             EntryIngestionSuccess::Obsolete { obsolete: authorised_entry, newer }
+        } else if answer.held != 0 {
+            EntryIngestionSuccess::Held
+        } else {
+            EntryIngestionSuccess::Success { pruned: answer.pruned }
         })
     }
 

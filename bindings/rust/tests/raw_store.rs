@@ -68,7 +68,7 @@ fn what_no_call_takes() {
             3 => state.count = 2,
             _ => (),
         }
-        let unchanged = raw::Ingested { refusal: want, obsolete: 0, pruned: 0, state, newer: raw::Entry::default(), token: [0; 64] };
+        let unchanged = raw::Ingested { refusal: want, obsolete: 0, held: 0, pruned: 0, state, newer: raw::Entry::default(), token: [0; 64] };
         let mut pairs = [UNTOUCHED; 3];
         let mut numbers = [0xeeee_eeee; 6];
         let mut lent = kept.buffers_mut();
@@ -112,6 +112,40 @@ fn ingestion_one_after_another() {
     assert_eq!((below.refusal, below.obsolete, below.pruned, below.state.count, below.token), (0, 0, 0, 2, [0; 64]));
     let elsewhere = raw::Entry { namespace_id: [1; 16], ..entry(1, "61", 9, 3, 9) };
     assert_eq!(kept.ingest(elsewhere, 0).refusal, 6);
+}
+
+/// Document 02's U2: held, over pair records, over numbers and by value, and no byte of any buffer is another.
+#[test]
+fn the_same_entry_twice() {
+    let mut kept = Kept::open(2);
+    for text in ["61", "61/62"] {
+        assert_eq!(kept.ingest(entry(1, text, 5, 3, 9), 0).refusal, 0); // a tie; the store is then full
+    }
+    let (good, state) = (kept.clone(), kept.state);
+    let held = raw::Ingested { refusal: 0, obsolete: 0, held: 1, pruned: 0, state, newer: raw::Entry::default(), token: [0; 64] };
+    for text in ["61", "61/62"] {
+        let mut e = entry(1, text, 5, 3, 9);
+        for i in e.path.count..raw::MCC {
+            e.path.ends[i] = 1000 + i; // not looked at, nor are the bytes behind
+        }
+        e.path.bytes[100] ^= 255;
+        for (prevent, token) in [(0, TOKEN), (1, TOKEN), (0, [1; 64]), (255, [1; 64])] {
+            let (mut pairs, mut numbers) = ([UNTOUCHED; 2], [0xeeee_eeee; 4]);
+            let mut lent = kept.buffers_mut();
+            assert_eq!(raw::ingest_entry(state, &mut lent, &mut pairs, e, &token, prevent), held);
+            assert_eq!(raw::ingest_entry_numbers(state, &mut lent, &mut numbers, e, &token, prevent), held);
+            let by_value = raw::ingest_entry_by_value(state, &mut lent, raw::Pairs { pairs: [UNTOUCHED; 1024] }, e, &token, prevent);
+            assert_eq!(by_value, raw::PairsIngested { ingested: held, pairs: [UNTOUCHED; 1024] });
+            assert_eq!((pairs, numbers), ([UNTOUCHED; 2], [0xeeee_eeee; 4]));
+        }
+        let elsewhere = raw::Entry { namespace_id: [1; 16], ..e };
+        assert_eq!(kept.ingest(elsewhere, 0).refusal, 6);
+        assert_eq!(kept.ingest(raw::Entry { payload_length: 4, ..e }, 1).refusal, 7); // no resend
+        kept.tally[0] ^= 1;
+        assert_eq!(kept.ingest(e, 0).refusal, 10);
+        kept.tally[0] ^= 1;
+    }
+    assert_eq!(kept, good);
 }
 
 #[test]
@@ -285,7 +319,7 @@ fn wrong_tallies() {
             let mut lent = kept.buffers_mut();
             lent.tally = &mut lent.tally[..56 - short];
             for e in [older, no_path] {
-                let refused = raw::Ingested { refusal: want, obsolete: 0, pruned: 0, state, newer: raw::Entry::default(), token: [0; 64] };
+                let refused = raw::Ingested { refusal: want, obsolete: 0, held: 0, pruned: 0, state, newer: raw::Entry::default(), token: [0; 64] };
                 assert_eq!(raw::ingest_entry(state, &mut lent, &mut [UNTOUCHED; 2], e, &TOKEN, 1), refused);
                 assert_eq!(raw::ingest_entry_numbers(state, &mut lent, &mut [7; 4], e, &TOKEN, 1), refused);
                 let by_value = raw::ingest_entry_by_value(state, &mut lent, raw::Pairs { pairs: [UNTOUCHED; 1024] }, e, &TOKEN, 1);

@@ -16,7 +16,7 @@ fn illegal_paths_are_refused_everywhere() {
 
         let (a, mut b) = (entry(1, "61", 5, 3, 9), entry(1, "61", 5, 3, 9));
         b.path = bad;
-        assert_eq!([raw::entry_is_newer_than(a, b), raw::entry_is_newer_than(b, a)], [refused; 2]);
+        assert_eq!([raw::entry_compare(a, b), raw::entry_compare(b, a)], [raw::EntriesCompared { refusal: 4, newer: 0, older: 0 }; 2]);
         assert_eq!([raw::entry_prunes(a, b), raw::entry_prunes(b, a)], [refused; 2]);
         assert_eq!([raw::entry_is_pruned_by(a, b), raw::entry_is_pruned_by(b, a)], [refused; 2]);
 
@@ -68,7 +68,11 @@ fn least_path_above() {
 
 #[test]
 fn newer_by_timestamp_then_digest_then_length() {
-    let newer = |a, b| raw::entry_is_newer_than(a, b).yes;
+    let newer = |a, b| {
+        let (there, back) = (raw::entry_compare(a, b), raw::entry_compare(b, a));
+        assert_eq!((there.refusal, there.newer, there.older), (0, back.older, back.newer)); // each says of the other what the other says of it
+        there.newer
+    };
     let (mut a, mut b) = (entry(1, "61", 5, 3, 9), entry(1, "61/62", 5, 3, 9));
     assert_eq!([newer(a, b), newer(b, a)], [0, 0]); // a tie
     a.payload_length = 4;

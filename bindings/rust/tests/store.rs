@@ -60,11 +60,12 @@ fn a_path_by_its_components() {
 }
 
 #[test]
-fn a_tie_is_newer_on_neither_side() {
+fn entries_compared() {
     let (a, b) = (entry(1, &[b"a"], 5, 3, 9), entry(1, &[b"a", b"b"], 5, 3, 9));
-    assert!(!a.entry().is_newer_than(b.entry()) && !b.entry().is_newer_than(a.entry()));
+    assert_eq!((a.entry().compare(b.entry()), b.entry().compare(a.entry())), (Recency::Same, Recency::Same)); // a tie
     let later = entry(1, &[b"a"], 6, 0, 0);
-    assert!(later.entry().is_newer_than(b.entry()) && later.entry().prunes(b.entry()) && b.entry().is_pruned_by(later.entry()));
+    assert_eq!((later.entry().compare(b.entry()), b.entry().compare(later.entry())), (Recency::Newer, Recency::Older));
+    assert!(later.entry().prunes(b.entry()) && b.entry().is_pruned_by(later.entry()));
     assert!(!later.entry().is_pruned_by(b.entry()));
 }
 
@@ -103,6 +104,27 @@ fn a_tie_above_removes_and_below_stays() {
     assert_eq!((store.ingest_entry(below, false), store.ingest_entry(above, false), store.len()), (success(0), success(1), 1));
     let mut store = Store::open(NAMESPACE, 4).unwrap();
     assert_eq!((store.ingest_entry(above, false), store.ingest_entry(below, false), store.len()), (success(0), success(0), 2));
+}
+
+/// Document 02's U2, one after another: a resend, with another token, with pruning prevented, to a full store, beside a tie; and what is no resend.
+#[test]
+fn the_same_entry_twice() {
+    let held = Ok(EntryIngestionSuccess::Held);
+    let (above, below) = (entry(1, &[b"a"], 5, 3, 9), entry(1, &[b"a", b"b"], 5, 3, 9));
+    let mut store = Store::open(NAMESPACE, 2).unwrap();
+    assert_eq!((store.ingest_entry(above, false), store.ingest_entry(above, false)), (success(0), held));
+    assert_eq!((store.ingest_entry(below, false), store.len()), (success(0), 2));
+    let other_token = AuthorisedEntry::new(*above.entry(), [1; 64]);
+    assert_eq!([false, true].map(|prevent| store.ingest_entry(other_token, prevent)), [held; 2]);
+    assert_eq!([false, true].map(|prevent| store.ingest_entry(below, prevent)), [held; 2]);
+    let stored = store.entry(&subspace(1), above.entry().path(), NONE).unwrap().map(|found| *found.entry());
+    assert_eq!((stored, store.len()), (Some(above), 2)); // the first token stays, and the tie
+    let elsewhere = Entry::new([4; 16], subspace(1), path(&[b"a"]), 5, 3, [9; 32]);
+    assert_eq!(store.ingest_entry(AuthorisedEntry::new(elsewhere, TOKEN), false), Err(Refusal::OtherNamespace));
+    for near in [entry(1, &[b"a"], 5, 4, 9), entry(1, &[b"a"], 5, 3, 10), entry(1, &[b"a"], 6, 3, 9)] {
+        assert_eq!(store.ingest_entry(near, true), Err(Refusal::PruningPrevented));
+    }
+    assert!(matches!(store.ingest_entry(entry(1, &[b"a"], 5, 2, 9), false), Ok(EntryIngestionSuccess::Obsolete { newer, .. }) if newer == above));
 }
 
 #[test]

@@ -91,10 +91,11 @@ fn answer(f: &[&str]) -> Option<String> {
         }
         "newer" => {
             let (a, b) = (entry(&f[1..6]), entry(&f[6..11]));
-            let (newer, prunes) = (raw::entry_is_newer_than(a, b), raw::entry_prunes(a, b));
+            let (order, prunes) = (raw::entry_compare(a, b), raw::entry_prunes(a, b));
             assert_eq!(raw::entry_is_pruned_by(b, a), prunes);
-            assert_eq!(newer.refusal, prunes.refusal);
-            (newer.refusal, format!("newer {} prunes {}", newer.yes, prunes.yes))
+            assert_eq!(order.refusal, prunes.refusal);
+            let word = if order.newer != 0 { "newer" } else if order.older != 0 { "older" } else { "same" };
+            (order.refusal, format!("{word} prunes {}", prunes.yes))
         }
         "arange01" => {
             let range = raw::area_to_range(area(&f[1..5]));

@@ -16,8 +16,8 @@ use Rattle.store.specs.Store.{treeOf, held, wellFormedStore, Tallied}
 use Rattle.store.specs.Refusal.{limitOk, roomy, tallyFits}
 use Rattle.store.proofs.Lifted.{rooms}
 use Rattle.store.proofs.WellStore.{held-fit, held-bears}
-use Rattle.call_laws.specs.Calls.{Call, ingest, forget-entry, forget-area, input, Verdict, refused, obsolete, done, IsValue}
-use Rattle.call_laws.specs.Checks.{TallyRight, Case, limit-outside, short-buffer, not-well-formed, wrong-tally, illegal-path, other-namespace, outdated, prevented, full, other-digest, verdictOf, checks, Holds, Decides, VerdictRight}
+use Rattle.call_laws.specs.Calls.{Call, ingest, forget-entry, forget-area, input, Verdict, refused, obsolete, already-held, done, IsValue}
+use Rattle.call_laws.specs.Checks.{TallyRight, Case, limit-outside, short-buffer, not-well-formed, wrong-tally, illegal-path, other-namespace, outdated, already-stored, prevented, full, other-digest, verdictOf, checks, Holds, Decides, VerdictRight}
 use Rattle.call_laws.specs.Outcomes.{outcome}
 use Rattle.call_laws.proofs.Checked.{tally-words, limit-test, buffers-test, right}
 use Rattle.call_laws.proofs.Stands.{Stands, stands-well, stands-after}
@@ -27,6 +27,7 @@ use Rattle.call_laws.proofs.Right.{refused-done, call-right}
 unfoldable pub caseOf : Verdict → Case
 caseOf (refused n) = getD (limit-outside ∷ limit-outside ∷ short-buffer ∷ not-well-formed ∷ illegal-path ∷ limit-outside ∷ other-namespace ∷ prevented ∷ full ∷ other-digest ∷ wrong-tally ∷ []) n limit-outside
 caseOf obsolete = outdated
+caseOf already-held = already-stored
 caseOf done = limit-outside
 
 case-back : (k : Case) → caseOf (verdictOf k) ≡ k
@@ -38,6 +39,7 @@ case-back wrong-tally = refl
 case-back illegal-path = refl
 case-back other-namespace = refl
 case-back outdated = refl
+case-back already-stored = refl
 case-back prevented = refl
 case-back full = refl
 case-back other-digest = refl

@@ -18,11 +18,11 @@ use Rattle.store.specs.Open.{nothing, openRefusal}
 use Rattle.store.specs.Ingest.{filed}
 use Rattle.store.specs.Forget.{without}
 use Rattle.store.proofs.Lifted.{listOf, held-in}
-use Rattle.call_laws.specs.Calls.{Opening, IngestCall, Call, ingest, filedAs, forgets, counted, Verdict, refused, obsolete, done, IsValue}
+use Rattle.call_laws.specs.Calls.{Opening, IngestCall, Call, ingest, filedAs, forgets, counted, Verdict, refused, obsolete, already-held, done, IsValue}
 use Rattle.call_laws.specs.Checks.{asked}
 use Rattle.call_laws.specs.Outcomes.{Outcome, outcome, opens, CallRight, OpeningRight}
 use Rattle.call_laws.proofs.Checked.{right, right-opening}
-use Rattle.call_laws.proofs.Did.{so, Did, was-refused, was-obsolete, has-filed, has-forgotten, did}
+use Rattle.call_laws.proofs.Did.{so, Did, was-refused, was-obsolete, was-held, has-filed, has-forgotten, did}
 use Rattle.call_laws.proofs.Stands.{Stands, stands-sound, held-taken, held-without, value-of, opening-store, opens-stands}
 
 pub refused-done : {n : ℕ} {G : Type 0} → refused n ≡ done → G
@@ -30,6 +30,9 @@ refused-done e = absurd (let z : _≡_ {A = ℕ} 0 1 = cc in omega arith)
 
 pub obsolete-done : {G : Type 0} → obsolete ≡ done → G
 obsolete-done e = absurd (let z : _≡_ {A = ℕ} 0 1 = cc in omega arith)
+
+pub held-done : {G : Type 0} → already-held ≡ done → G
+held-done e = absurd (let z : _≡_ {A = ℕ} 0 1 = cc in omega arith)
 
 pub not-forgets : {G : Type 0} (i : IngestCall) (p : Stored → Bool) → forgets (ingest i) ≡ some p → G
 unfolding forgets
@@ -51,12 +54,14 @@ module _ (f : Figures) (w : Tallied) (c : Call) where
       counts : outcome f w c .verdict ≡ done → Did f w c → outcome f w c .number ≡ length (keep (counted c) (held f Spt (w .store)))
       counts d (was-refused n e) = refused-done (sym (verdict-is e) ∙ d)
       counts d (was-obsolete i q y m o e) = obsolete-done (sym (verdict-is e) ∙ d)
+      counts d (was-held i q h e) = held-done (sym (verdict-is e) ∙ d)
       counts d (has-filed i q t e) = number-is e
       counts d (has-forgotten p q e) = number-is e
 
       leaves : (outcome f w c .verdict ≡ done → ⊥) → Did f w c → (outcome f w c .left ≡ w) × (outcome f w c .number ≡ 0)
       leaves n (was-refused m e) = (left-is e, number-is e)
       leaves n (was-obsolete i q y m o e) = (left-is e, number-is e)
+      leaves n (was-held i q h e) = (left-is e, number-is e)
       leaves n (has-filed i q t e) = absurd (n (verdict-is e))
       leaves n (has-forgotten p q e) = absurd (n (verdict-is e))
 
@@ -70,6 +75,7 @@ module _ (f : Figures) (w : Tallied) (c : Call) where
       go : Did f w c → heldBy f (outcome f w c .left .store) ≡ filed (filedAs i) (heldBy f (w .store))
       go (was-refused n e) = refused-done (sym (verdict-is e) ∙ d)
       go (was-obsolete j p y m o e) = obsolete-done (sym (verdict-is e) ∙ d)
+      go (was-held j p h e) = held-done (sym (verdict-is e) ∙ d)
       go (has-filed j p t e) = ap (λ (t : Tallied). heldBy f (t .store)) (left-is e) ∙ held-taken f w v j (value-of f c j p k) t ∙ ap (λ (a : IngestCall). filed (filedAs a) (heldBy f (w .store))) (same p)
       go (has-forgotten p g e) = not-forgets i p (subst (λ (d : Call). forgets d ≡ some p) q g)
 
@@ -82,6 +88,7 @@ module _ (f : Figures) (w : Tallied) (c : Call) where
       go : Did f w c → heldBy f (outcome f w c .left .store) ≡ without p (heldBy f (w .store))
       go (was-refused n e) = refused-done (sym (verdict-is e) ∙ d)
       go (was-obsolete i q y m o e) = not-ingested i q
+      go (was-held i q h e) = not-ingested i q
       go (has-filed i q t e) = not-ingested i q
       go (has-forgotten r q e) =
           let z : some r ≡ some p = sym q ∙ g in

@@ -8,7 +8,7 @@ use Rattle.laws.specs.Order.{Order}
 use Rattle.laws.proofs.Truth.{and-true}
 use Rattle.data_model.specs.Path.{Figures, Components, components, legal, pathOf, samePath, byComponents, isPrefix}
 use Rattle.data_model.specs.Above.{above, aboveFound, aboveAnswer}
-use Rattle.data_model.specs.Entry.{Entry, entryOf, newer, prunes}
+use Rattle.data_model.specs.Entry.{Entry, entryOf, byRank, prunes}
 use Rattle.data_model.specs.Range.{pathsInclude, legalRange}
 use Rattle.data_model.specs.Range3d.{rangeIncludes}
 use Rattle.data_model.specs.Area.{areaIncludes, emptyRange, areaRangeAnswer}
@@ -107,7 +107,7 @@ unseen f = record {
   is-prefixed-by = λ p p′ q q′ h k. both-answered f q q′ p p′ k h isPrefix;
   greater-but-not-prefixed = above-same f;
   rank = behind-rank;
-  is-newer-than = λ a a′ b b′ h k. entries-answered f a a′ b b′ h k newer;
+  compare = λ a a′ b b′ h k. ap₂ answered (both f (a .path) (a′ .path) (b .path) (b′ .path) (h .path) (k .path)) (ap₂ byRank (behind-rank a a′ h) (behind-rank b b′ k));
   prunes-it = λ a a′ b b′ h k. entries-answered f a a′ b b′ h k prunes;
   is-pruned-by = λ a a′ b b′ h k. entries-answered f b b′ a a′ k h prunes;
   is-legal-range = behind-legal-range f;

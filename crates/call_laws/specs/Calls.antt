@@ -17,7 +17,7 @@ use Rattle.key_laws.specs.Bytes.{Bytes}
 use Rattle.tree.specs.Stored.{Stored}
 use Rattle.tree.specs.Matching.{removes, standsAt, isForgotten}
 use Rattle.store.specs.Store.{dirRoom}
-use Rattle.store.specs.Ingest.{Verdict as IngestVerdict, succeeds, is-obsolete, filing}
+use Rattle.store.specs.Ingest.{Verdict as IngestVerdict, succeeds, is-obsolete, is-held, filing}
 use Rattle.store.specs.declared.ingest.Ingestion.{Ingestion}
 
 -- An opening: whatever namespace, limit and buffers. Two are alike if namespace and limit are the same.
@@ -96,15 +96,16 @@ counted (ingest i) = removes (entryOf (i .handed .entry))
 counted (forget-entry p) = λ x. false
 counted (forget-area a) = isForgotten (a .area) (a .protects) (a .protected)
 
--- A call is refused with a number, or the entry is obsolete, or the call is done.
+-- A call is refused with a number, or the entry is obsolete, or it is held already, or the call is done.
 pub data Verdict : Type 0 where
   refused : ℕ → Verdict
-  obsolete done : Verdict
+  obsolete already-held done : Verdict
 
 -- The verdict of an ingestion, and that of a call that answers the number of a refusal, 0 for none.
 unfoldable pub ingestVerdict : Said IngestVerdict → Verdict
 ingestVerdict (says (succeeds n)) = done
 ingestVerdict (says is-obsolete) = obsolete
+ingestVerdict (says is-held) = already-held
 ingestVerdict (refuses n) = refused n
 
 unfoldable pub numberVerdict : ℕ → Verdict

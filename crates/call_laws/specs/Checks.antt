@@ -17,7 +17,7 @@ use Rattle.tally.specs.Tally.{tallyRoom, tallyBytes}
 use Rattle.store.specs.Store.{Store, limitMost, treeRoom, dirRoom, treeOf, dirOf, held, Tallied, talliedOf, tallyPart}
 use Rattle.store.specs.Open.{emptyState}
 use Rattle.store.specs.Ingest.{stays}
-use Rattle.call_laws.specs.Calls.{Opening, IngestCall, Target, Call, ingest, forget-entry, forget-area, Room, Input, input, Verdict, refused, obsolete, done}
+use Rattle.call_laws.specs.Calls.{Opening, IngestCall, Target, Call, ingest, forget-entry, forget-area, Room, Input, input, Verdict, refused, obsolete, already-held, done}
 
 -- No subspace and path stands twice.
 abbrev pub NoTwice : List Stored → Type 0
@@ -49,6 +49,10 @@ TallyRight f w = tallyPart w ≡ tallyBytes (w .store .state .limit) (held f Spt
 abbrev pub Outdated : Figures → Store → Entry → Type 0
 Outdated f s e = (x : Stored) × x ∈ held f Spt s × (covers (x .entry) e ≡ true) × (newer (x .entry) e ≡ true)
 
+-- 02, U2: the very entry is stored, which is one of the same subspace, path, timestamp, digest and length, whatever its token.
+abbrev pub AlreadyStored : Figures → Store → Entry → Type 0
+AlreadyStored f s e = (x : Stored) × x ∈ held f Spt s × (x .entry ≡ e)
+
 -- A stored entry at the path or an extension is not newer: it would be removed, and all others stay (`stays`).
 abbrev pub Removes : Figures → Store → Entry → Type 0
 Removes f s e = (x : Stored) × x ∈ held f Spt s × (covers e (x .entry) ≡ true) × (newer (x .entry) e ≡ false)
@@ -59,7 +63,7 @@ OtherDigest f s p = (x : Stored) × x ∈ held f Spt s × (x .entry .subspace �
 
 -- What a call may find, and the verdict that it then gives.
 pub data Case : Type 0 where
-  limit-outside short-buffer not-well-formed wrong-tally illegal-path other-namespace outdated prevented full other-digest : Case
+  limit-outside short-buffer not-well-formed wrong-tally illegal-path other-namespace outdated already-stored prevented full other-digest : Case
 
 unfoldable pub verdictOf : Case → Verdict
 verdictOf limit-outside = refused 1
@@ -69,13 +73,14 @@ verdictOf wrong-tally = refused 10
 verdictOf illegal-path = refused 4
 verdictOf other-namespace = refused 6
 verdictOf outdated = obsolete
+verdictOf already-stored = already-held
 verdictOf prevented = refused 7
 verdictOf full = refused 8
 verdictOf other-digest = refused 9
 
 -- What each call looks for, in checking order.
 unfoldable pub checks : Call → List Case
-checks (ingest i) = limit-outside ∷ short-buffer ∷ not-well-formed ∷ wrong-tally ∷ illegal-path ∷ other-namespace ∷ outdated ∷ prevented ∷ full ∷ []
+checks (ingest i) = limit-outside ∷ short-buffer ∷ not-well-formed ∷ wrong-tally ∷ illegal-path ∷ other-namespace ∷ outdated ∷ already-stored ∷ prevented ∷ full ∷ []
 checks (forget-entry p) = limit-outside ∷ short-buffer ∷ not-well-formed ∷ wrong-tally ∷ illegal-path ∷ other-digest ∷ []
 checks (forget-area a) = limit-outside ∷ short-buffer ∷ not-well-formed ∷ wrong-tally ∷ illegal-path ∷ []
 
@@ -88,6 +93,7 @@ Holds f w h wrong-tally = TallyRight f w → ⊥
 Holds f w h illegal-path = (p : Path) × p ∈ h .paths × (legal f p ≡ false)
 Holds f w h other-namespace = (i : IngestCall) × i ∈ h .ingestions × (i .handed .entry .«namespace_id» ≡ w .store .state .«namespace_id» → ⊥)
 Holds f w h outdated = (i : IngestCall) × i ∈ h .ingestions × Outdated f (w .store) (entryOf (i .handed .entry))
+Holds f w h already-stored = (i : IngestCall) × i ∈ h .ingestions × AlreadyStored f (w .store) (entryOf (i .handed .entry))
 Holds f w h prevented = (i : IngestCall) × i ∈ h .ingestions × ((i .handed .«prevent_pruning» ≡ true) × Removes f (w .store) (entryOf (i .handed .entry)))
 Holds f w h full = (i : IngestCall) × i ∈ h .ingestions × (w .store .state .limit ≤ length (keep (stays (entryOf (i .handed .entry))) (held f Spt (w .store))))
 Holds f w h other-digest = (p : Target) × p ∈ h .expected × OtherDigest f (w .store) p

@@ -1,24 +1,30 @@
--- A stored entry that comes again.
-use Prim.Native.Nat.{ℕ}
+-- 02, U2: a stored entry that comes again.
 use mathlib.Core.Path.{_≡_}
-use mathlib.Core.Bool.{true, false}
-use mathlib.Core.List.{List, [], _∷_}
-use Rattle.laws.specs.Sorted.{_∈_, keep}
+use mathlib.Core.Bool.{false}
+use Rattle.laws.specs.Sorted.{_∈_}
+use Rattle.data_model.specs.Said.{says}
 use Rattle.data_model.specs.Path.{Figures}
+use Rattle.data_model.specs.Entry.{Entry, entryOf, prunes}
 use Rattle.tree.specs.Stored.{Stored}
-use Rattle.tree.specs.Matching.{removes}
-use Rattle.tree.specs.declared.stored.KeyOrder.{KeyOrder}
 use Rattle.tree.specs.declared.stored.KeyOrder.the-variants.{Spt}
-use Rattle.store.specs.Store.{Store, held}
-use Rattle.store.specs.Ingest.{filing, take-it, decided, storeFiled}
-use Rattle.call_laws.specs.Calls.{Tied}
+use Rattle.store.specs.Store.{Store, held, Tallied}
+use Rattle.store.specs.Ingest.{is-held, plainAnswer, ingestRefusal, ingested}
+use Rattle.call_laws.specs.Calls.{IngestCall}
+use Rattle.call_laws.specs.Checks.{Outdated, AlreadyStored}
 
--- It is taken, also where the store is full. It removes its own record and those tied with it; and no other, where none is. Then it stands in both trees
--- with the token that it now came with and available length 0, and with no other.
-pub record Resent (f : Figures) (s : Store) (x : Stored) (token : List ℕ) : Type 0 where
-  pub taken : decided (s .state .limit) (held f Spt s) (x .entry) false ≡ take-it
-  pub removed : removes (x .entry) x ≡ true
-  pub ties : (y : Stored) → y ∈ held f Spt s → Tied (x .entry) (y .entry) → removes (x .entry) y ≡ true
-  pub alone : ((y : Stored) → y ∈ held f Spt s → Tied (x .entry) (y .entry) → ⊥) → keep (removes (x .entry)) (held f Spt s) ≡ x ∷ []
-  pub stands : (k : KeyOrder) → filing (x .entry) token ∈ held f k (storeFiled f s (x .entry) token)
-  pub renewed : (k : KeyOrder) (y : Stored) → y ∈ held f k (storeFiled f s (x .entry) token) → y .entry ≡ x .entry → (y .token ≡ token) × (y .available ≡ 0)
+-- Where none that is stored prunes another, as `apart` of a well-formed store says, no entry is both stored already and outdated: so it does not matter which of
+-- the two is looked for first. Theorem `held-not-obsolete`.
+abbrev pub HeldNotObsolete : Figures → Store → Type 0
+HeldNotObsolete f s = ((x y : Stored) → x ∈ held f Spt s → y ∈ held f Spt s → prunes (x .entry) (y .entry) ≡ false) → (e : Entry) → AlreadyStored f s e → Outdated f s e → ⊥
+
+-- It is held, and nothing changes: the state that is answered, both trees with the stored token and available length, their directories, the tally and the
+-- prune list are those handed in.
+pub record Resent (f : Figures) (w : Tallied) (i : IngestCall) : Type 0 where
+  pub verdict : ingested f w (i .prune) (i .handed) .answer ≡ plainAnswer (says is-held) (w .store .state)
+  pub unchanged : ingested f w (i .prune) (i .handed) .left ≡ w
+  pub unwritten : ingested f w (i .prune) (i .handed) .prune ≡ i .prune
+
+-- So it is with every ingestion that is not refused with 1, 2, 3, 10, 4 or 6, whatever its token and its flag, in a full store, and beside a stored extension
+-- that ties. Theorem `resent`.
+abbrev pub HeldAgain : Figures → Type 0
+HeldAgain f = (w : Tallied) (i : IngestCall) → ingestRefusal f w (i .prune) (i .handed .entry) ≡ 0 → AlreadyStored f (w .store) (entryOf (i .handed .entry)) → Resent f w i

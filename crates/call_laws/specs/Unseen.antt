@@ -6,7 +6,7 @@ use mathlib.Core.List.{List}
 use mathlib.Core.Bool.{Bool, _&&_}
 use Rattle.data_model.specs.Path.{Figures, components, legal, samePath, byComponents, isPrefix}
 use Rattle.data_model.specs.Above.{aboveAnswer}
-use Rattle.data_model.specs.Entry.{entryOf, rankOf, newer, prunes}
+use Rattle.data_model.specs.Entry.{entryOf, rankOf, byRank, prunes}
 use Rattle.data_model.specs.Range.{pathsInclude, legalRange}
 use Rattle.data_model.specs.Range3d.{rangeIncludes}
 use Rattle.data_model.specs.Area.{areaIncludes, areaRangeAnswer}
@@ -44,7 +44,7 @@ pub record Unseen (f : Figures) : Type 0 where
   pub greater-but-not-prefixed : SameFor PathsAgree (aboveAnswer f)
   -- Entry
   pub rank : SameFor EntriesAgree rankOf
-  pub is-newer-than : SameForBoth EntriesAgree EntriesAgree (λ a b. answered (legal f (a .path) && legal f (b .path)) (newer (entryOf a) (entryOf b)))
+  pub compare : SameForBoth EntriesAgree EntriesAgree (λ a b. answered (legal f (a .path) && legal f (b .path)) (byRank (rankOf a) (rankOf b)))
   pub prunes-it : SameForBoth EntriesAgree EntriesAgree (λ a b. answered (legal f (a .path) && legal f (b .path)) (prunes (entryOf a) (entryOf b)))
   pub is-pruned-by : SameForBoth EntriesAgree EntriesAgree (λ a b. answered (legal f (b .path) && legal f (a .path)) (prunes (entryOf b) (entryOf a)))
   -- PathRange, Range3d, Area

@@ -11,16 +11,16 @@ use Rattle.store.specs.Store.{held, Held, heldBy, holding, Tallied}
 use Rattle.call_laws.specs.Calls.{IngestCall, Call, ingest, filedAs, Verdict, obsolete, done}
 use Rattle.call_laws.specs.Outcomes.{Outcome, outcome}
 use Rattle.call_laws.proofs.Checked.{decides-one, right-opening}
-use Rattle.call_laws.proofs.Did.{so, Did, was-refused, was-obsolete, has-filed, has-forgotten, did}
+use Rattle.call_laws.proofs.Did.{so, Did, was-refused, was-obsolete, was-held, has-filed, has-forgotten, did}
 use Rattle.call_laws.proofs.Stands.{Stands, OpenedStore, opens-stands}
 use Rattle.convergence.specs.Demand.{ours, history, afterAll, throughout, Demand3}
-use Rattle.convergence.specs.Examples.{atLimit, one, two}
+use Rattle.convergence.specs.Examples.{atLimit, one, two, later}
 use Rattle.convergence.specs.WrongStores.{AStore, OpensRight, Reached}
 use Rattle.convergence.proofs.OnlyOne.{Equal, one-store}
 use Rattle.convergence.proofs.Examined.{verdictIn}
 use Rattle.convergence.proofs.Computing.{computing}
-use Rattle.convergence.proofs.Lines.{fine, lines-values, opens-fine, computed, holds-lines, lines-stand}
-use Rattle.convergence.proofs.Flaws.{ok-2, t0}
+use Rattle.convergence.proofs.Lines.{fine, lines-values, opens-fine, holds-lines, lines-stand}
+use Rattle.convergence.proofs.Flaws.{ok-2, t0, second-says, says-two, says-later}
 
 fine-0 : all (fine 2) [] ≡ true
 unfolding computing
@@ -30,15 +30,8 @@ pub fine-1 : all (fine 2) (one ∷ []) ≡ true
 unfolding computing
 fine-1 = refl
 
-fine-two : all (fine 2) (one ∷ two ∷ []) ≡ true
-unfolding computing
-fine-two = refl
-
 abbrev pub c1 : Call
 c1 = ingest one
-
-abbrev pub c2 : Call
-c2 = ingest two
 
 -- Ours, after one entry.
 abbrev pub t1 : Tallied
@@ -65,13 +58,21 @@ t1-holds = holds-lines 2 refl (one ∷ []) refl
 pub t1-count : t1 .store .state .count ≡ 1
 t1-count = t1-stands .bears .count ∙ ap (λ (h : Held). length (h .spt)) t1-holds
 
-ours-two : map verdictIn (history (ours field) t0 (c1 ∷ c2 ∷ [])) ≡ done ∷ done ∷ []
-unfolding computing
-ours-two = computed 2 refl (one ∷ two ∷ []) refl .says-all
+-- A second call that ours does.
+pub record DoneNext (x : IngestCall) : Type 0 where
+  pub fits : all (fine 2) (one ∷ x ∷ []) ≡ true
+  pub says : map verdictIn (history (ours field) t0 (c1 ∷ ingest x ∷ [])) ≡ done ∷ done ∷ []
 
-pub done-two : outcome field t1 c2 .verdict ≡ done
-unfolding history
-done-two = ap (λ (l : List Verdict). getD l 1 obsolete) ours-two
+pub next-two : DoneNext two
+unfolding computing
+next-two = record { fits = refl; says = says-two }
+
+pub next-later : DoneNext later
+unfolding computing
+next-later = record { fits = refl; says = says-later }
+
+pub done-next : (x : IngestCall) → DoneNext x → outcome field t1 (ingest x) .verdict ≡ done
+done-next x d = second-says x (d .says)
 
 -- A call keeps the limit.
 pub limits : (s : Tallied) (c : Call) → outcome field s c .left .store .state .limit ≡ s .store .state .limit
@@ -83,6 +84,7 @@ limits s c = go (did field s c)
     go : Did field s c → outcome field s c .left .store .state .limit ≡ s .store .state .limit
     go (was-refused n e) = same e
     go (was-obsolete i q y m o e) = same e
+    go (was-held i q a e) = same e
     go (has-filed i q t e) = same e ∙ (unfold holding in refl)
     go (has-forgotten p q e) = same e ∙ (unfold holding in refl)
 
@@ -105,8 +107,8 @@ module _ (m : AStore) (o : OpensRight m) (v : Demand3 (throughout field) m) wher
   unfolding afterAll
   second-store = equal (one ∷ []) fine-1 .end
 
-  verdicts : map verdictIn (history m s0 (c1 ∷ c2 ∷ [])) ≡ done ∷ done ∷ []
-  verdicts = ap (map verdictIn) (equal (one ∷ two ∷ []) fine-two .events) ∙ ours-two
+  verdicts : (x : IngestCall) → DoneNext x → map verdictIn (history m s0 (c1 ∷ ingest x ∷ [])) ≡ done ∷ done ∷ []
+  verdicts x d = ap (map verdictIn) (equal (one ∷ x ∷ []) (d .fits) .events) ∙ d .says
 
   pub reached-0 : Reached m s0
   unfolding afterAll
@@ -118,8 +120,8 @@ module _ (m : AStore) (o : OpensRight m) (v : Demand3 (throughout field) m) wher
 
   pub first-verdict : m .call s0 c1 .verdict ≡ done
   unfolding history
-  first-verdict = ap (λ (l : List Verdict). getD l 0 obsolete) verdicts
+  first-verdict = ap (λ (l : List Verdict). getD l 0 obsolete) (verdicts two next-two)
 
-  pub second-verdict : m .call (m .call s0 c1 .left) c2 .verdict ≡ done
+  pub second-verdict : (x : IngestCall) → DoneNext x → m .call (m .call s0 c1 .left) (ingest x) .verdict ≡ done
   unfolding history
-  second-verdict = ap (λ (l : List Verdict). getD l 1 obsolete) verdicts
+  second-verdict x d = ap (λ (l : List Verdict). getD l 1 obsolete) (verdicts x d)

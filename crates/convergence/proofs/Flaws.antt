@@ -21,9 +21,9 @@ use Rattle.store.specs.Ingest.{filed}
 use Rattle.call_laws.specs.Calls.{IngestCall, ingest, filedAs, input, Verdict, obsolete, done}
 use Rattle.call_laws.specs.Checks.{asked}
 use Rattle.call_laws.specs.Outcomes.{Outcome, outcome, opens}
-use Rattle.call_laws.proofs.Did.{so, Did, was-refused, was-obsolete, has-filed, has-forgotten, did}
+use Rattle.call_laws.proofs.Did.{so, Did, was-refused, was-obsolete, was-held, has-filed, has-forgotten, did}
 use Rattle.call_laws.proofs.Stands.{opened-store}
-use Rattle.call_laws.proofs.Right.{refused-done, obsolete-done, not-forgets}
+use Rattle.call_laws.proofs.Right.{refused-done, obsolete-done, held-done, not-forgets}
 use Rattle.convergence.specs.Demand.{ours, history, afterAll, Receipt, receiptOf, notRefused, receipts, received, Run, throughout, events, Plain, Current, receiptIn, Exactly, Contents, Demand3}
 use Rattle.convergence.specs.Examples.{atLimit, one, two, later, other-token}
 use Rattle.convergence.specs.WrongStores.{ifDone, instead, Flaw, counts-only, leaves-bytes, loses-token, available-1, prunes-nothing, prunes-one-tree, in-order-of-arrival, makes, flawed, with-flaw, leaves, Broken, Refuted}
@@ -46,7 +46,7 @@ t0 = opens field (atLimit 2) .left
 begins : t0 ≡ begun
 begins = opened-store field (atLimit 2) (opens-fine 2 ok-2)
 
-abbrev next : Tallied
+abbrev pub next : Tallied
 next = talliedHolding field (record { spt = filedAs one ∷ []; tsp = filedAs one ∷ [] }) begun
 
 -- The verdicts of ours.
@@ -54,9 +54,17 @@ pub first-done : (x : IngestCall) → map verdictIn (history (ours field) t0 (in
 unfolding history
 first-done x e = ap (λ (l : List Verdict). getD l 0 obsolete) e
 
-second-done : (x : IngestCall) → map verdictIn (history (ours field) t0 (ingest one ∷ ingest x ∷ [])) ≡ done ∷ done ∷ [] → outcome field (outcome field t0 (ingest one) .left) (ingest x) .verdict ≡ done
+pub second-says : (x : IngestCall) {v : Verdict} → map verdictIn (history (ours field) t0 (ingest one ∷ ingest x ∷ [])) ≡ done ∷ v ∷ [] → outcome field (outcome field t0 (ingest one) .left) (ingest x) .verdict ≡ v
 unfolding history
-second-done x e = ap (λ (l : List Verdict). getD l 1 obsolete) e
+second-says x e = ap (λ (l : List Verdict). getD l 1 obsolete) e
+
+pub says-later : map verdictIn (history (ours field) t0 (map ingest (one ∷ later ∷ []))) ≡ done ∷ done ∷ []
+unfolding computing
+says-later = computed 2 refl (one ∷ later ∷ []) refl .says-all
+
+pub says-two : map verdictIn (history (ours field) t0 (map ingest (one ∷ two ∷ []))) ≡ done ∷ done ∷ []
+unfolding computing
+says-two = computed 2 refl (one ∷ two ∷ []) refl .says-all
 
 pub done-one : outcome field t0 (ingest one) .verdict ≡ done
 unfolding computing
@@ -79,6 +87,7 @@ ours-files s i d = go (did field s (ingest i))
     go : Did field s (ingest i) → outcome field s (ingest i) .left ≡ makes filed i s
     go (was-refused n e) = refused-done (told e)
     go (was-obsolete j q y m o e) = obsolete-done (told e)
+    go (was-held j q a e) = held-done (told e)
     go (has-filed j q t e) = ap (λ (o : Outcome Tallied). o .left) e ∙ ap (λ (k : IngestCall). makes filed k s) (same q)
     go (has-forgotten p q e) = not-forgets i p q
 
@@ -86,16 +95,17 @@ makes-next : makes filed one begun ≡ next
 unfolding computing reading heldBy
 makes-next = refl
 
-ours-next : outcome field t0 (ingest one) .left ≡ next
+pub ours-next : outcome field t0 (ingest one) .left ≡ next
 ours-next = ours-files t0 one done-one ∙ ap (makes filed one) begins ∙ makes-next
 
+pub next-says : (x : IngestCall) {v : Verdict} → map verdictIn (history (ours field) t0 (ingest one ∷ ingest x ∷ [])) ≡ done ∷ v ∷ [] → outcome field next (ingest x) .verdict ≡ v
+next-says x {v} e = subst (λ (s : Tallied). outcome field s (ingest x) .verdict ≡ v) ours-next (second-says x e)
+
 done-later : outcome field next (ingest later) .verdict ≡ done
-unfolding computing
-done-later = subst (λ (s : Tallied). outcome field s (ingest later) .verdict ≡ done) ours-next (second-done later (computed 2 refl (one ∷ later ∷ []) refl .says-all))
+done-later = next-says later says-later
 
 done-two : outcome field next (ingest two) .verdict ≡ done
-unfolding computing
-done-two = subst (λ (s : Tallied). outcome field s (ingest two) .verdict ≡ done) ours-next (second-done two (computed 2 refl (one ∷ two ∷ []) refl .says-all))
+done-two = next-says two says-two
 
 -- What a store with a flaw leaves after one entry, and after `one` and another where the flaw does not show on the first.
 step : (w : Flaw) (s : Tallied) (i : IngestCall) → outcome field s (ingest i) .verdict ≡ done → with-flaw w .call s (ingest i) .left ≡ flawed w i s

@@ -21,7 +21,7 @@ use Rattle.store.specs.Store.{held, Held, heldBy, Tallied, tallyPart}
 use Rattle.store.specs.Refusal.{unless, _orElse_, limitOk, storeRefusal, talliedRefusal}
 use Rattle.store.specs.Open.{nothing}
 use Rattle.store.specs.Forget.{without, unexpected, forgetEntryRefusal}
-use Rattle.call_laws.specs.Calls.{IngestCall, Target, Call, ingest, filedAs, input, forgets, Verdict, done, numberVerdict, IsValue}
+use Rattle.call_laws.specs.Calls.{IngestCall, Target, Call, ingest, input, forgets, Verdict, done, numberVerdict, IsValue}
 use Rattle.call_laws.specs.Outcomes.{outcome, opens}
 use Rattle.call_laws.proofs.Checked.{tally-words, entry-verdict}
 use Rattle.call_laws.proofs.Stands.{stands-well}
@@ -59,11 +59,11 @@ none-unexpected : (s : Subspace) (p : Components) (digest : List ℕ) (l : List 
 unfolding unexpected
 none-unexpected s p digest l = refute _ λ e. let k = any-view (unexpected s p false digest) l e in clash (and-true (standsAt s p (k .0)) false (k .2) .1) refl
 
-module _ (limit : ℕ) (ok : limitOk limit ≡ true) (is : List IngestCall) (h : all (fine limit) is ≡ true) (dones : says limit nothing (map filedAs is) ≡ replicate (length is) done) where
+module _ (limit : ℕ) (ok : limitOk limit ≡ true) (is : List IngestCall) (h : all (fine limit) is ≡ true) (dones : says limit nothing is ≡ replicate (length is) done) where
   lines-done : (e : Event Tallied) → e ∈ events (runOf limit ok is h) → e .outcome .verdict ≡ done
   lines-done = all-done (events (runOf limit ok is h)) (length is) (computed limit ok is h .says-all ∙ dones)
 
-  pub tallies : (items : List Item) → tallyOf (holds limit nothing (map filedAs is) .spt) ≡ items → Tallies limit (map ingest is) items
+  pub tallies : (items : List Item) → tallyOf (holds limit nothing is .spt) ≡ items → Tallies limit (map ingest is) items
   unfolding heldBy
   tallies items q = record {
     run = runOf limit ok is h;
@@ -103,7 +103,7 @@ module _ (limit : ℕ) (ok : limitOk limit ≡ true) (is : List IngestCall) (h :
     abbrev forgetting : Run (throughout field) (ours field)
     forgetting = record { opening = atLimit limit; accepted = opens-fine limit ok; calls = map ingest is ++ forget x ∷ []; values = forget-values }
 
-    forget-holds : heldBy field (end forgetting .store) ≡ without at (holds limit nothing (map filedAs is))
+    forget-holds : heldBy field (end forgetting .store) ≡ without at (holds limit nothing is)
     unfolding forgets
     forget-holds =
         ap (λ (w : Tallied). heldBy field (w .store)) (after-more (ours field) (opens field (atLimit limit) .left) (map ingest is) (forget x))
@@ -116,7 +116,7 @@ module _ (limit : ℕ) (ok : limitOk limit ≡ true) (is : List IngestCall) (h :
         (λ n. ⊎-elim (λ q. ap verdictIn q ∙ forget-done) (λ k. absurd (none-in k)) (uncons n))
         (unappend (events (runOf limit ok is h)) (subst (λ (H : List (Event Tallied)). e ∈ H) (history-more (ours field) (opens field (atLimit limit) .left) (map ingest is) (forget x)) m))
 
-    pub tallies-without : (items : List Item) → tallyOf (without at (holds limit nothing (map filedAs is)) .spt) ≡ items → Tallies limit (map ingest is ++ forget x ∷ []) items
+    pub tallies-without : (items : List Item) → tallyOf (without at (holds limit nothing is) .spt) ≡ items → Tallies limit (map ingest is ++ forget x ∷ []) items
     unfolding heldBy
     tallies-without items q = record {
       run = forgetting;

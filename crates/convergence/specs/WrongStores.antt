@@ -3,23 +3,23 @@
 use Prim.Native.Nat.{ℕ, suc, _<_}
 use mathlib.Core.Path.{_≡_}
 use mathlib.Core.List.{List, [], _∷_, map, _++_}
-use mathlib.Core.Bool.{Bool, true, false, cond}
+use mathlib.Core.Bool.{Bool, true, false, cond, _&&_}
 use mathlib.Core.Option.{some}
 use lib.ListN.{length, replicate, take, drop}
 use lib.Dec.{eqb}
-use Rattle.laws.specs.Sorted.{_∈_, keep, insert, Ascends}
+use Rattle.laws.specs.Sorted.{_∈_, any, keep, insert, Ascends}
 use Rattle.layout.specs.Layout.{treeBytes, dirNumbers}
-use Rattle.data_model.specs.Path.{field}
+use Rattle.data_model.specs.Path.{field, components}
 use Rattle.data_model.specs.Entry.{entryOf}
 use Rattle.tree.specs.Stored.{Stored, recordOf, keyBelow}
-use Rattle.tree.specs.Matching.{isForgotten}
+use Rattle.tree.specs.Matching.{standsAt, isForgotten}
 use Rattle.tree.specs.declared.stored.KeyOrder.{KeyOrder}
 use Rattle.tree.specs.declared.stored.KeyOrder.the-variants.{Spt, Tsp}
 use Rattle.tally.specs.Tally.{tallyHolding}
 use Rattle.store.specs.Store.{stateWith, Store, storeOf, treeRoom, dirRoom, treeOf, dirOf, held, Held, heldBy, Tallied, talliedHolding}
 use Rattle.store.specs.Open.{nothing}
 use Rattle.store.specs.Ingest.{filing, sptLess, tspLess, stays, filedIn, filed}
-use Rattle.call_laws.specs.Calls.{Opening, IngestCall, AreaForgetting, Call, ingest, forget-entry, forget-area, filedAs, forgets, Verdict, refused, obsolete, done}
+use Rattle.call_laws.specs.Calls.{Opening, IngestCall, AreaForgetting, Call, ingest, forget-entry, forget-area, filedAs, forgets, Verdict, refused, obsolete, already-held, done}
 use Rattle.call_laws.specs.Checks.{OpeningVerdictRight}
 use Rattle.call_laws.specs.Outcomes.{Outcome, outcome, opens}
 use Rattle.convergence.specs.Demand.{Machine, Event, afterAll, receiptOf, notRefused, Run, throughout, events, end, receiptIn, Exactly, Demand3}
@@ -48,6 +48,15 @@ FilesNothing m = (s : Tallied) → Reached m s → (i : IngestCall) (k : KeyOrde
 abbrev pub FirstOnly : AStore → Type 0
 FirstOnly m = (s : Tallied) → Reached m s → (i : IngestCall) → (s .store .state .count ≡ 0 → ⊥) → notRefused (outcome field s (ingest i) .verdict) ≡ true → m .call s (ingest i) .verdict ≡ obsolete
 
+-- It calls held whatever comes to a place where an entry is stored, and would not be refused: later readings are lost to earlier ones.
+unfoldable pub isOccupied : Tallied → Call → Bool
+isOccupied s (ingest i) = any (standsAt (i .handed .entry .«subspace_id») (components (i .handed .entry .path))) (held field Spt (s .store))
+isOccupied s (forget-entry p) = false
+isOccupied s (forget-area a) = false
+
+abbrev pub HoldsByPlace : AStore → Type 0
+HoldsByPlace m = (s : Tallied) → Reached m s → (c : Call) → isOccupied s c ≡ true → notRefused (outcome field s c .verdict) ≡ true → m .call s c .verdict ≡ already-held
+
 -- It says 8 although fewer than the limit are left after pruning.
 abbrev pub FullBelow : AStore → Type 0
 FullBelow m = (i : IngestCall)
@@ -72,9 +81,9 @@ abbrev pub MadeUpCount : AStore → Type 0
 MadeUpCount m = (a : AreaForgetting)
     × Happens m λ e. (e .call ≡ forget-area a) × (e .outcome .verdict ≡ done) × (e .outcome .number ≡ length (keep (isForgotten (a .area) (a .protects) (a .protected)) (held field Spt (e .before .store))) → ⊥)
 
--- It changes the store or its tally though the call is refused; it opens a store of limit 0.
-abbrev pub ChangesRefused : AStore → Type 0
-ChangesRefused m = Happens m λ e. (notRefused (e .outcome .verdict) ≡ false) × (e .outcome .left ≡ e .before → ⊥)
+-- It changes the store or its tally though the call is not done: refused, obsolete or held. It opens a store of limit 0.
+abbrev pub ChangesUndone : AStore → Type 0
+ChangesUndone m = Happens m λ e. (e .outcome .verdict ≡ done → ⊥) × (e .outcome .left ≡ e .before → ⊥)
 
 abbrev pub OpensNone : AStore → Type 0
 OpensNone m = m .opening (atLimit 0) .verdict ≡ done
@@ -93,6 +102,10 @@ always v n = record { opening = opens field; call = λ s c. record { verdict = v
 
 abbrev pub until-one : AStore
 until-one = record { opening = opens field; call = λ s c. cond (eqb (s .store .state .count) 0) (outcome field s c) (record { verdict = obsolete; number = 0; left = s }) }
+
+-- As ours, but that whatever comes to a place where an entry is stored is held.
+abbrev pub by-place : AStore
+by-place = record { opening = opens field; call = λ s c. cond (isOccupied s c && notRefused (outcome field s c .verdict)) (record { verdict = already-held; number = 0; left = s }) (outcome field s c) }
 
 -- As ours, but for the store that a call leaves.
 abbrev pub leaving : (Tallied → Call → Outcome Tallied → Tallied) → AStore
@@ -127,7 +140,14 @@ hasty = leaving λ s c o. record { store = o .left .store; tally = tallyHolding 
 unfoldable pub ifDone : {A : Type 0} → Verdict → A → A → A
 ifDone (refused n) a b = b
 ifDone obsolete a b = b
+ifDone already-held a b = b
 ifDone done a b = a
+
+unfoldable pub ifHeld : {A : Type 0} → Verdict → A → A → A
+ifHeld (refused n) a b = b
+ifHeld obsolete a b = b
+ifHeld already-held a b = a
+ifHeld done a b = b
 
 unfoldable pub instead : (IngestCall → Tallied → Tallied) → Tallied → Call → Outcome Tallied → Tallied
 instead g s (ingest i) o = ifDone (o .verdict) (g i s) s
@@ -149,6 +169,15 @@ flawed available-1 i s = makes (λ x h. filed (record { entry = x .entry; token 
 flawed prunes-nothing i s = makes (λ x h. record { spt = insert sptLess x (h .spt); tsp = insert tspLess x (h .tsp) }) i s
 flawed prunes-one-tree i s = makes (λ x h. record { spt = filedIn Spt x (h .spt); tsp = insert tspLess x (h .tsp) }) i s
 flawed in-order-of-arrival i s = makes (λ x h. record { spt = filedIn Spt x (h .spt); tsp = keep (stays (x .entry)) (h .tsp) ++ x ∷ [] }) i s
+
+-- As ours, but that an entry which is held is filed again, with the token that it now came with.
+unfoldable pub filesHeld : Tallied → Call → Outcome Tallied → Tallied
+filesHeld s (ingest i) o = ifHeld (o .verdict) (makes filed i s) (o .left)
+filesHeld s (forget-entry p) o = o .left
+filesHeld s (forget-area a) o = o .left
+
+abbrev pub renewing : AStore
+renewing = leaving filesHeld
 
 abbrev pub with-flaw : Flaw → AStore
 with-flaw w = leaving (instead (flawed w))
@@ -173,13 +202,14 @@ Refuted m = Demand3 (throughout field) m → ⊥
 pub record ShutOut : Type 0 where
   pub filing-nothing : (m : AStore) → OpensRight m → FilesNothing m → Refuted m
   pub filing-the-first : (m : AStore) → OpensRight m → FirstOnly m → Refuted m
+  pub holding-by-place : (m : AStore) → OpensRight m → HoldsByPlace m → Refuted m
   pub full-below : (m : AStore) → FullBelow m → Refuted m
   pub refusing-everybody : (m : AStore) → OpensRight m → RefusesAll m → Refuted m
   pub one-verdict : (m : AStore) → OpensRight m → OneVerdict m → Refuted m
   pub forgetting-nothing : (m : AStore) → OpensRight m → ForgetsNothing m → Refuted m
   pub forgetting-one-tree : (m : AStore) → OpensRight m → ForgetsOneTree m → Refuted m
   pub made-up-count : (m : AStore) → MadeUpCount m → Refuted m
-  pub changing-refused : (m : AStore) → ChangesRefused m → Refuted m
+  pub changing-undone : (m : AStore) → ChangesUndone m → Refuted m
   pub opening-none : (m : AStore) → OpensNone m → Refuted m
   pub tallying-nothing : (m : AStore) → OpensRight m → TalliesNothing m → Refuted m
   pub tallying-before : (m : AStore) → OpensRight m → TalliesBefore m → Refuted m
@@ -188,13 +218,15 @@ pub record ShutOut : Type 0 where
   -- There are such, and others that are as ours but for one thing.
   pub one-files-nothing : OpensRight (always done 0) × FilesNothing (always done 0)
   pub one-files-the-first : OpensRight until-one × FirstOnly until-one
+  pub one-holds-by-place : OpensRight by-place × HoldsByPlace by-place
   pub one-is-full-below : FullBelow (always (refused 8) 0)
   pub one-refuses-everybody : (n : ℕ) → OpensRight (always (refused n) 0) × RefusesAll (always (refused n) 0)
   pub one-has-one-verdict : (v : Verdict) → OpensRight (always v 0) × OneVerdict (always v 0)
   pub one-forgets-nothing : OpensRight idle × ForgetsNothing idle
   pub one-forgets-one-tree : OpensRight haunted × ForgetsOneTree haunted
   pub one-makes-it-up : MadeUpCount (always done 1)
-  pub one-changes-refused : ChangesRefused wiping
+  pub one-changes-refused : ChangesUndone wiping
+  pub one-renews-held : ChangesUndone renewing
   pub one-opens-none : OpensNone opening-all
   pub one-tallies-nothing : OpensRight silent × TalliesNothing silent
   pub one-tallies-before : OpensRight hasty × TalliesBefore hasty

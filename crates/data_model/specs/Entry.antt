@@ -44,7 +44,7 @@ entryOf e = record {
 unfoldable pub byRank : Rank → Rank → Order
 byRank a b = byNumber (a .timestamp) (b .timestamp) then byBytes (a .«payload_digest») (b .«payload_digest») then byNumber (a .«payload_length») (b .«payload_length»)
 
--- Newer: greater in the first of these that differs.
+-- Newer: greater in the first of these that differs. (`recencySays` has all three cases: newer, older, the same.)
 unfoldable pub newer : Entry → Entry → Bool
 newer a b = isGreater (byRank (a .rank) (b .rank))
 

@@ -9,6 +9,10 @@ use Rattle.data_model.specs.declared.answer.Compared.{Compared}
 use Rattle.data_model.specs.declared.answer.Compared.the-variants as compare
 use Rattle.data_model.specs.declared.answer.Ordering.{Ordering}
 use Rattle.data_model.specs.declared.answer.Ordering.the-variants as ordering
+use Rattle.data_model.specs.declared.answer.Recency.{Recency}
+use Rattle.data_model.specs.declared.answer.Recency.the-variants as recency
+use Rattle.data_model.specs.declared.answer.EntriesCompared.{EntriesCompared}
+use Rattle.data_model.specs.declared.answer.EntriesCompared.the-variants as entries
 
 -- The limit is outside 1 to 1,024.
 abbrev pub badLimit : ℕ
@@ -68,6 +72,20 @@ unfoldable pub orderingSays : Ordering → Order
 orderingSays ordering.Less = less
 orderingSays ordering.Equal = same
 orderingSays ordering.Greater = greater
+
+-- The comparison of two entries by their ranks: the first is newer if its rank is the greater one, older if it is the lesser, the same if neither is
+-- (`compared-newer`, `compared-older`, `compared-same`: so it is by `newer`).
+unfoldable pub recencySays : Recency → Order
+recencySays recency.Newer = greater
+recencySays recency.Older = less
+recencySays recency.Same = same
+
+-- That comparison where it may be refused.
+unfoldable pub entriesComparedSays : EntriesCompared → Said Order
+entriesComparedSays entries.Newer = says (recencySays recency.Newer)
+entriesComparedSays entries.Older = says (recencySays recency.Older)
+entriesComparedSays entries.Same = says (recencySays recency.Same)
+entriesComparedSays (entries.Refused n) = refuses n
 
 -- What is answered to a question about paths, or to their comparison: 4 if one of them is illegal, else what holds.
 unfoldable pub answered : {A : Type 0} → (legal : Bool) → A → Said A

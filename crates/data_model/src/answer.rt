@@ -1,8 +1,8 @@
 // Answers, and the numbers of the refusals, of every layer.
 ghost use mathlib.Core.Path.{_≡_};
 ghost use mathlib.Core.Bool.{true};
-ghost use Rattle.laws.specs.Order.{isLess, isSame, isGreater, byNumber};
-ghost use Rattle.data_model.specs.Refusal.{answerSays, answered, orderingSays};
+ghost use Rattle.laws.specs.Order.{isLess, isSame, byNumber};
+ghost use Rattle.data_model.specs.Refusal.{answerSays, answered, orderingSays, recencySays};
 
 // The limit is outside 1 to 1,024.
 pub const BAD_LIMIT: u8 = 1;
@@ -53,6 +53,21 @@ pub enum Ordering {
     Greater,
 }
 
+// How the first of two entries stands to the second.
+pub enum Recency {
+    Newer,
+    Older,
+    Same,
+}
+
+// How the first of two entries stands to the second; or the refusal.
+pub enum EntriesCompared {
+    Newer,
+    Older,
+    Same,
+    Refused(u8),
+}
+
 pub fn yes_or_no(holds: bool) -> Answer
     ensures { λ r. ⌜ answerSays r ≡ answered true holds ⌝ }
 {
@@ -82,13 +97,14 @@ pub fn is_equal(o: Ordering) -> bool
     }
 }
 
-pub fn is_greater(o: Ordering) -> bool
-    ensures { λ r. ⌜ r ≡ isGreater (orderingSays o) ⌝ }
+// The case for each order of two ranks, which is the order of the first of their parts that differs: the greater is the newer.
+pub fn recency_of(o: Ordering) -> Recency
+    ensures { λ r. ⌜ recencySays r ≡ orderingSays o ⌝ }
 {
     match o {
-        Ordering::Less => false,
-        Ordering::Equal => false,
-        Ordering::Greater => true,
+        Ordering::Less => Recency::Older,
+        Ordering::Equal => Recency::Same,
+        Ordering::Greater => Recency::Newer,
     }
 }
 

@@ -1,9 +1,10 @@
 // For the layers above, and below the public entries: questions about paths that are legal already.
 use crate::answer::Ordering;
+use crate::answer::Recency;
 use crate::answer::compare_numbers;
 use crate::answer::is_equal;
-use crate::answer::is_greater;
 use crate::answer::is_less;
+use crate::answer::recency_of;
 use crate::area::Area;
 use crate::entry::Entry;
 use crate::entry::Rank;
@@ -15,13 +16,12 @@ ghost use mathlib.Core.Path.{_≡_};
 ghost use mathlib.Core.Bool.{true};
 ghost use lib.ListN.{length};
 ghost use Rattle.data_model.specs.Path.{field, legal, legalEnds, cut, components, byBytes, byComponents, samePath, isPrefix};
-ghost use Rattle.laws.specs.Order.{isGreater};
 ghost use Rattle.laws.specs.Prefix.{sameList, sameNumber};
 ghost use Rattle.data_model.specs.Entry.{covers, entryOf, byRank, prunes};
 ghost use Rattle.data_model.specs.Range.{legalRange, pathsInclude};
 ghost use Rattle.data_model.specs.Range3d.{rangeIncludes};
 ghost use Rattle.data_model.specs.Area.{areaIncludes};
-ghost use Rattle.data_model.specs.Refusal.{orderingSays};
+ghost use Rattle.data_model.specs.Refusal.{orderingSays, recencySays};
 
 // How bytes compare: by the first that differs, a beginning being less.
 pub fn compare_bytes(a: &[u8], b: &[u8]) -> Ordering
@@ -126,7 +126,7 @@ pub fn same_bytes(a: &[u8], b: &[u8]) -> bool
     is_equal(compare_bytes(a, b))
 }
 
-// How a rank stands to another one, both given by timestamp, digest and payload length: by the first of these that differs.
+// Which of two entries is newer, their ranks given by timestamp, digest and payload length: by the first of these that differs.
 pub fn compare_ranks(
     time: u64,
     digest: &[u8],
@@ -134,28 +134,28 @@ pub fn compare_ranks(
     other_time: u64,
     other_digest: &[u8],
     other_length: u64,
-) -> Ordering
-    ensures { λ r. ⌜ orderingSays r ≡ byRank (record { timestamp = time; «payload_digest» = now (digest .entry); «payload_length» = length }) (record { timestamp = «other_time»; «payload_digest» = now («other_digest» .entry); «payload_length» = «other_length» }) ⌝ }
+) -> Recency
+    ensures { λ r. ⌜ recencySays r ≡ byRank (record { timestamp = time; «payload_digest» = now (digest .entry); «payload_length» = length }) (record { timestamp = «other_time»; «payload_digest» = now («other_digest» .entry); «payload_length» = «other_length» }) ⌝ }
 {
     let times = compare_numbers(time, other_time);
     match times {
-        Ordering::Less => Ordering::Less,
+        Ordering::Less => Recency::Older,
         Ordering::Equal => {
             let digests = compare_bytes(digest, other_digest);
             match digests {
-                Ordering::Less => Ordering::Less,
-                Ordering::Equal => compare_numbers(length, other_length),
-                Ordering::Greater => Ordering::Greater,
+                Ordering::Less => Recency::Older,
+                Ordering::Equal => recency_of(compare_numbers(length, other_length)),
+                Ordering::Greater => Recency::Newer,
             }
         }
-        Ordering::Greater => Ordering::Greater,
+        Ordering::Greater => Recency::Newer,
     }
 }
 
 impl Rank {
-    // How two ranks compare: by timestamp, then digest as bytes, then payload length.
-    pub fn cmp(self, other: Rank) -> Ordering
-        ensures { λ r. ⌜ orderingSays r ≡ byRank self other ⌝ }
+    // Whether an entry of this rank is newer than one of the other, older or the same: by timestamp, then digest as bytes, then payload length.
+    pub fn compare(self, other: Rank) -> Recency
+        ensures { λ r. ⌜ recencySays r ≡ byRank self other ⌝ }
     {
         let a = self.payload_digest;
         let b = other.payload_digest;
@@ -168,13 +168,6 @@ impl Rank {
             other.payload_length,
         )
     }
-}
-
-// Whether the first rank is the newer one.
-pub fn is_newer_than(a: Rank, b: Rank) -> bool
-    ensures { λ r. ⌜ r ≡ isGreater (byRank a b) ⌝ }
-{
-    is_greater(a.cmp(b))
 }
 
 // Whether the first covers the second: of one namespace and subspace, its path the other's or a prefix of it.
@@ -204,7 +197,13 @@ pub fn prunes(a: Entry, b: Entry) -> bool
     if !covers(a, b) {
         return false;
     }
-    is_newer_than(a.rank(), b.rank())
+    let rank = a.rank();
+    let r = rank.compare(b.rank());
+    match r {
+        Recency::Newer => true,
+        Recency::Older => false,
+        Recency::Same => false,
+    }
 }
 
 pub fn range_includes_path(range: PathRange, path: Path) -> bool

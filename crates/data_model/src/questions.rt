@@ -3,8 +3,10 @@ use crate::above::Above;
 use crate::above::least_above;
 use crate::answer::Answer;
 use crate::answer::Compared;
+use crate::answer::EntriesCompared;
 use crate::answer::ILLEGAL_PATH;
 use crate::answer::Ordering;
+use crate::answer::Recency;
 use crate::answer::yes_or_no;
 use crate::area::Area;
 use crate::checked;
@@ -18,11 +20,11 @@ ghost use mathlib.Core.Path.{_≡_};
 ghost use mathlib.Core.Bool.{_&&_};
 ghost use Rattle.data_model.specs.Path.{field, legal, components, byComponents, samePath, isPrefix};
 ghost use Rattle.data_model.specs.Above.{aboveAnswer};
-ghost use Rattle.data_model.specs.Entry.{entryOf, newer, prunes};
+ghost use Rattle.data_model.specs.Entry.{entryOf, rankOf, byRank, prunes};
 ghost use Rattle.data_model.specs.Range.{legalRange, pathsInclude};
 ghost use Rattle.data_model.specs.Range3d.{rangeIncludes};
 ghost use Rattle.data_model.specs.Area.{areaIncludes};
-ghost use Rattle.data_model.specs.Refusal.{answerSays, answered, comparedSays};
+ghost use Rattle.data_model.specs.Refusal.{answerSays, answered, comparedSays, entriesComparedSays};
 
 impl Path {
     // How two paths compare: component by component, each by its bytes; refused if one is illegal.
@@ -84,16 +86,22 @@ impl Path {
 }
 
 impl Entry {
-    // Whether this entry is newer: by timestamp, then digest as bytes, then payload length; refused if a path is illegal.
-    pub fn is_newer_than(self, other: Entry) -> Answer
-        ensures { λ r. ⌜ answerSays r ≡ answered (legal field (self .path) && legal field (other .path)) (newer (entryOf self) (entryOf other)) ⌝ }
+    // Whether this entry is newer than the other, older or the same: by timestamp, then digest as bytes, then payload length; refused if a path is illegal.
+    pub fn compare(self, other: Entry) -> EntriesCompared
+        ensures { λ r. ⌜ entriesComparedSays r ≡ answered (legal field (self .path) && legal field (other .path)) (byRank (rankOf self) (rankOf other)) ⌝ }
     {
         let p = self.path;
         let q = other.path;
         if !both_legal(p, q) {
-            return Answer::Refused(ILLEGAL_PATH);
+            return EntriesCompared::Refused(ILLEGAL_PATH);
         }
-        yes_or_no(checked::is_newer_than(self.rank(), other.rank()))
+        let rank = self.rank();
+        let r = rank.compare(other.rank());
+        match r {
+            Recency::Newer => EntriesCompared::Newer,
+            Recency::Older => EntriesCompared::Older,
+            Recency::Same => EntriesCompared::Same,
+        }
     }
 
     // Whether this entry prunes the other: of one namespace and subspace, its path the other's or a prefix of it, and newer; refused if a path is illegal.

@@ -1,4 +1,4 @@
--- Laws of entries: `newer` is a strict order, total up to equal ranks; `covers` is reflexive and transitive; `prunes` is a strict order.
+-- Laws of entries: `newer` is a strict order, total up to equal ranks; what each case of their comparison says by it; `covers` is reflexive and transitive; `prunes` is a strict order.
 -- Assumes nothing.
 use mathlib.Core.Path.{_≡_, refl, sym, ap, _∙_}
 use mathlib.Core.Logic.{_↔_}
@@ -6,11 +6,13 @@ use mathlib.Core.Bool.{true, false, _&&_}
 use Rattle.laws.specs.Order.{Order, less, same, greater, flip, isLess, isGreater, below}
 use Rattle.laws.specs.Prefix.{sameNumber, sameList}
 use Rattle.laws.proofs.Truth.{split, clash, refute, and-true}
-use Rattle.laws.proofs.Order.{below-strict, below-total}
+use Rattle.laws.proofs.Order.{is-less, is-greater, below-strict, below-total}
 use Rattle.laws.proofs.Prefix.{prefix-refl, prefix-trans}
 use Rattle.data_model.specs.Path.{sameComponent, isPrefix}
 use Rattle.data_model.specs.Subspace.{sameSubspace}
 use Rattle.data_model.specs.Entry.{Entry, byRank, newer, covers, prunes}
+use Rattle.data_model.specs.Refusal.{recencySays}
+use Rattle.data_model.specs.declared.answer.Recency.the-variants as recency
 use Rattle.data_model.proofs.Orders.{component-equality, subspace-equality, rank-linear}
 
 -- Newer: greater in rank, which is timestamp, digest and length.
@@ -43,6 +45,19 @@ newer-tied a b q = ap (λ r. isGreater (byRank (a .rank) r)) (sym q) ∙ newer-i
 -- Neither is newer exactly if timestamp, digest and length all agree.
 pub newer-neither : (a b : Entry) → ((newer a b ≡ false) × (newer b a ≡ false)) ↔ (a .rank ≡ b .rank)
 newer-neither a b = (λ h. newer-total a b (h .0) (h .1), λ q. (newer-tied a b q, newer-tied b a (sym q)))
+
+-- What each case of the comparison of two entries says: the first is newer; the second is; they agree in timestamp, digest and length.
+pub compared-newer : (a b : Entry) → (byRank (a .rank) (b .rank) ≡ recencySays recency.Newer) ↔ (newer a b ≡ true)
+unfolding recencySays newer isGreater
+compared-newer a b = (λ e. rw e refl, λ e. is-greater _ e)
+
+pub compared-older : (a b : Entry) → (byRank (a .rank) (b .rank) ≡ recencySays recency.Older) ↔ (newer b a ≡ true)
+unfolding recencySays below isLess
+compared-older a b = (λ e. newer-below b a ∙ rw e refl, λ e. is-less _ (sym (newer-below b a) ∙ e))
+
+pub compared-same : (a b : Entry) → (byRank (a .rank) (b .rank) ≡ recencySays recency.Same) ↔ (a .rank ≡ b .rank)
+unfolding recencySays
+compared-same a b = (λ e. rank-linear .equal (a .rank) (b .rank) e, λ q. ap (byRank (a .rank)) (sym q) ∙ rank-linear .self (a .rank))
 
 -- The first is at least as new as the second, which is newer than the third.
 pub newer-weak : (a b c : Entry) → newer b a ≡ false → newer b c ≡ true → newer a c ≡ true

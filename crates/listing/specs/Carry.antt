@@ -8,7 +8,7 @@ use Rattle.data_model.specs.Path.{Figures}
 use Rattle.data_model.specs.Refusal.{illegalPath}
 use Rattle.data_model.specs.declared.entry.Entry.{Entry as EntryValue}
 use Rattle.store.specs.Store.{Tallied, talliedOf}
-use Rattle.store.specs.Ingest.{Verdict, succeeds, is-obsolete, IngestOutcome, ingested}
+use Rattle.store.specs.Ingest.{Verdict, succeeds, is-obsolete, is-held, IngestOutcome, ingested}
 use Rattle.store.specs.declared.state.State.{State}
 use Rattle.store.specs.declared.ingest.Ingestion.{Ingestion}
 use Rattle.text.specs.EntryLine.{lineRead}
@@ -34,10 +34,11 @@ entryOfLine e = record {
 abbrev pub ingestionOfLine : EntryLine → Ingestion
 ingestionOfLine e = record { entry = entryOfLine e; token = replicate 64 0; «prevent_pruning» = false }
 
--- `ok`, `obsolete`, or `refused` and the number.
+-- `ok`, `obsolete`, `held`, or `refused` and the number.
 unfoldable pub answerOf : Said Verdict → Answer
 answerOf (says (succeeds n)) = answer.Ok
 answerOf (says is-obsolete) = answer.Obsolete
+answerOf (says is-held) = answer.Held
 answerOf (refuses n) = answer.Refused n
 
 -- The answer to a line that says no entry.

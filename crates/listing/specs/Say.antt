@@ -10,7 +10,7 @@ use Rattle.text.specs.Decimal.{decimalText}
 use Rattle.text.specs.EntryLine.{space, listedText}
 use Rattle.listing.specs.Input.{newline}
 use Rattle.listing.specs.declared.carry.Answer.{Answer}
-use Rattle.listing.specs.declared.carry.Answer.the-variants.{Ok, Obsolete, Bad, Refused}
+use Rattle.listing.specs.declared.carry.Answer.the-variants.{Ok, Obsolete, Held, Bad, Refused}
 
 -- The most bytes of a number and the line's end.
 abbrev pub numberMost : ℕ
@@ -24,10 +24,11 @@ numbered word n = word ++ (decimalText n ++ newline ∷ [])
 abbrev pub refusedWord : List ℕ
 refusedWord = 114 ∷ 101 ∷ 102 ∷ 117 ∷ 115 ∷ 101 ∷ 100 ∷ space ∷ []
 
--- `ok`, `obsolete`, `bad`, `refused` and the number; each with the line's end.
+-- `ok`, `obsolete`, `held`, `bad`, `refused` and the number; each with the line's end.
 unfoldable pub answerText : Answer → List ℕ
 answerText Ok = 111 ∷ 107 ∷ newline ∷ []
 answerText Obsolete = 111 ∷ 98 ∷ 115 ∷ 111 ∷ 108 ∷ 101 ∷ 116 ∷ 101 ∷ newline ∷ []
+answerText Held = 104 ∷ 101 ∷ 108 ∷ 100 ∷ newline ∷ []
 answerText Bad = 98 ∷ 97 ∷ 100 ∷ newline ∷ []
 answerText (Refused n) = numbered refusedWord n
 

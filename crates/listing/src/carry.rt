@@ -19,6 +19,7 @@ ghost use Rattle.listing.specs.Carry.{entryOfLine, ingestionOfLine, answ
 pub enum Answer {
     Ok,
     Obsolete,
+    Held,
     Bad,
     Refused(u8),
 }
@@ -65,6 +66,7 @@ fn answer_of(verdict: IngestVerdict) -> Answer
     match verdict {
         IngestVerdict::Success(_) => Answer::Ok,
         IngestVerdict::Obsolete => Answer::Obsolete,
+        IngestVerdict::Held => Answer::Held,
         IngestVerdict::Refused(n) => Answer::Refused(n),
     }
 }

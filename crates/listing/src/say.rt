@@ -53,6 +53,7 @@ pub fn write_answer(answer: Answer, out: &mut [u8]) -> usize
     match answer {
         Answer::Ok => write_bytes(b"ok\n", out),
         Answer::Obsolete => write_bytes(b"obsolete\n", out),
+        Answer::Held => write_bytes(b"held\n", out),
         Answer::Bad => write_bytes(b"bad\n", out),
         Answer::Refused(n) => write_numbered(b"refused ", wide(n), out),
     }

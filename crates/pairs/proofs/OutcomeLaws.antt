@@ -14,7 +14,7 @@ use Rattle.laws.specs.Sorted.{keep}
 use Rattle.laws.proofs.Truth.{split}
 use Rattle.layout.specs.Marks.{marksOf}
 use Rattle.layout.proofs.MarkLaws.{length-marks, count-marks, length-marked}
-use Rattle.data_model.specs.Said.{says}
+use Rattle.data_model.specs.Said.{refuses, says}
 use Rattle.data_model.specs.Path.{field}
 use Rattle.data_model.specs.Entry.{entryOf}
 use Rattle.data_model.specs.declared.entry.Entry.{Entry as EntryValue}
@@ -23,7 +23,7 @@ use Rattle.tree.specs.declared.stored.KeyOrder.the-variants.{Spt}
 use Rattle.tree.proofs.FormedContents.{formed-many}
 use Rattle.store.specs.Store.{Store, limitMost, dirRoom, dirOf, held, Tallied}
 use Rattle.store.specs.Refusal.{unless, _orElse_, limitOk, storeRefusal, talliedRefusal}
-use Rattle.store.specs.Ingest.{succeeds, IngestSaid, Decision, refuse, obsolete, take-it, ingestRefusal, judged, MayFile, IngestOutcome, ingestOutcome, prunedPairs, carried, ingested}
+use Rattle.store.specs.Ingest.{succeeds, is-held, IngestSaid, Decision, refuse, obsolete, already, take-it, ingestRefusal, judged, MayFile, plainAnswer, obsoleteAnswer, IngestOutcome, ingestOutcome, prunedPairs, carried, ingested}
 use Rattle.store.specs.declared.ingest.Ingestion.{Ingestion}
 use Rattle.store.proofs.CheckLaws.{limit-most}
 use Rattle.store.proofs.IngestLaws.{Ready}
@@ -129,26 +129,30 @@ module _ (w : Tallied) (ps : List Pair) (i : Ingestion) (r : IngestSaid) (a b c 
   front xs old m l f q =
       sym (take-take (2 * m) (numbersUsed (length ps)) ns f) ∙ ap (take (2 * m)) q ∙ take-at xs (drop (length xs) old) (2 * m) l
 
+  -- An answer alone: store, tally and prune list are as they were.
+  abbrev leaving : IngestSaid → (prune : List ℕ) → IngestOutcome
+  leaving said prune = record { answer = said; left = w; prune = prune }
+
+  -- A decision that comes to an answer alone prunes nothing, and the pairs stay.
+  nothing-pruned : (x : Decision) (said : IngestSaid) → judged field w own (i .entry) (i .«prevent_pruning») ≡ x
+      → ((prune : List ℕ) → carried field w prune (entryOf (i .entry)) (i .token) x ≡ leaving said prune) → prunedCount (said .verdict) ≡ 0 → Layered w ps i r a b c d t ns n
+  unfolding ingested pairsIngested
+  nothing-pruned x said j same none =
+      let q : ingestOutcome r a b c d t (take (numbersUsed (length ps)) ns) ≡ leaving said own = eq ∙ ap (carried field w own (entryOf (i .entry)) (i .token)) j ∙ same own in
+      let z : n ≡ 0 = en ∙ ap (λ (y : IngestOutcome). prunedCount (y .answer .verdict)) q ∙ none in
+      record {
+        few = omega arith;
+        done = λ now h.
+            (λ k. record { answer = q k .answer; left = q k .left; pairs = nothing-put now z h k })
+            ∙ sym (ap inPairs (same (numbersOf ps)))
+            ∙ sym (ap (λ (y : Decision). inPairs (carried field w (numbersOf ps) (entryOf (i .entry)) (i .token) y)) (sym decides ∙ j));
+      }
+
   by-decision : (x : Decision) → judged field w own (i .entry) (i .«prevent_pruning») ≡ x → Layered w ps i r a b c d t ns n
   unfolding ingested carried pairsIngested
-  by-decision (refuse k) j =
-      let q : ingestOutcome r a b c d t (take (numbersUsed (length ps)) ns) ≡ carried field w own (entryOf (i .entry)) (i .token) (refuse k) = eq ∙ ap (carried field w own (entryOf (i .entry)) (i .token)) j in
-      let z : n ≡ 0 = en ∙ ap (λ (x : IngestOutcome). prunedCount (x .answer .verdict)) q in
-      record {
-        few = omega arith;
-        done = λ now h.
-            (λ k. record { answer = q k .answer; left = q k .left; pairs = nothing-put now z h k })
-            ∙ sym (ap (λ (x : Decision). inPairs (carried field w (numbersOf ps) (entryOf (i .entry)) (i .token) x)) (sym decides ∙ j));
-      }
-  by-decision (obsolete x) j =
-      let q : ingestOutcome r a b c d t (take (numbersUsed (length ps)) ns) ≡ carried field w own (entryOf (i .entry)) (i .token) (obsolete x) = eq ∙ ap (carried field w own (entryOf (i .entry)) (i .token)) j in
-      let z : n ≡ 0 = en ∙ ap (λ (x : IngestOutcome). prunedCount (x .answer .verdict)) q in
-      record {
-        few = omega arith;
-        done = λ now h.
-            (λ k. record { answer = q k .answer; left = q k .left; pairs = nothing-put now z h k })
-            ∙ sym (ap (λ (x : Decision). inPairs (carried field w (numbersOf ps) (entryOf (i .entry)) (i .token) x)) (sym decides ∙ j));
-      }
+  by-decision (refuse k) j = nothing-pruned (refuse k) (plainAnswer (refuses k) (w .store .state)) j (λ prune. refl) refl
+  by-decision (obsolete x) j = nothing-pruned (obsolete x) (obsoleteAnswer (w .store .state) x) j (λ prune. refl) refl
+  by-decision already j = nothing-pruned already (plainAnswer (says is-held) (w .store .state)) j (λ prune. refl) refl
   by-decision take-it j =
       let m = removedBy (w .store) (i .entry) in
       let pruned = prunedPairs field (w .store) (entryOf (i .entry)) in

@@ -18,12 +18,12 @@ use Rattle.data_model.specs.Path.{field, legal}
 use Rattle.data_model.specs.Entry.{Entry, entryOf}
 use Rattle.data_model.specs.Refusal.{shortBuffer, illegalPath, badLimit, notWellFormed, otherNamespace, pruningPrevented, full, wrongTally}
 use Rattle.tree.specs.Stored.{Stored}
-use Rattle.tree.specs.Matching.{outdates, removes}
+use Rattle.tree.specs.Matching.{outdates, removes, repeats}
 use Rattle.tree.specs.declared.stored.KeyOrder.the-variants.{Spt}
 use Rattle.tally.specs.Tally.{tallyRight}
 use Rattle.store.specs.Store.{dirRoom, held, wellFormedStore, Tallied}
 use Rattle.store.specs.Refusal.{unless, _orElse_, limitOk, roomy, storeRefusal, tallyFits, talliedRefusal}
-use Rattle.store.specs.Ingest.{succeeds, Decision, refuse, obsolete, take-it, stays, firstThat, decidedOf, decided, ingestRefusal, judged, MayFile, prunedPairs, plainAnswer, carried, ingested}
+use Rattle.store.specs.Ingest.{succeeds, Decision, refuse, obsolete, already, take-it, stays, firstThat, decidedOf, decided, ingestRefusal, judged, MayFile, prunedPairs, plainAnswer, carried, ingested}
 use Rattle.store.specs.declared.ingest.Ingestion.{Ingestion}
 use Rattle.store.proofs.FileLaws.{success-may}
 use Rattle.pairs.specs.Pairs.{pairsOf, numbersOf, pairsIngested}
@@ -34,21 +34,24 @@ use Rattle.pairs.proofs.OutcomeLaws.{removedBy, pruned-length}
 abbrev refusalIn : Decision → ℕ
 refusalIn (refuse n) = n
 refusalIn (obsolete x) = 0
+refusalIn already = 0
 refusalIn take-it = 0
 
 carried-number : (w : Tallied) (prune : List ℕ) (e : Entry) (token : List ℕ) (d : Decision) → numberOf (carried field w prune e token d .answer .verdict) ≡ refusalIn d
 unfolding numberOf carried
 carried-number w prune e token (refuse n) = refl
 carried-number w prune e token (obsolete x) = refl
+carried-number w prune e token already = refl
 carried-number w prune e token take-it = refl
 
 -- No decision is 2, and no test is left that gives 2.
-decision-not-2 : (o : Option Stored) (a b : Bool) → refusalIn (decidedOf o (cond a (refuse pruningPrevented) (cond b (refuse full) take-it))) ≡ shortBuffer → ⊥
+decision-not-2 : (o : Option Stored) (a b c : Bool) → refusalIn (decidedOf o (cond a already (cond b (refuse pruningPrevented) (cond c (refuse full) take-it)))) ≡ shortBuffer → ⊥
 unfolding decidedOf
-decision-not-2 (some x) a b h = let z : _≡_ {A = ℕ} 0 2 = h in omega arith
-decision-not-2 none true b h = let z : _≡_ {A = ℕ} 7 2 = h in omega arith
-decision-not-2 none false true h = let z : _≡_ {A = ℕ} 8 2 = h in omega arith
-decision-not-2 none false false h = let z : _≡_ {A = ℕ} 0 2 = h in omega arith
+decision-not-2 (some x) a b c h = let z : _≡_ {A = ℕ} 0 2 = h in omega arith
+decision-not-2 none true b c h = let z : _≡_ {A = ℕ} 0 2 = h in omega arith
+decision-not-2 none false true c h = let z : _≡_ {A = ℕ} 7 2 = h in omega arith
+decision-not-2 none false false true h = let z : _≡_ {A = ℕ} 8 2 = h in omega arith
+decision-not-2 none false false false h = let z : _≡_ {A = ℕ} 0 2 = h in omega arith
 
 -- The refusals of an ingestion by its tests.
 abbrev firstOf : (limit roomy well right path name : Bool) → ℕ
@@ -78,6 +81,7 @@ module _ (w : Tallied) (ps : List Pair) (i : Ingestion) where
           → (pairsOf (carried field w (numbersOf ps) (entryOf (i .entry)) (i .token) d .prune) ≡ put pruned ps) × (length pruned ≡ n)
       go (refuse k) h may = unfold carried in absurd (let z : _≡_ {A = ℕ} 0 1 = cc in omega arith)
       go (obsolete x) h may = unfold carried in absurd (let z : _≡_ {A = ℕ} 0 1 = cc in omega arith)
+      go already h may = unfold carried in absurd (let z : _≡_ {A = ℕ} 0 1 = cc in omega arith)
       go take-it h may = unfold carried in (
         pairs-put (removedBy (w .store) (i .entry)) (prunedPairs field (w .store) (entryOf (i .entry))) ps (pruned-length (w .store) (numbersOf ps) (i .entry) may),
         length-pairs (removedBy (w .store) (i .entry)) (prunedPairs field (w .store) (entryOf (i .entry))) (pruned-length (w .store) (numbersOf ps) (i .entry) may) ∙ cc,
@@ -90,6 +94,7 @@ module _ (w : Tallied) (ps : List Pair) (i : Ingestion) where
       go : (d : Decision) → ((n : ℕ) → carried field w (numbersOf ps) (entryOf (i .entry)) (i .token) d .answer .verdict ≡ says (succeeds n) → ⊥) → pairsOf (carried field w (numbersOf ps) (entryOf (i .entry)) (i .token) d .prune) ≡ ps
       go (refuse k) g = unfold carried in pairs-again ps
       go (obsolete x) g = unfold carried in pairs-again ps
+      go already g = unfold carried in pairs-again ps
       go take-it g = unfold carried in absurd (g (removedBy (w .store) (i .entry)) refl)
 
   -- Answer, store and tally are the core's, handed the pairs' numbers.
@@ -126,7 +131,7 @@ module _ (w : Tallied) (ps : List Pair) (i : Ingestion) where
         let r = ingestRefusal field w (numbersOf ps) (i .entry) in
         let d = decided (w .store .state .limit) (held field Spt (w .store)) (entryOf (i .entry)) (i .«prevent_pruning») in
         split (eqb r 0)
-        (λ t. decision-not-2 (firstThat (outdates (entryOf (i .entry))) (held field Spt (w .store))) (i .«prevent_pruning» && any (removes (entryOf (i .entry))) (held field Spt (w .store))) (leb (w .store .state .limit) (length (keep (stays (entryOf (i .entry))) (held field Spt (w .store)))))
+        (λ t. decision-not-2 (firstThat (outdates (entryOf (i .entry))) (held field Spt (w .store))) (any (repeats (entryOf (i .entry))) (held field Spt (w .store))) (i .«prevent_pruning» && any (removes (entryOf (i .entry))) (held field Spt (w .store))) (leb (w .store .state .limit) (length (keep (stays (entryOf (i .entry))) (held field Spt (w .store)))))
         (ap (λ (b : Bool). refusalIn (cond b d (refuse r))) (sym t) ∙ z))
         (λ t. refusal-not-2 (ap (λ (b : Bool). refusalIn (cond b d (refuse r))) (sym t) ∙ z))
 

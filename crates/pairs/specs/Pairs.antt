@@ -5,7 +5,7 @@ use mathlib.Core.List.{List, [], _∷_}
 use Rattle.data_model.specs.Said.{Said, refuses, says}
 use Rattle.data_model.specs.Path.{Figures}
 use Rattle.store.specs.Store.{limitMost, Tallied, talliedOf}
-use Rattle.store.specs.Ingest.{Verdict, succeeds, is-obsolete, IngestSaid, IngestOutcome, ingested}
+use Rattle.store.specs.Ingest.{Verdict, succeeds, is-obsolete, is-held, IngestSaid, IngestOutcome, ingested}
 use Rattle.store.specs.declared.ingest.Ingestion.{Ingestion}
 use Rattle.pairs.specs.declared.Pair.{Pair}
 
@@ -26,6 +26,7 @@ numbersOf (p ∷ ps) = p .offset ∷ p .length ∷ numbersOf ps
 abbrev pub prunedCount : Said Verdict → ℕ
 prunedCount (says (succeeds n)) = n
 prunedCount (says is-obsolete) = 0
+prunedCount (says is-held) = 0
 prunedCount (refuses n) = 0
 
 -- How many numbers so many pairs are, as far as an entry may need them.

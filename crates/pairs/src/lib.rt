@@ -38,6 +38,7 @@ fn pruned_count(verdict: IngestVerdict) -> usize
     match verdict {
         IngestVerdict::Success(n) => n,
         IngestVerdict::Obsolete => 0,
+        IngestVerdict::Held => 0,
         IngestVerdict::Refused(_) => 0,
     }
 }

@@ -5,13 +5,17 @@ use mathlib.Core.Bool.{Bool, true, false}
 use mathlib.Core.Option.{Option, some, none}
 use Rattle.laws.specs.Order.{Order, less, same, greater}
 use Rattle.data_model.specs.Said.{Said, refuses, says}
-use Rattle.data_model.specs.Refusal.{answerSays, comparedSays, orderingSays}
+use Rattle.data_model.specs.Refusal.{answerSays, comparedSays, orderingSays, recencySays, entriesComparedSays}
 use Rattle.data_model.specs.declared.answer.Answer.{Answer}
 use Rattle.data_model.specs.declared.answer.Answer.the-variants as answer
 use Rattle.data_model.specs.declared.answer.Compared.{Compared}
 use Rattle.data_model.specs.declared.answer.Compared.the-variants as compare
 use Rattle.data_model.specs.declared.answer.Ordering.{Ordering}
 use Rattle.data_model.specs.declared.answer.Ordering.the-variants as ordering
+use Rattle.data_model.specs.declared.answer.Recency.{Recency}
+use Rattle.data_model.specs.declared.answer.Recency.the-variants as recency
+use Rattle.data_model.specs.declared.answer.EntriesCompared.{EntriesCompared}
+use Rattle.data_model.specs.declared.answer.EntriesCompared.the-variants as entries
 use Rattle.keys.specs.Encode.{encodedSays}
 use Rattle.keys.specs.Decode.{Symbol, byte, component-mark, path-mark, tokenSays, Step, component, end-of-path, nextSays}
 use Rattle.keys.specs.declared.encode.Encoded.{Encoded}
@@ -20,7 +24,7 @@ use Rattle.keys.specs.declared.token.Token.{Token}
 use Rattle.keys.specs.declared.token.Token.the-variants as token
 use Rattle.keys.specs.declared.decode.Next.{Next}
 use Rattle.keys.specs.declared.decode.Next.the-variants as next
-use Rattle.store.specs.Ingest.{Verdict, succeeds, is-obsolete, verdictSays}
+use Rattle.store.specs.Ingest.{Verdict, succeeds, is-obsolete, is-held, verdictSays}
 use Rattle.store.specs.declared.ingest.IngestVerdict.{IngestVerdict}
 use Rattle.store.specs.declared.ingest.IngestVerdict.the-variants as verdict
 use Rattle.query.specs.Listing.{listedSays}
@@ -71,6 +75,34 @@ ordering-once = once orderingSays orderingFor back
     back ordering.Less = unfold orderingSays in refl
     back ordering.Equal = unfold orderingSays in refl
     back ordering.Greater = unfold orderingSays in refl
+
+abbrev recencyFor : Order → Recency
+recencyFor greater = recency.Newer
+recencyFor less = recency.Older
+recencyFor same = recency.Same
+
+pub recency-once : (a b : Recency) → recencySays a ≡ recencySays b → a ≡ b
+recency-once = once recencySays recencyFor back
+  where
+    back : (a : Recency) → recencyFor (recencySays a) ≡ a
+    back recency.Newer = unfold recencySays in refl
+    back recency.Older = unfold recencySays in refl
+    back recency.Same = unfold recencySays in refl
+
+abbrev entriesComparedFor : Said Order → EntriesCompared
+entriesComparedFor (says greater) = entries.Newer
+entriesComparedFor (says less) = entries.Older
+entriesComparedFor (says same) = entries.Same
+entriesComparedFor (refuses n) = entries.Refused n
+
+pub entries-compared-once : (a b : EntriesCompared) → entriesComparedSays a ≡ entriesComparedSays b → a ≡ b
+entries-compared-once = once entriesComparedSays entriesComparedFor back
+  where
+    back : (a : EntriesCompared) → entriesComparedFor (entriesComparedSays a) ≡ a
+    back entries.Newer = unfold entriesComparedSays recencySays in refl
+    back entries.Older = unfold entriesComparedSays recencySays in refl
+    back entries.Same = unfold entriesComparedSays recencySays in refl
+    back (entries.Refused n) = unfold entriesComparedSays in refl
 
 abbrev encodedFor : Said ℕ → Encoded
 encodedFor (says n) = encoded.Written n
@@ -127,6 +159,7 @@ listed-once = once listedSays listedFor back
 abbrev verdictFor : Said Verdict → IngestVerdict
 verdictFor (says (succeeds n)) = verdict.Success n
 verdictFor (says is-obsolete) = verdict.Obsolete
+verdictFor (says is-held) = verdict.Held
 verdictFor (refuses n) = verdict.Refused n
 
 pub verdict-once : (a b : IngestVerdict) → verdictSays a ≡ verdictSays b → a ≡ b
@@ -135,4 +168,5 @@ verdict-once = once verdictSays verdictFor back
     back : (a : IngestVerdict) → verdictFor (verdictSays a) ≡ a
     back (verdict.Success n) = unfold verdictSays in refl
     back verdict.Obsolete = unfold verdictSays in refl
+    back verdict.Held = unfold verdictSays in refl
     back (verdict.Refused n) = unfold verdictSays in refl

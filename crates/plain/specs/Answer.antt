@@ -6,11 +6,12 @@ use Rattle.laws.specs.Order.{Order, isLess, isGreater}
 use Rattle.data_model.specs.Said.{Said, refuses, says, numberOf}
 use Rattle.keys.specs.Decode.{Step, component, end-of-path}
 use Rattle.key_reader.specs.Reader.{StepSaid}
-use Rattle.store.specs.Ingest.{Verdict, succeeds, is-obsolete, IngestSaid, ingestedSays}
+use Rattle.store.specs.Ingest.{Verdict, succeeds, is-obsolete, is-held, IngestSaid, ingestedSays}
 use Rattle.pairs.specs.Pairs.{prunedCount}
 use Rattle.pairs.specs.declared.NumbersIngested.{NumbersIngested}
 use Rattle.plain.specs.declared.answer.PlainAnswer.{PlainAnswer}
 use Rattle.plain.specs.declared.answer.PlainCompared.{PlainCompared}
+use Rattle.plain.specs.declared.answer.PlainEntriesCompared.{PlainEntriesCompared}
 use Rattle.plain.specs.declared.answer.PlainEncoded.{PlainEncoded}
 use Rattle.plain.specs.declared.answer.PlainListed.{PlainListed}
 use Rattle.plain.specs.declared.answer.PlainIngested.{PlainIngested}
@@ -27,6 +28,11 @@ abbrev pub plainCompared : Said Order → PlainCompared
 plainCompared (says o) = record { refusal = 0; less = isLess o; greater = isGreater o }
 plainCompared (refuses n) = record { refusal = n; less = false; greater = false }
 
+-- A comparison of two entries: newer, older, the same (neither), or the refusal.
+abbrev pub plainEntriesCompared : Said Order → PlainEntriesCompared
+plainEntriesCompared (says o) = record { refusal = 0; newer = isGreater o; older = isLess o }
+plainEntriesCompared (refuses n) = record { refusal = n; newer = false; older = false }
+
 -- A key written: its length, or the refusal.
 abbrev pub plainEncoded : Said ℕ → PlainEncoded
 plainEncoded (says n) = record { refusal = 0; length = n }
@@ -38,16 +44,26 @@ plainListed (says (some k)) = record { refusal = 0; found = true; place = k }
 plainListed (says none) = record { refusal = 0; found = false; place = 0 }
 plainListed (refuses n) = record { refusal = n; found = false; place = 0 }
 
--- An ingestion: success and how many it pruned, obsolete, or the refusal; and the rest of its answer.
+-- Whether a verdict is obsolete.
 abbrev pub isObsolete : Said Verdict → Bool
 isObsolete (says (succeeds n)) = false
 isObsolete (says is-obsolete) = true
+isObsolete (says is-held) = false
 isObsolete (refuses n) = false
 
+-- Whether a verdict is held: the very entry was stored already.
+abbrev pub isHeld : Said Verdict → Bool
+isHeld (says (succeeds n)) = false
+isHeld (says is-obsolete) = false
+isHeld (says is-held) = true
+isHeld (refuses n) = false
+
+-- An ingestion: success and how many it pruned, obsolete, held, or the refusal; and the rest of its answer.
 abbrev pub plainIngested : IngestSaid → PlainIngested
 plainIngested i = record {
   refusal = numberOf (i .verdict);
   obsolete = isObsolete (i .verdict);
+  held = isHeld (i .verdict);
   pruned = prunedCount (i .verdict);
   state = i .state;
   newer = i .newer;

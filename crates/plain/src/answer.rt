@@ -1,6 +1,7 @@
 // Answers, told in plain values. `refusal` is 0, or the number of the refusal, and all else is then 0 or empty, but for the state that was handed in.
 use data_model::answer::Answer;
 use data_model::answer::Compared;
+use data_model::answer::EntriesCompared;
 use data_model::entry::Entry;
 use data_model::path::COMPONENT_BYTES;
 use key_reader::Stepped;
@@ -13,12 +14,12 @@ use store::ingest::IngestVerdict;
 use store::ingest::Ingested;
 use store::state::State;
 ghost use mathlib.Core.Path.{_≡_};
-ghost use Rattle.data_model.specs.Refusal.{answerSays, comparedSays};
+ghost use Rattle.data_model.specs.Refusal.{answerSays, comparedSays, entriesComparedSays};
 ghost use Rattle.keys.specs.Encode.{encodedSays};
 ghost use Rattle.key_reader.specs.Reader.{steppedSays};
 ghost use Rattle.store.specs.Ingest.{ingestedSays};
 ghost use Rattle.query.specs.Listing.{listedSays};
-ghost use Rattle.plain.specs.Answer.{plainAnswer, plainCompared, plainEncoded, plainListed, plainIngested, plainNumbers, plainStepped};
+ghost use Rattle.plain.specs.Answer.{plainAnswer, plainCompared, plainEntriesCompared, plainEncoded, plainListed, plainIngested, plainNumbers, plainStepped};
 
 // Refusal 0 and whether it holds; or the refusal.
 #[repr(C)]
@@ -33,6 +34,14 @@ pub struct PlainCompared {
     pub refusal: u8,
     pub less: bool,
     pub greater: bool,
+}
+
+// Refusal 0 and how the first entry stands to the second, the same if neither is true; or the refusal.
+#[repr(C)]
+pub struct PlainEntriesCompared {
+    pub refusal: u8,
+    pub newer: bool,
+    pub older: bool,
 }
 
 // Refusal 0 and how many bytes were written; or the refusal.
@@ -50,11 +59,12 @@ pub struct PlainListed {
     pub place: usize,
 }
 
-// Refusal 0 and how many entries were pruned; or obsolete, with the newer entry and its token; or the refusal. In each case the state.
+// Refusal 0 and how many entries were pruned; or obsolete, with the newer entry and its token; or held, the very entry being stored already; or the refusal. In each case the state.
 #[repr(C)]
 pub struct PlainIngested {
     pub refusal: u8,
     pub obsolete: bool,
+    pub held: bool,
     pub pruned: usize,
     pub state: State,
     pub newer: Entry,
@@ -127,6 +137,34 @@ pub fn plain_compared(c: Compared) -> PlainCompared
     }
 }
 
+// The answer of a comparison of two entries.
+pub fn plain_entries_compared(c: EntriesCompared) -> PlainEntriesCompared
+    ensures { λ r. ⌜ r ≡ plainEntriesCompared (entriesComparedSays c) ⌝ }
+{
+    match c {
+        EntriesCompared::Newer => PlainEntriesCompared {
+            refusal: 0,
+            newer: true,
+            older: false,
+        },
+        EntriesCompared::Older => PlainEntriesCompared {
+            refusal: 0,
+            newer: false,
+            older: true,
+        },
+        EntriesCompared::Same => PlainEntriesCompared {
+            refusal: 0,
+            newer: false,
+            older: false,
+        },
+        EntriesCompared::Refused(n) => PlainEntriesCompared {
+            refusal: n,
+            newer: false,
+            older: false,
+        },
+    }
+}
+
 // The answer of an encoder.
 pub fn plain_encoded(e: Encoded) -> PlainEncoded
     ensures { λ r. ⌜ r ≡ plainEncoded (encodedSays e) ⌝ }
@@ -178,6 +216,7 @@ pub fn plain_ingested(i: Ingested) -> PlainIngested
         IngestVerdict::Success(n) => PlainIngested {
             refusal: 0,
             obsolete: false,
+            held: false,
             pruned: n,
             state,
             newer,
@@ -186,6 +225,16 @@ pub fn plain_ingested(i: Ingested) -> PlainIngested
         IngestVerdict::Obsolete => PlainIngested {
             refusal: 0,
             obsolete: true,
+            held: false,
+            pruned: 0,
+            state,
+            newer,
+            token,
+        },
+        IngestVerdict::Held => PlainIngested {
+            refusal: 0,
+            obsolete: false,
+            held: true,
             pruned: 0,
             state,
             newer,
@@ -194,6 +243,7 @@ pub fn plain_ingested(i: Ingested) -> PlainIngested
         IngestVerdict::Refused(n) => PlainIngested {
             refusal: n,
             obsolete: false,
+            held: false,
             pruned: 0,
             state,
             newer,

@@ -102,6 +102,7 @@ fn ingest(
     let v = r.ingested;
     tell(v.refusal as u64);
     tell(v.obsolete as u64);
+    tell(v.held as u64);
     tell(v.pruned as u64);
     if v.obsolete {
         tell_entry(v.newer, &v.token);

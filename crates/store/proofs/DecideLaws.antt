@@ -10,7 +10,7 @@ use lib.Seq.{take-at, drop-at, length-take-le}
 use lib.Dec.{ltb}
 use borrow.Author.Tests.{lt-ltb, le-ltb, le-leb, lt-leb}
 use Rattle.laws.specs.Lists.{put}
-use Rattle.laws.specs.Sorted.{keep}
+use Rattle.laws.specs.Sorted.{any, keep}
 use Rattle.layout.specs.Layout.{records}
 use Rattle.layout.specs.Marks.{marksOf, firstMark, countMarks}
 use Rattle.layout.proofs.MarkLaws.{length-marks, count-marks, count-most}
@@ -18,7 +18,7 @@ use Rattle.data_model.specs.Path.{field}
 use Rattle.data_model.specs.Entry.{Entry}
 use Rattle.tree.specs.Stored.{Stored, contents, lengthy}
 use Rattle.tree.specs.Tree.{Formed}
-use Rattle.tree.specs.Matching.{outdates, removes}
+use Rattle.tree.specs.Matching.{outdates, removes, repeats}
 use Rattle.tree.specs.declared.stored.KeyOrder.the-variants.{Spt}
 use Rattle.tree.specs.declared.stored.LengthyAuthorisedEntry.{LengthyAuthorisedEntry}
 use Rattle.tree.proofs.FormedContents.{formed-many}
@@ -62,25 +62,29 @@ module _ {count : ℕ} {dir tree : List ℕ} (v : Formed Spt count dir tree) (ns
     unfolding placeDecided
     decided-old h = rw (← at-first, lt-ltb k (length all) (omega (arith, formed-many v ns)))
 
-    module _ (h : count ≤ k) (removed old₂ : List ℕ) (er : removed ≡ put (marksOf (removes e) all) old₂) (n : ℕ) (en : n ≡ countMarks (take count removed))
+    none : count ≤ k → ltb (outdatedAt all e) (length all) ≡ false
+    none h = le-ltb (outdatedAt all e) (length all) (omega (arith, at-first, formed-many v ns))
+
+    pub decided-already : count ≤ k → any (repeats e) all ≡ true → place.Already ≡ placeDecided limit all e prevent
+    unfolding placeDecided
+    decided-already h a = rw (none h, a)
+
+    module _ (h : count ≤ k) (a : any (repeats e) all ≡ false) (removed old₂ : List ℕ) (er : removed ≡ put (marksOf (removes e) all) old₂) (n : ℕ) (en : n ≡ countMarks (take count removed))
         (t : Bool) (et : t ≡ (prevent && ltb 0 n)) where
       number : removedFrom all e ≡ n
       number = sym (marks-number (removes e) all count (formed-many v ns) removed old₂ er n en)
 
-      none : ltb (outdatedAt all e) (length all) ≡ false
-      none = le-ltb (outdatedAt all e) (length all) (omega (arith, at-first, formed-many v ns))
-
       pub decided-prevented : t ≡ true → place.Refuse pruningPrevented ≡ placeDecided limit all e prevent
       unfolding placeDecided
-      decided-prevented q = rw (none, number, ← et, q)
+      decided-prevented q = rw (none h, a, number, ← et, q)
 
       pub decided-full : t ≡ false → limit ≤ count - n → place.Refuse full ≡ placeDecided limit all e prevent
       unfolding placeDecided
-      decided-full q g = rw (none, number, ← et, q, formed-many v ns, le-leb limit (count - n) g)
+      decided-full q g = rw (none h, a, number, ← et, q, formed-many v ns, le-leb limit (count - n) g)
 
       pub decided-take : t ≡ false → count - n < limit → place.Take n ≡ placeDecided limit all e prevent
       unfolding placeDecided
-      decided-take q g = rw (none, number, ← et, q, formed-many v ns, lt-leb limit (count - n) g)
+      decided-take q g = rw (none h, a, number, ← et, q, formed-many v ns, lt-leb limit (count - n) g)
 
 -- What is handed out with an obsolete verdict.
 pub answer-obsolete : (s : State) (x : Stored) (a : LengthyAuthorisedEntry) → a ≡ lengthy x

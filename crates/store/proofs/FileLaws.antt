@@ -23,13 +23,13 @@ use Rattle.key_laws.specs.Bytes.{Bytes}
 use Rattle.key_laws.proofs.Fits.{bytes-take}
 use Rattle.tree.specs.Stored.{Stored, Lawful, storedOf}
 use Rattle.tree.specs.Tree.{Ordered}
-use Rattle.tree.specs.Matching.{outdates, removes}
+use Rattle.tree.specs.Matching.{outdates, removes, repeats}
 use Rattle.tree.specs.declared.stored.KeyOrder.{KeyOrder}
 use Rattle.tree.specs.declared.stored.KeyOrder.the-variants.{Spt, Tsp}
 use Rattle.tree.specs.declared.stored.LengthyAuthorisedEntry.{LengthyAuthorisedEntry}
 use Rattle.tally.specs.Tally.{tallyRoom, tallyHolding}
 use Rattle.store.specs.Store.{Store, storeOf, limitMost, treeRoom, dirRoom, treeOf, dirOf, held, heldBy, holding, Tallied, talliedOf}
-use Rattle.store.specs.Ingest.{succeeds, IngestSaid, stays, filing, filedIn, filed, Decision, refuse, obsolete, take-it, decidedOf, decided, ingestRefusal, judged, MayFile, storeFiled, talliedFiled, ingestOutcome, prunedPairs, carried, ingested}
+use Rattle.store.specs.Ingest.{succeeds, IngestSaid, stays, filing, filedIn, filed, Decision, refuse, obsolete, already, take-it, decidedOf, decided, ingestRefusal, judged, MayFile, storeFiled, talliedFiled, ingestOutcome, prunedPairs, carried, ingested}
 use Rattle.store.specs.Forget.{without}
 use Rattle.store.specs.Change.{inTree, Marked, Changed, FilesIn}
 use Rattle.store.specs.declared.state.State.{State}
@@ -180,19 +180,27 @@ module _ {G : Type 0} where
   pub obsolete-taken : {x : Stored} → obsolete x ≡ take-it → G
   obsolete-taken e = absurd (let z : _≡_ {A = ℕ} 0 1 = cc in omega arith)
 
+  pub already-taken : already ≡ take-it → G
+  already-taken e = absurd (let z : _≡_ {A = ℕ} 0 1 = cc in omega arith)
+
 -- What is known of an entry that is taken.
 module _ (limit : ℕ) (l : List Stored) (e : Entry) (prevent : Bool) (d : decided limit l e prevent ≡ take-it) where
   pub taken-current : any (outdates e) l ≡ false
   unfolding decided decidedOf
   taken-current = refute (any (outdates e) l) λ q. obsolete-taken (rw (first-there (outdates e) l q .1) at d)
 
+  taken-new : any (repeats e) l ≡ false
+  unfolding decided decidedOf
+  taken-new = refute (any (repeats e) l) λ q. already-taken (rw (first-absent (outdates e) l taken-current, q) at d)
+
   pub taken-room : leb limit (length (keep (stays e) l)) ≡ false
   unfolding decided decidedOf
   taken-room =
       let n = first-absent (outdates e) l taken-current in
+      let a = taken-new in
       refute (leb limit (length (keep (stays e) l))) λ q. split (prevent && any (removes e) l)
-      (λ r. refuse-taken (rw (n, r) at d))
-      (λ r. refuse-taken (rw (n, r, q) at d))
+      (λ r. refuse-taken (rw (n, a, r) at d))
+      (λ r. refuse-taken (rw (n, a, r, q) at d))
 
 -- The public call, by its answer: filed if it is a success, and nothing changed if not.
 module _ (w : Tallied) (prune : List ℕ) (i : Ingestion) (r : IngestSaid) (er : r ≡ ingested field w prune i .answer) where
@@ -220,6 +228,7 @@ module _ (w : Tallied) (prune : List ℕ) (i : Ingestion) (r : IngestSaid) (er :
       go : (d : Decision) → carried field w prune (entryOf (i .entry)) (i .token) d .answer .verdict ≡ says (succeeds n) → d ≡ take-it
       go (refuse k) h = unfold carried in absurd (let z : _≡_ {A = ℕ} 0 1 = cc in omega arith)
       go (obsolete x) h = unfold carried in absurd (let z : _≡_ {A = ℕ} 0 1 = cc in omega arith)
+      go already h = unfold carried in absurd (let z : _≡_ {A = ℕ} 0 1 = cc in omega arith)
       go take-it h = refl
 
   pub success-may : (n : ℕ) → r .verdict ≡ says (succeeds n) → MayFile field s prune (i .entry)
@@ -280,4 +289,5 @@ module _ (w : Tallied) (prune : List ℕ) (i : Ingestion) (r : IngestSaid) (er :
           → ingestOutcome (carried field w prune (entryOf (i .entry)) (i .token) d .answer) (s .spt) (s .sptDir) (s .tsp) (s .tspDir) (w .tally) prune ≡ carried field w prune (entryOf (i .entry)) (i .token) d
       go (refuse k) g = unfold carried in refl
       go (obsolete x) g = unfold carried in refl
+      go already g = unfold carried in refl
       go take-it g = unfold carried in absurd (g (length (keep (removes (entryOf (i .entry))) (held field Spt s))) refl)

@@ -22,14 +22,14 @@ use Rattle.data_model.specs.Entry.{Entry, entryOf}
 use Rattle.data_model.specs.declared.entry.Entry.{Entry as EntryValue}
 use Rattle.data_model.proofs.Orders.{component-equality}
 use Rattle.tree.specs.Stored.{Stored, stored, contents}
-use Rattle.tree.specs.Tree.{Formed, InBounds}
-use Rattle.tree.specs.Matching.{outdates, removes}
+use Rattle.tree.specs.Tree.{Formed, InBounds, Ordered}
+use Rattle.tree.specs.Matching.{outdates, removes, repeats}
 use Rattle.tree.specs.declared.stored.KeyOrder.the-variants.{Spt}
 use Rattle.tree.proofs.FormedLaws.{formed-bounds}
 use Rattle.tree.proofs.FormedContents.{formed-many, formed-next}
 use Rattle.store.specs.Store.{stateWith, Store, dirRoom, treeOf, dirOf, held, heldBy, holding, treeRoom, Tallied}
 use Rattle.store.specs.Refusal.{unless, _orElse_, talliedRefusal}
-use Rattle.store.specs.Ingest.{succeeds, is-obsolete, IngestSaid, Decision, refuse, obsolete, take-it, firstThat, decidedOf, decided, stays, outdatedAt, removedFrom, placeDecided, ingestRefusal, judged, plainAnswer, obsoleteAnswer, filed, filedIn, filing, carried, ingested}
+use Rattle.store.specs.Ingest.{succeeds, is-obsolete, is-held, IngestSaid, Decision, refuse, obsolete, already, take-it, firstThat, decidedOf, decided, stays, outdatedAt, removedFrom, placeDecided, ingestRefusal, judged, plainAnswer, obsoleteAnswer, filed, filedIn, filing, carried, ingested}
 use Rattle.store.specs.Change.{Marked}
 use Rattle.store.specs.declared.state.State.{State}
 use Rattle.store.specs.declared.ingest.Ingestion.{Ingestion}
@@ -127,6 +127,7 @@ module _ {A : Type 0} (p : A → Bool) where
 unfoldable meant : List Stored → Stored → PlaceDecision → Decision
 meant l x (place.Refuse k) = refuse k
 meant l x (place.Old k) = obsolete (getD l k x)
+meant l x place.Already = already
 meant l x (place.Take n) = take-it
 
 module _ (limit : ℕ) (l : List Stored) (e : Entry) (prevent : Bool) where
@@ -138,9 +139,11 @@ module _ (limit : ℕ) (l : List Stored) (e : Entry) (prevent : Bool) where
   place-meant x = split (ltb (outdatedAt l e) (length l))
       (λ q. rw (q, first-at (outdates e) l x (ltb-true (outdatedAt l e) (length l) q)))
       (λ q. rw (q, first-absent (outdates e) l (first-none (outdates e) l (ltb-false (outdatedAt l e) (length l) q)), any-number (removes e) l, stay-number)
-      (split (prevent && ltb 0 (removedFrom l e))
+      (split (any (repeats e) l)
+      (λ a. rw a)
+      (λ a. rw a (split (prevent && ltb 0 (removedFrom l e))
       (λ r. rw r)
-      (λ r. rw r (split (leb limit (length l - removedFrom l e)) (λ t. rw t) (λ t. rw t)))))
+      (λ r. rw r (split (leb limit (length l - removedFrom l e)) (λ t. rw t) (λ t. rw t)))))))
 
   pub place-old : (k : ℕ) → placeDecided limit l e prevent ≡ place.Old k → k < length l
   unfolding placeDecided
@@ -150,25 +153,29 @@ module _ (limit : ℕ) (l : List Stored) (e : Entry) (prevent : Bool) where
       let g : outdatedAt l e ≡ k = cc in
       let h = ltb-true (outdatedAt l e) (length l) q in
       omega arith)
-      (λ q. split (prevent && ltb 0 (removedFrom l e))
-      (λ r. absurd (let w : place.Refuse 7 ≡ place.Old k = rw (q, r) at d in let z : _≡_ {A = ℕ} 0 1 = cc in omega arith))
+      (λ q. split (any (repeats e) l)
+      (λ a. absurd (let w : place.Already ≡ place.Old k = rw (q, a) at d in let z : _≡_ {A = ℕ} 0 1 = cc in omega arith))
+      (λ a. split (prevent && ltb 0 (removedFrom l e))
+      (λ r. absurd (let w : place.Refuse 7 ≡ place.Old k = rw (q, a, r) at d in let z : _≡_ {A = ℕ} 0 1 = cc in omega arith))
       (λ r. split (leb limit (length l - removedFrom l e))
-      (λ t. absurd (let w : place.Refuse 8 ≡ place.Old k = rw (q, r, t) at d in let z : _≡_ {A = ℕ} 0 1 = cc in omega arith))
-      (λ t. absurd (let w : place.Take (removedFrom l e) ≡ place.Old k = rw (q, r, t) at d in let z : _≡_ {A = ℕ} 0 1 = cc in omega arith))))
+      (λ t. absurd (let w : place.Refuse 8 ≡ place.Old k = rw (q, a, r, t) at d in let z : _≡_ {A = ℕ} 0 1 = cc in omega arith))
+      (λ t. absurd (let w : place.Take (removedFrom l e) ≡ place.Old k = rw (q, a, r, t) at d in let z : _≡_ {A = ℕ} 0 1 = cc in omega arith)))))
 
   pub place-take : (n : ℕ) → placeDecided limit l e prevent ≡ place.Take n → (removedFrom l e ≡ n) × (length l - n < limit)
   unfolding placeDecided
   place-take n d = split (ltb (outdatedAt l e) (length l))
       (λ q. absurd (let w : place.Old (outdatedAt l e) ≡ place.Take n = rw q at d in let z : _≡_ {A = ℕ} 0 1 = cc in omega arith))
-      (λ q. split (prevent && ltb 0 (removedFrom l e))
-      (λ r. absurd (let w : place.Refuse 7 ≡ place.Take n = rw (q, r) at d in let z : _≡_ {A = ℕ} 0 1 = cc in omega arith))
+      (λ q. split (any (repeats e) l)
+      (λ a. absurd (let w : place.Already ≡ place.Take n = rw (q, a) at d in let z : _≡_ {A = ℕ} 0 1 = cc in omega arith))
+      (λ a. split (prevent && ltb 0 (removedFrom l e))
+      (λ r. absurd (let w : place.Refuse 7 ≡ place.Take n = rw (q, a, r) at d in let z : _≡_ {A = ℕ} 0 1 = cc in omega arith))
       (λ r. split (leb limit (length l - removedFrom l e))
-      (λ t. absurd (let w : place.Refuse 8 ≡ place.Take n = rw (q, r, t) at d in let z : _≡_ {A = ℕ} 0 1 = cc in omega arith))
+      (λ t. absurd (let w : place.Refuse 8 ≡ place.Take n = rw (q, a, r, t) at d in let z : _≡_ {A = ℕ} 0 1 = cc in omega arith))
       (λ t.
-      let w : place.Take (removedFrom l e) ≡ place.Take n = rw (q, r, t) at d in
+      let w : place.Take (removedFrom l e) ≡ place.Take n = rw (q, a, r, t) at d in
       let g : removedFrom l e ≡ n = cc in
       let h = leb-false limit (length l - removedFrom l e) t in
-      (g, omega arith))))
+      (g, omega arith)))))
 
 -- What stands at a place of a tree that was tested.
 pub stands-at : {count : ℕ} {dir tree : List ℕ} (v : Formed Spt count dir tree) (ns : List ℕ) (k : ℕ) → k < count → (x : Stored)
@@ -188,6 +195,10 @@ sptDirIn s = take (dirRoom (s .state .limit)) (s .sptDir)
 abbrev pub inSpt : Store → List Stored
 inSpt s = contents Spt field (s .state .«namespace_id») (records (s .state .count) (sptDirIn s) (sptIn s))
 
+pub ready-ordered : (s : Store) (prune : List ℕ) (e : EntryValue) → Ready s prune e → Ordered Spt (s .state .count) (sptDirIn s) (sptIn s)
+unfolding dirOf treeOf
+ready-ordered s prune e v = v .passes .ordered Spt
+
 pub ready-formed : (s : Store) (prune : List ℕ) (e : EntryValue) → Ready s prune e → Formed Spt (s .state .count) (sptDirIn s) (sptIn s)
 unfolding dirOf treeOf
 ready-formed s prune e v = v .passes .formed Spt
@@ -204,13 +215,19 @@ pub marked-own : (s : Store) (prune : List ℕ) (e : EntryValue) → Ready s pru
 unfolding held treeOf dirOf
 marked-own s prune e v marks m = subst (λ (ns : List ℕ). Marked (removes (entryOf e)) (contents Spt field ns (records (s .state .count) (sptDirIn s) (sptIn s))) marks) (v .namespace) m
 
--- A refusal and an obsolete verdict are no success, and the decisions for them take nothing.
+-- A refusal, an obsolete and a held verdict are no success, and the decisions for them take nothing.
 module _ {G : Type 0} {n : ℕ} where
   pub old-unlike : {k : ℕ} → place.Old k ≡ place.Take n → G
   old-unlike e = absurd (let z : _≡_ {A = ℕ} 0 1 = cc in omega arith)
 
   pub refuse-unlike : {k : ℕ} → place.Refuse k ≡ place.Take n → G
   refuse-unlike e = absurd (let z : _≡_ {A = ℕ} 0 1 = cc in omega arith)
+
+  pub already-unlike : place.Already ≡ place.Take n → G
+  already-unlike e = absurd (let z : _≡_ {A = ℕ} 0 1 = cc in omega arith)
+
+  pub held-unlike : {s : State} {a : IngestSaid} → a ≡ plainAnswer (says is-held) s → a .verdict ≡ says (succeeds n) → G
+  held-unlike {s} {a} e q = absurd (let w : says is-held ≡ says (succeeds n) = sym (ap (λ (b : IngestSaid). b .verdict) e) ∙ q in let z : _≡_ {A = ℕ} 0 1 = cc in omega arith)
 
   pub refused-unlike : {k : ℕ} {s : State} {a : IngestSaid} → a ≡ plainAnswer (refuses k) s → a .verdict ≡ says (succeeds n) → G
   refused-unlike {k} {s} {a} e q = absurd (let w : refuses k ≡ says (succeeds n) = sym (ap (λ (b : IngestSaid). b .verdict) e) ∙ q in let z : _≡_ {A = ℕ} 0 1 = cc in omega arith)
@@ -242,6 +259,12 @@ module _ (w : Tallied) (prune : List ℕ) (i : Ingestion) where
     pub answers-late : (k : ℕ) → d ≡ place.Refuse k → (r : IngestSaid) → r ≡ plainAnswer (refuses k) (s .state) → r ≡ ingested field w prune i .answer
     unfolding meant carried
     answers-late k q r er =
+        let x = stored Spt field (s .state .«namespace_id») [] in
+        er ∙ sym (answers x ∙ ap (λ (j : PlaceDecision). carried field w prune (entryOf (i .entry)) (i .token) (meant (inSpt s) x j) .answer) q)
+
+    pub answers-already : d ≡ place.Already → (r : IngestSaid) → r ≡ plainAnswer (says is-held) (s .state) → r ≡ ingested field w prune i .answer
+    unfolding meant carried
+    answers-already q r er =
         let x = stored Spt field (s .state .«namespace_id») [] in
         er ∙ sym (answers x ∙ ap (λ (j : PlaceDecision). carried field w prune (entryOf (i .entry)) (i .token) (meant (inSpt s) x j) .answer) q)
 

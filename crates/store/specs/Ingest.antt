@@ -1,4 +1,4 @@
--- Ingestion: 1, 2, 3, 10, 4, 6; obsolete; 7, 8; or the entry is filed in both trees and what it removes goes from both.
+-- Ingestion: 1, 2, 3, 10, 4, 6; obsolete or held; 7, 8; or the entry is filed in both trees and what it removes goes from both.
 use Prim.Native.Nat.{ℕ, _-_, _*_, _<_}
 use mathlib.Core.Path.{_≡_}
 use mathlib.Core.List.{List, [], _∷_}
@@ -19,7 +19,7 @@ use Rattle.data_model.specs.Refusal.{illegalPath, otherNamespace, pruningPreven
 use Rattle.data_model.specs.declared.entry.Entry.{Entry as EntryValue}
 use Rattle.key_laws.specs.KeyOrder.{sptOrder, tspOrder}
 use Rattle.tree.specs.Stored.{Stored, stored, contents, tripleOf, lengthy}
-use Rattle.tree.specs.Matching.{outdates, removes}
+use Rattle.tree.specs.Matching.{outdates, removes, repeats}
 use Rattle.tree.specs.declared.stored.KeyOrder.{KeyOrder}
 use Rattle.tree.specs.declared.stored.KeyOrder.the-variants.{Spt, Tsp}
 use Rattle.store.specs.Store.{Store, dirRoom, treeOf, dirOf, held, Held, heldBy, holding, Tallied, talliedOf, talliedHolding}
@@ -32,15 +32,17 @@ use Rattle.store.specs.declared.ingest.Ingestion.{Ingestion}
 use Rattle.store.specs.declared.decide.PlaceDecision.{PlaceDecision}
 use Rattle.store.specs.declared.decide.PlaceDecision.the-variants as place
 
--- What an ingestion that is not refused says: success, and how many entries it pruned; or that the entry is obsolete.
+-- What an ingestion that is not refused says: success, and how many entries it pruned; or that the entry is obsolete; or that it is held, being stored
+-- already.
 pub data Verdict : Type 0 where
   succeeds : (pruned : ℕ) → Verdict
-  is-obsolete : Verdict
+  is-obsolete is-held : Verdict
 
 -- What each case of a verdict says: its number and its values.
 unfoldable pub verdictSays : IngestVerdict → Said Verdict
 verdictSays (verdict.Success n) = says (succeeds n)
 verdictSays verdict.Obsolete = says is-obsolete
+verdictSays verdict.Held = says is-held
 verdictSays (verdict.Refused n) = refuses n
 
 -- The whole answer: the verdict, the state, and the newer entry and its token.
@@ -82,7 +84,7 @@ filed x h = record { spt = filedIn Spt x (h .spt); tsp = filedIn Tsp x (h .tsp) 
 pub data Decision : Type 0 where
   refuse : ℕ → Decision
   obsolete : Stored → Decision
-  take-it : Decision
+  already take-it : Decision
 
 -- The first that a test holds of.
 unfoldable pub firstThat : {A : Type 0} → (A → Bool) → List A → Option A
@@ -93,13 +95,14 @@ unfoldable pub decidedOf : Option Stored → Decision → Decision
 decidedOf (some x) d = obsolete x
 decidedOf none d = d
 
--- Obsolete, if a stored entry outdates it: shown is the first in key order. 7, if it would remove one and must not. 8, if those that stay
--- number the limit.
+-- Obsolete, if a stored entry outdates it: shown is the first in key order. Held, if it is stored already. 7, if it would remove one and must
+-- not. 8, if those that stay number the limit.
 unfoldable pub decided : (limit : ℕ) → List Stored → Entry → (prevent : Bool) → Decision
 decided limit stored e prevent =
     decidedOf (firstThat (outdates e) stored)
+    (cond (any (repeats e) stored) already
     (cond (prevent && any (removes e) stored) (refuse pruningPrevented)
-    (cond (leb limit (length (keep (stays e) stored))) (refuse full) take-it))
+    (cond (leb limit (length (keep (stays e) stored))) (refuse full) take-it)))
 
 -- The same by the place of the first entry that outdates it and the number of those that it removes, as the code decides.
 abbrev pub outdatedAt : List Stored → Entry → ℕ
@@ -111,8 +114,9 @@ removedFrom stored e = length (keep (removes e) stored)
 unfoldable pub placeDecided : (limit : ℕ) → List Stored → Entry → (prevent : Bool) → PlaceDecision
 placeDecided limit stored e prevent =
     cond (ltb (outdatedAt stored e) (length stored)) (place.Old (outdatedAt stored e))
+    (cond (any (repeats e) stored) place.Already
     (cond (prevent && ltb 0 (removedFrom stored e)) (place.Refuse pruningPrevented)
-    (cond (leb limit (length stored - removedFrom stored e)) (place.Refuse full) (place.Take (removedFrom stored e))))
+    (cond (leb limit (length stored - removedFrom stored e)) (place.Refuse full) (place.Take (removedFrom stored e)))))
 
 unfoldable pub ingestRefusal : Figures → Tallied → (prune : List ℕ) → EntryValue → ℕ
 ingestRefusal f w prune e =
@@ -169,6 +173,7 @@ pub record Pruned (f : Figures) (s : Store) (e : Entry) : Type 0 where
 unfoldable pub carried : Figures → Tallied → (prune : List ℕ) → Entry → (token : List ℕ) → Decision → IngestOutcome
 carried f w prune e token (refuse n) = record { answer = plainAnswer (refuses n) (w .store .state); left = w; prune = prune }
 carried f w prune e token (obsolete x) = record { answer = obsoleteAnswer (w .store .state) x; left = w; prune = prune }
+carried f w prune e token already = record { answer = plainAnswer (says is-held) (w .store .state); left = w; prune = prune }
 carried f w prune e token take-it = record {
   answer = plainAnswer (says (succeeds (length (keep (removes e) (held f Spt (w .store)))))) (talliedFiled f w e token .store .state);
   left = talliedFiled f w e token;

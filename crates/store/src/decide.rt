@@ -1,8 +1,9 @@
-// Whether an entry that is not refused with 1 to 6 or 10 is outdated, prevented from pruning, in a full store, or taken.
+// Whether an entry that is not refused with 1 to 6 or 10 is outdated, stored already, prevented from pruning, in a full store, or taken.
 use crate::state::LIMIT_MOST;
 use data_model::answer::FULL;
 use data_model::answer::PRUNING_PREVENTED;
 use data_model::entry::Entry;
+use tree::entries::has_entry;
 use tree::entries::mark_outdating;
 use tree::entries::mark_removed;
 use tree::marks::count_marked;
@@ -18,17 +19,18 @@ ghost use Rattle.data_model.specs.Path.{field, legal};
 ghost use Rattle.data_model.specs.Entry.{entryOf};
 ghost use Rattle.tree.specs.Stored.{contents};
 ghost use Rattle.tree.specs.Matching.{removes};
-ghost use Rattle.tree.specs.Tree.{Formed};
+ghost use Rattle.tree.specs.Tree.{Ordered};
 ghost use Rattle.tree.specs.declared.stored.KeyOrder.the-variants.{Spt};
 ghost use Rattle.store.specs.Store.{limitMost};
 ghost use Rattle.store.specs.Change.{Marked};
 ghost use Rattle.store.specs.Ingest.{placeDecided};
 ghost use Rattle.store.specs.declared.decide.PlaceDecision.the-variants as place;
 
-// What is decided: refused, outdated by the entry at a place, or taken with so many removed.
+// What is decided: refused, outdated by the entry at a place, stored already, or taken with so many removed.
 pub enum PlaceDecision {
     Refuse(u8),
     Old(usize),
+    Already,
     Take(usize),
 }
 
@@ -42,7 +44,7 @@ fn is_prevented(prevent_pruning: bool, removed: usize) -> bool
     false
 }
 
-// Whether the entry is refused, outdated or taken, over the subspace-first tree of its namespace in its room. If it is taken, what it
+// Whether the entry is refused, outdated, stored already or taken, over the subspace-first tree of its namespace in its room. If it is taken, what it
 // removes is marked.
 pub fn decide(
     limit: usize,
@@ -53,7 +55,7 @@ pub fn decide(
     prevent_pruning: bool,
     removed: &mut [u8],
 ) -> PlaceDecision
-    requires { ⌜ (Formed Spt count (now «spt_dir») (now spt)) × (count ≤ limitMost) × (legal field (entry .path) ≡ true) × (count ≤ length (now removed)) ⌝ }
+    requires { ⌜ (Ordered Spt count (now «spt_dir») (now spt)) × (count ≤ limitMost) × (legal field (entry .path) ≡ true) × (count ≤ length (now removed)) ⌝ }
     ensures decision { λ r. ⌜ r ≡ placeDecided limit (contents Spt field (entry .«namespace_id») (records count (now («spt_dir» .entry)) (now (spt .entry)))) (entryOf entry) «prevent_pruning» ⌝ }
     ensures marks { λ r. ⌜ ((n : ℕ) → r ≡ place.Take n → Marked (removes (entryOf entry)) (contents Spt field (entry .«namespace_id») (records count (now («spt_dir» .entry)) (now (spt .entry)))) (now (removed .exit))) ⌝ }
 {
@@ -62,6 +64,9 @@ pub fn decide(
     let k = first_marked(&marks[..count], 0);
     if k < count {
         return PlaceDecision::Old(k);
+    }
+    if has_entry(KeyOrder::Spt, count, spt_dir, spt, entry) {
+        return PlaceDecision::Already;
     }
     mark_removed(KeyOrder::Spt, count, spt_dir, spt, entry, removed);
     let n = count_marked(&removed[..count]);

@@ -36,10 +36,11 @@ ghost use Rattle.store.specs.Change.{Marked};
 ghost use Rattle.store.specs.Ingest.{succeeds, verdictSays, ingestedSays, MayFile, filing, plainAnswer, obsoleteAnswer, storeFiled, prunedPairs, ingestRefusal, ingestOutcome, ingested};
 ghost use Rattle.store.specs.declared.ingest.IngestVerdict.the-variants as verdict;
 
-// Success says how many entries were pruned.
+// Success says how many entries were pruned; held, that the very entry was stored already.
 pub enum IngestVerdict {
     Success(usize),
     Obsolete,
+    Held,
     Refused(u8),
 }
 
@@ -163,6 +164,7 @@ fn ingest_answer(
     match d {
         PlaceDecision::Refuse(k) => plain_answer(IngestVerdict::Refused(k), state),
         PlaceDecision::Old(k) => obsolete_answer(state, &spt[..n], &spt_dir[..m], k),
+        PlaceDecision::Already => plain_answer(IngestVerdict::Held, state),
         PlaceDecision::Take(k) => taken_answer(state, k),
     }
 }

@@ -13,8 +13,6 @@ use Rattle.layout.specs.Layout.{recordAt}
 use Rattle.data_model.specs.Path.{field, Components, samePath}
 use Rattle.data_model.specs.Subspace.{sameSubspace}
 use Rattle.data_model.specs.Entry.{Entry, entryOf, rankOf, byRank, newer, covers, prunes}
-use Rattle.data_model.specs.Refusal.{orderingSays}
-use Rattle.data_model.specs.declared.answer.Ordering.{Ordering}
 use Rattle.data_model.specs.declared.entry.Entry.{Entry as EntryValue}
 use Rattle.data_model.specs.declared.parameters.Subspace.{Subspace}
 use Rattle.data_model.proofs.Orders.{component-equality, path-equality, subspace-equality}
@@ -87,10 +85,10 @@ sized-at {o} {k} {dir} {tree} v b ns = key-says o (recordAt k dir tree) (at-byte
 
 -- The tests of record k against an entry, by its address and its rank.
 module _ {o : KeyOrder} {k : ℕ} {dir tree : List ℕ} (v : Readable o k dir tree) (b : Bytes tree) (e : EntryValue) (sized : Sized (tripleOf (entryOf e))) (t : Bool) where
-  module _ (x : Ordering) (ex : orderingSays x ≡ byRank (rankAt o (recordAt k dir tree)) (rankOf e)) (g : Bool) (eg : g ≡ isGreater (orderingSays x)) where
+  module _ (g : Bool) (eg : isGreater (byRank (rankAt o (recordAt k dir tree)) (rankOf e)) ≡ g) where
     greater-is : g ≡ newer (stored o field (e .«namespace_id») (recordAt k dir tree) .entry) (entryOf e)
     unfolding newer entryOf stored storedFrom
-    greater-is = eg ∙ ap isGreater ex
+    greater-is = sym eg
 
     pub outdates-rank : (front address : List ℕ) → front ≡ openAt o (recordAt k dir tree) → address ≡ addressKey (e .«subspace_id») (entryOf e .path)
         → t ≡ prefixOf sameNumber front address → not t ≡ false → g ≡ outdates (entryOf e) (stored o field (e .«namespace_id») (recordAt k dir tree))

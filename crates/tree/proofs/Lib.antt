@@ -15,6 +15,7 @@ pub mod MarkingLaws
 pub mod AddressLaws
 pub mod ClearLaws
 pub mod CoverLaws
+pub mod RepeatLaws
 pub mod NearestLaws
 pub mod RankLaws
 pub mod ApartLaws

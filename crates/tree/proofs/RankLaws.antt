@@ -11,8 +11,6 @@ use Rattle.laws.specs.Order.{Order, isGreater}
 use Rattle.laws.specs.Prefix.{sameNumber, sameList, prefixOf}
 use Rattle.laws.proofs.Truth.{split}
 use Rattle.layout.specs.Layout.{recordAt}
-use Rattle.data_model.specs.Refusal.{orderingSays}
-use Rattle.data_model.specs.declared.answer.Ordering.{Ordering}
 use Rattle.data_model.specs.declared.entry.Rank.{Rank}
 use Rattle.tree.specs.Value.{readValue}
 use Rattle.tree.specs.Stored.{valuePart}
@@ -33,9 +31,9 @@ module _ (p q a b : List ℕ) (ep : p ≡ a) (eq : q ≡ b) (t : Bool) (et : t �
   pub one-address : t ≡ true → (x : Bool) → false ≡ (not (sameList sameNumber a b) && x)
   one-address y x = sym (ap (λ (z : Bool). not z && x) (sym (ap₂ (sameList sameNumber) ep eq) ∙ sym et ∙ y))
 
-  pub other-address : t ≡ false → (o : Order) (x : Ordering) → orderingSays x ≡ o → (g : Bool) → g ≡ isGreater (orderingSays x) → not g ≡ (not (sameList sameNumber a b) && not (isGreater o))
-  other-address n o x ex g eg =
-      ap not (eg ∙ ap isGreater ex)
+  pub other-address : t ≡ false → (o : Order) (g : Bool) → isGreater o ≡ g → not g ≡ (not (sameList sameNumber a b) && not (isGreater o))
+  other-address n o g eg =
+      ap not (sym eg)
       ∙ sym (ap (λ (z : Bool). not z && not (isGreater o)) (sym (ap₂ (sameList sameNumber) ep eq) ∙ sym et ∙ n))
 
 -- One more of a stack that does not begin an address.

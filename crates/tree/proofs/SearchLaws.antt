@@ -41,10 +41,10 @@ unfolding below
 less-to a b e q = sym (ap (λ (k : List ℕ). isLess (byBytes (keyOf a) k)) q) ∙ e
 
 -- Keys that compare the same are the same, by either test.
-same-key : (key r : List ℕ) → isSame (byBytes (keyOf r) key) ≡ true → keyOf r ≡ key
+pub same-key : (key r : List ℕ) → isSame (byBytes (keyOf r) key) ≡ true → keyOf r ≡ key
 same-key key r e = bytes-linear .equal (keyOf r) key (is-same _ e)
 
-key-same : (key r : List ℕ) → keyOf r ≡ key → isSame (byBytes (keyOf r) key) ≡ true
+pub key-same : (key r : List ℕ) → keyOf r ≡ key → isSame (byBytes (keyOf r) key) ≡ true
 unfolding isSame
 key-same key r e = ap (λ (k : List ℕ). isSame (byBytes k key)) e ∙ ap isSame (bytes-linear .self key)
 

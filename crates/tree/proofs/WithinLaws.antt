@@ -81,16 +81,21 @@ module _ (o : KeyOrder) (f : Figures) (ns : List ℕ) (x : Stored) (h : Lawful f
       (let k = each r (here refl) in alike _ _ (says-same r (k .0) (k .1)) (same-says r (k .0) (k .1)))
       (has-stored rs λ q m. each q (there m))
 
+-- What was written at the front of a buffer stands there.
+pub written-front : (k buf old : List ℕ) (n : ℕ) → n ≡ length k → buf ≡ put k old → take n buf ≡ k
+unfolding put
+written-front k buf old n en eb = ap₂ take en eb ∙ take-append-seam k (drop (length k) old)
+
 -- The question as it is put: by the key that is written for what a record of the one tree says, and by its value.
 pub stands : (o q : KeyOrder) (ns r : List ℕ) (recs : List (List ℕ)) (a : LengthyAuthorisedEntry) (old buf value : List ℕ) (n : ℕ) (b : Bool) → Bytes r → isRecord o field r ≡ true → Recorded q field recs
     → storedOf a ≡ stored o field ns r → n ≡ length (keyFor q a) → buf ≡ put (keyFor q a) old → value ≡ valuePart r → b ≡ hasRecord (take n buf) value recs
     → b ≡ any (sameStored (stored o field ns r)) (contents q field ns recs)
-unfolding put storedOf entryOf rankOf tripleOf
+unfolding storedOf entryOf rankOf tripleOf
 stands o q ns r recs a old buf value n b bytes is each s en eb ev e =
     let x = stored o field ns r in
     let w = record-forth o field ns r bytes is in
     let k : take n buf ≡ keyIn q (tripleOf (x .entry))
-    = ap₂ take en eb ∙ take-append-seam (keyFor q a) (drop (length (keyFor q a)) old) ∙ ap (λ (y : Stored). keyIn q (tripleOf (y .entry))) s in
+    = written-front (keyFor q a) buf old n en eb ∙ ap (λ (y : Stored). keyIn q (tripleOf (y .entry))) s in
     let v : value ≡ valueBytes (valueFor x) = ev ∙ ap valuePart (sym (w .again)) ∙ value-of-record field x (w .lawful) o in
     e ∙ ap₂ (λ (k v : List ℕ). hasRecord k v recs) k v ∙ has-stored q field ns x (w .lawful) (w .named) recs each
 

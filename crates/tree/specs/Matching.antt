@@ -1,5 +1,5 @@
--- What is asked of a stored entry: is it newer than an entry below it, is it removed by one, does it stand at a place, in an area or a
--- range, and do the ignore flags let it through.
+-- What is asked of a stored entry: is it newer than an entry below it, is it removed by one, is it that very entry, does it stand at a place,
+-- in an area or a range, and do the ignore flags let it through.
 use mathlib.Core.Bool.{Bool, false, not, cond, _&&_}
 use lib.Dec.{ltb}
 use Rattle.laws.specs.Prefix.{sameNumber}
@@ -11,7 +11,7 @@ use Rattle.data_model.specs.Range3d.{rangeIncludes}
 use Rattle.data_model.specs.declared.parameters.Subspace.{Subspace}
 use Rattle.data_model.specs.declared.area.Area.{Area}
 use Rattle.data_model.specs.declared.«range_3d».Range3d.{Range3d}
-use Rattle.tree.specs.Stored.{Stored}
+use Rattle.tree.specs.Stored.{Stored, sameEntry}
 use Rattle.data_model.specs.declared.«query_ignore_params».QueryIgnoreParams.{QueryIgnoreParams}
 
 -- It makes an entry obsolete: of its subspace, at a prefix of its path or the path itself, and newer.
@@ -21,6 +21,10 @@ outdates e s = prunes (s .entry) e
 -- An entry removes it: it stands at the entry's path or an extension, and is not newer. Ties are removed too.
 unfoldable pub removes : Entry → Stored → Bool
 removes e s = covers e (s .entry) && not (newer (s .entry) e)
+
+-- An entry repeats it: the same subspace, path, timestamp, digest and length, whatever the token and the available length.
+unfoldable pub repeats : Entry → Stored → Bool
+repeats e s = sameEntry e (s .entry)
 
 unfoldable pub standsAt : Subspace → Components → Stored → Bool
 standsAt s p x = sameSubspace (x .entry .subspace) s && samePath (x .entry .path) p

@@ -6,7 +6,7 @@ use crate::address::begins;
 use crate::address::open_at;
 use crate::rank::compare_records;
 use crate::stored::KeyOrder;
-use data_model::answer::is_greater;
+use data_model::answer::Recency;
 use data_model::path::MCC;
 use layout::bytes::same;
 ghost use Prim.Native.Nat.{ℕ, _-_, _≤_, _<_};
@@ -54,7 +54,12 @@ fn may_cover(dir: &[u32], tree: &[u8], j: usize, k: usize) -> bool
     if same(address_at(KeyOrder::Spt, dir, tree, j), here) {
         return false;
     }
-    !is_greater(compare_records(KeyOrder::Spt, dir, tree, j, k))
+    let r = compare_records(KeyOrder::Spt, dir, tree, j, k);
+    match r {
+        Recency::Newer => false,
+        Recency::Older => true,
+        Recency::Same => true,
+    }
 }
 
 // Whether the nearest of the first `depth` record numbers on the stack, if there is one, may stand before record k.

@@ -1,13 +1,16 @@
 // What is asked of record k about an entry, or a subspace and path, told by its bytes: does it make the entry obsolete, does the entry
-// remove it, does it stand there. And the marks of a whole walk: 1 for each record that a test holds of, 0 for the others.
+// remove it, does it stand there; and the marks of a whole walk: 1 for each record that a test holds of, 0 for the others. And whether the
+// very entry is stored.
 use crate::address::END;
 use crate::address::address_at;
 use crate::address::begins;
 use crate::address::open_at;
 use crate::address::write_address;
 use crate::rank::compare_with;
+use crate::search::find;
 use crate::stored::KeyOrder;
-use data_model::answer::is_greater;
+use crate::stored::encode_key;
+use data_model::answer::Recency;
 use data_model::entry::Entry;
 use data_model::parameters::Subspace;
 use data_model::path::Path;
@@ -19,15 +22,16 @@ ghost use mathlib.Core.Bool.{true};
 ghost use mathlib.Core.List.{List};
 ghost use lib.ListN.{length};
 ghost use Rattle.laws.specs.Lists.{put};
+ghost use Rattle.laws.specs.Sorted.{any};
 ghost use Rattle.layout.specs.Layout.{records, recordAt};
 ghost use Rattle.layout.specs.Marks.{marksOf};
 ghost use Rattle.data_model.specs.Path.{field, Components, legal, components};
 ghost use Rattle.data_model.specs.Entry.{entryOf};
 ghost use Rattle.data_model.specs.declared.parameters.Subspace.{Subspace};
 ghost use Rattle.tree.specs.Stored.{contents, stored};
-ghost use Rattle.tree.specs.Tree.{Formed, Readable};
+ghost use Rattle.tree.specs.Tree.{Formed, Readable, Ordered};
 ghost use Rattle.tree.specs.Address.{addressKey, openKey};
-ghost use Rattle.tree.specs.Matching.{outdates, removes, standsAt};
+ghost use Rattle.tree.specs.Matching.{outdates, removes, repeats, standsAt};
 
 // Whether record k makes the entry obsolete. `address`: the entry's.
 fn outdates_at(
@@ -44,7 +48,12 @@ fn outdates_at(
     if !begins(address, open_at(order, dir, tree, k)) {
         return false;
     }
-    is_greater(compare_with(order, dir, tree, k, e))
+    let r = compare_with(order, dir, tree, k, e);
+    match r {
+        Recency::Newer => true,
+        Recency::Older => false,
+        Recency::Same => false,
+    }
 }
 
 // Whether the entry removes record k. `front`: the entry's address without its end.
@@ -55,7 +64,12 @@ fn removes_at(order: KeyOrder, dir: &[u32], tree: &[u8], k: usize, e: Entry, fro
     if !begins(address_at(order, dir, tree, k), front) {
         return false;
     }
-    !is_greater(compare_with(order, dir, tree, k, e))
+    let r = compare_with(order, dir, tree, k, e);
+    match r {
+        Recency::Newer => false,
+        Recency::Older => true,
+        Recency::Same => true,
+    }
 }
 
 // Whether record k stands at the subspace and path that the bytes of `address` are of.
@@ -176,4 +190,25 @@ pub fn mark_at(
     let mut key = [0u8; KEY_MOST];
     let n = write_address(subspace, path, &mut key);
     standing_from(order, count, dir, tree, &key[..n], marks);
+}
+
+// Whether a tree of its namespace has the entry already, whatever the token and the available length: at its key, and of its rank.
+pub fn has_entry(order: KeyOrder, count: usize, dir: &[u32], tree: &[u8], e: Entry) -> bool
+    requires { ⌜ (Ordered order count (now dir) (now tree)) × (legal field (e .path) ≡ true) ⌝ }
+    ensures { λ r. ⌜ r ≡ any (repeats (entryOf e)) (contents order field (e .«namespace_id») (records count (now (dir .entry)) (now (tree .entry)))) ⌝ }
+{
+    let subspace = e.subspace_id;
+    let path = e.path;
+    let mut key = [0u8; KEY_MOST];
+    let n = encode_key(order, subspace, path, e.timestamp, &mut key);
+    let p = find(count, dir, tree, &key[..n]);
+    if !p.found {
+        return false;
+    }
+    let r = compare_with(order, dir, tree, p.at, e);
+    match r {
+        Recency::Newer => false,
+        Recency::Older => false,
+        Recency::Same => true,
+    }
 }

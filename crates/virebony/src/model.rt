@@ -6,8 +6,10 @@ use data_model::path::Path;
 use data_model::range_3d::Range3d;
 use plain::answer::PlainAnswer;
 use plain::answer::PlainCompared;
+use plain::answer::PlainEntriesCompared;
 use plain::answer::plain_answer;
 use plain::answer::plain_compared;
+use plain::answer::plain_entries_compared;
 use plain::input::PlainArea;
 use plain::input::PlainRange;
 use plain::input::area_of;
@@ -19,13 +21,13 @@ ghost use mathlib.Core.Path.{_≡_};
 ghost use mathlib.Core.Bool.{_&&_};
 ghost use Rattle.data_model.specs.Path.{field, legal, components, byComponents, samePath, isPrefix};
 ghost use Rattle.data_model.specs.Above.{aboveAnswer};
-ghost use Rattle.data_model.specs.Entry.{entryOf, newer, prunes};
+ghost use Rattle.data_model.specs.Entry.{entryOf, rankOf, byRank, prunes};
 ghost use Rattle.data_model.specs.Range.{legalRange};
 ghost use Rattle.data_model.specs.Range3d.{rangeIncludes};
 ghost use Rattle.data_model.specs.Area.{areaIncludes, areaRangeAnswer};
 ghost use Rattle.data_model.specs.Refusal.{answered};
 ghost use Rattle.plain.specs.Input.{areaOf, rangeOf};
-ghost use Rattle.plain.specs.Answer.{plainAnswer, plainCompared};
+ghost use Rattle.plain.specs.Answer.{plainAnswer, plainCompared, plainEntriesCompared};
 ghost use Rattle.plain.specs.RangeAnswer.{byteOf, plainAreaRange};
 
 // `Path::is_legal`: whether a path has at most 8 components, each at most 64 bytes, at most 128 in all, and ends that do not descend.
@@ -68,12 +70,12 @@ pub extern "C" fn vb_path_greater_but_not_prefixed(p: Path) -> Above
     p.greater_but_not_prefixed()
 }
 
-// `Entry::is_newer_than`: whether the first entry is newer than the second, by timestamp, then digest, then payload length.
+// `Entry::compare`: whether the first entry is newer than the second, older or the same, by timestamp, then digest, then payload length.
 #[no_mangle]
-pub extern "C" fn vb_entry_is_newer_than(a: Entry, b: Entry) -> PlainAnswer
-    ensures { λ r. ⌜ r ≡ plainAnswer (answered (legal field (a .path) && legal field (b .path)) (newer (entryOf a) (entryOf b))) ⌝ }
+pub extern "C" fn vb_entry_compare(a: Entry, b: Entry) -> PlainEntriesCompared
+    ensures { λ r. ⌜ r ≡ plainEntriesCompared (answered (legal field (a .path) && legal field (b .path)) (byRank (rankOf a) (rankOf b))) ⌝ }
 {
-    plain_answer(a.is_newer_than(b))
+    plain_entries_compared(a.compare(b))
 }
 
 // `Entry::prunes`: whether the first entry prunes the second, being newer at its path or a prefix of it.

@@ -14,6 +14,8 @@ pub enum Answer {
     Taken(Vec<Pair>),
     /// A newer stored entry, with its token.
     Obsolete(Entry, Token),
+    /// The very entry is stored already.
+    Held,
     Done,
     /// There is no such entry to poke.
     Absent,
@@ -28,8 +30,8 @@ pub enum Answer {
     Above(Option<Path>),
     /// How two paths compare, and whether the first prefixes the second.
     Order(Ordering, bool),
-    /// Whether the first of two entries is newer, and whether it prunes the second.
-    Newer(bool, bool),
+    /// Whether the first of two entries is newer, older or the same, and whether it prunes the second.
+    Newer(Recency, bool),
     Included(bool),
     /// Subspace-first and time-first.
     Keys(Vec<u8>, Vec<u8>),
@@ -47,6 +49,7 @@ impl From<Result<Verdict, Refusal>> for Answer {
         match r {
             Ok(Verdict::Taken(pairs)) => Answer::Taken(pairs),
             Ok(Verdict::Obsolete(e, k)) => Answer::Obsolete(e, k),
+            Ok(Verdict::Held) => Answer::Held,
             Err(n) => Answer::Refused(n),
         }
     }

@@ -60,6 +60,7 @@ struct Opened {
 struct Ingested {
     refusal: u8,
     obsolete: u8,
+    held: u8,
     pruned: usize,
     state: State,
     newer: Entry,
@@ -128,7 +129,7 @@ extern "C" {
 }
 const RECORD: usize = 410;
 const ITEM: usize = 28;
-const EDITION: u32 = 2;
+const EDITION: u32 = 3;
 
 /// A record's key and value, read: what a call is handed.
 #[derive(Clone, Copy)]
@@ -211,12 +212,19 @@ impl Port {
     pub fn count(&self) -> usize {
         self.state.count
     }
-    /// The count afterwards.
-    pub fn ingest(&mut self, at: &Place) -> usize {
+    fn file(&mut self, at: &Place, held: u8) -> usize {
         let r = call_mut!(vb_ingest_entry, [self.state], self, self.prune.as_mut_ptr(), self.prune.len(), at.entry, at.token.as_ptr(), 0);
-        assert_eq!((r.refusal, r.obsolete), (0, 0));
+        assert_eq!((r.refusal, r.obsolete, r.held), (0, 0, held));
         self.state = r.state;
         r.state.count
+    }
+    /// An entry that is taken: the count afterwards.
+    pub fn ingest(&mut self, at: &Place) -> usize {
+        self.file(at, 0)
+    }
+    /// An entry that is stored already: the count, as it was.
+    pub fn resend(&mut self, at: &Place) -> usize {
+        self.file(at, 1)
     }
     /// The count afterwards.
     pub fn forget_entry(&mut self, at: &Place) -> usize {

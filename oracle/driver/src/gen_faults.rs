@@ -32,6 +32,8 @@ impl Gen {
             Call::Key(..) if self.a.r.one_in(6) => return Front::Short(6, by),
             Call::Open(..) if self.a.r.one_in(4) => return Front::Short(self.a.r.at(5), by),
             Call::Open(..) => return Front::Plain,
+            // A wrong tally, beside a resend mostly.
+            Call::Ingest(..) if self.kind == "held" && self.a.r.one_in(12) => return Front::Changed(4, self.a.r.below(ITEM), self.a.r.next() as u32),
             _ if !on_store(call) || !self.a.r.one_in(14) => return Front::Plain,
             _ => {}
         }

@@ -1,7 +1,7 @@
 //! Random sequences of steps over all values (gen_any.rs). The generator keeps a model of its own, so that it can ask for
 //! what is stored. KIND: `untied`, without ties among the entries that are handed in, so that the Rust stays a judge when
-//! ties change; `tied`, with many; `full`, stores of up to 1,024 entries, filled and kept full; `values`, calls that need no
-//! store. The same seed gives the same steps.
+//! ties change; `tied`, with many; `held`, mostly what is stored once more, or nearly; `full`, stores of up to 1,024 entries,
+//! filled and kept full; `values`, calls that need no store. The same seed gives the same steps.
 use crate::answer::Answer;
 use crate::call::Call;
 use crate::gen_any::Any;
@@ -9,11 +9,11 @@ use crate::judge::Judge;
 use crate::step::{Front, Step};
 use model::*;
 
-pub const KINDS: [&str; 4] = ["untied", "tied", "full", "values"];
+pub const KINDS: [&str; 5] = ["untied", "tied", "held", "full", "values"];
 
 pub struct Gen {
     pub a: Any,
-    kind: String,
+    pub kind: String,
     pub judge: Judge,
     /// Handed in since the last opening that was not refused.
     sent: Vec<Entry>,
@@ -21,7 +21,11 @@ pub struct Gen {
 
 impl Gen {
     fn open(&mut self) -> Call {
-        let limits: &[u64] = if self.kind == "full" { &[1024, 1024, 1024, 1024, 1023, 700] } else { &[1, 2, 4, 8, 16, 24, 32, 48, 64, 64, 64, 64, 100, 200] };
+        let limits: &[u64] = match &self.kind[..] {
+            "full" => &[1024, 1024, 1024, 1024, 1023, 700],
+            "held" => &[1, 2, 2, 3, 4, 6, 8, 16, 32],
+            _ => &[1, 2, 4, 8, 16, 24, 32, 48, 64, 64, 64, 64, 100, 200],
+        };
         let namespace = if self.a.r.one_in(4) { [0; 16] } else { self.a.subspace() };
         Call::Open(namespace, Some(self.a.r.of(limits)))
     }
@@ -74,6 +78,36 @@ impl Gen {
             e.payload_digest[self.a.r.at(32)] = self.a.r.next() as u8;
         }
         (e, token)
+    }
+    /// What is stored once more, with any token, flag or namespace; or at its place with another digest, length or time; or tied with it. Some available
+    /// lengths, and little else.
+    fn again(&mut self) -> Call {
+        let Some(x) = self.stored() else { return Call::Ingest(Entry { namespace: self.judge.store.namespace, ..self.a.entry([0; 16]) }, self.a.token(), self.a.r.one_in(3)) };
+        let (mut e, other) = (x.entry.clone(), self.a.token());
+        let token = if self.a.r.one_in(2) { other } else { x.token };
+        match self.a.r.below(100) {
+            0..=54 if self.a.r.one_in(12) => {
+                let i = self.a.r.at(16);
+                e.namespace[i] = e.namespace[i].wrapping_add(1);
+            }
+            0..=54 => {}
+            55..=69 => match self.a.r.below(3) {
+                0 => e.timestamp = e.timestamp.wrapping_add(self.a.r.of(&[1, u64::MAX])),
+                1 => e.payload_length = e.payload_length.wrapping_add(self.a.r.of(&[1, u64::MAX])),
+                _ => {
+                    let i = self.a.r.of(&[0, 31, 15, 16, 7]);
+                    e.payload_digest[i] = e.payload_digest[i].wrapping_add(self.a.r.of(&[1, 255, 128]));
+                }
+            },
+            70..=79 => e = self.tied(e),
+            80..=86 => {
+                let any = self.a.number();
+                return Call::Avail(e.subspace, e.path, self.a.r.of(&[1, 2, u64::MAX, any]));
+            }
+            87..=91 => e = Entry { namespace: e.namespace, ..self.a.entry([0; 16]) },
+            _ => return self.store_call(),
+        }
+        Call::Ingest(e, token, self.a.r.one_in(3))
     }
     /// Of many subspaces and paths, so that little is pruned.
     fn filler(&mut self) -> Call {
@@ -207,6 +241,10 @@ impl Gen {
                 if !self.a.r.one_in(4) {
                     y = self.a.close(&x);
                 }
+                // The same, wherever it stands.
+                if self.a.r.one_in(4) {
+                    y = Entry { path: self.a.relative(&x.path), subspace: if self.a.r.one_in(4) { y.subspace } else { x.subspace }, ..x.clone() };
+                }
                 if self.a.r.one_in(2) {
                     (x.namespace, y.namespace) = (self.a.subspace(), x.namespace);
                 }
@@ -253,7 +291,7 @@ impl Gen {
         if self.kind == "full" && lacks && !self.a.r.one_in(20) {
             return self.filler();
         }
-        self.store_call()
+        if self.kind == "held" { self.again() } else { self.store_call() }
     }
 }
 

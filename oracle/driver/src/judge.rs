@@ -51,7 +51,7 @@ impl Judge {
             Call::AreaRange(a) => self.legal(&[&a.path], || Answer::Range(b.area_range(a))),
             Call::Above(p) => self.legal(&[p], || Answer::Above(b.above(p))),
             Call::Order(p, q) => self.legal(&[p, q], || Answer::Order(p.cmp(q), is_prefix(p, q))),
-            Call::Newer(x, y) => self.legal(&[&x.path, &y.path], || Answer::Newer(x.is_newer_than(y), x.prunes(y))),
+            Call::Newer(x, y) => self.legal(&[&x.path, &y.path], || Answer::Newer(x.compare(y), x.prunes(y))),
             Call::InArea(a, e) => self.legal(&[&a.path, &e.path], || Answer::Included(a.includes(e))),
             Call::InRange(r, e) => {
                 let paths: Vec<&Path> = [Some(&r.paths.start), r.paths.end.as_ref(), Some(&e.path)].into_iter().flatten().collect();

@@ -23,6 +23,7 @@ pub mod tally;
 #[cfg(feature = "door")]
 pub mod three;
 pub mod walks;
+pub mod with_model;
 use std::cell::RefCell;
 
 thread_local! { static PANIC: RefCell<String> = const { RefCell::new(String::new()) }; }

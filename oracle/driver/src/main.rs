@@ -1,9 +1,11 @@
 //! oracle calls [hall]       the call language (README.md) from standard input, answered by the Rust
 //! oracle list               document 01's listing program, likewise
+//! oracle calls held [hall]  the same with the model beside it: where the model says held, `held` and the Rust's own answer, and the Rust's
+//! oracle list held          trees are put back if that changed them (`held back` and the answer)
 //! oracle model [hall]       the call language, answered by the model of document 01; not the Rust
 //! oracle list model         the listing program over the model; not the Rust
 //! oracle like [hall]        the calls themselves, without those that the Rust answers `unlike` (for vectors/)
-//! oracle gen SEED N KIND    N random calls; KIND: in, shared, hall, wide, refusals, calls, keys, raw, untied, tied, full, values
+//! oracle gen SEED N KIND    N random calls; KIND: in, shared, hall, wide, refusals, calls, keys, raw, untied, tied, held, full, values
 //! oracle bench              the Rust's speed
 //! oracle exhaust            all short sequences of a small set of ingests, the Rust beside the model
 //! oracle paths              successor and greater_but_not_prefixed against a walk over all short paths
@@ -12,6 +14,7 @@ use driver::call::*;
 use driver::judge::Judge;
 use driver::show::{short, show, show_call};
 use driver::step::Front;
+use driver::with_model::WithModel;
 use driver::{bench, gen, gen_steps, oracle, walks};
 use model::{FIELD, HALL};
 use std::io::{Read, Write};
@@ -65,7 +68,7 @@ fn calls(input: &[u8], like: bool, out: &mut impl Write, mut exec: impl FnMut(&C
 }
 
 fn usage() -> ! {
-    eprintln!("oracle calls [hall] | like [hall] | list [model] | model [hall] | gen SEED N KIND | bench | exhaust | paths");
+    eprintln!("oracle calls [held] [hall] | like [hall] | list [held] | list model | model [hall] | gen SEED N KIND | bench | exhaust | paths");
     std::process::exit(2)
 }
 
@@ -78,18 +81,31 @@ fn main() {
         std::io::stdin().read_to_end(&mut input).unwrap();
     }
     match args[..] {
-        ["calls" | "like"] => {
+        ["calls"] => {
             let mut o = oracle::Oracle::<64, 8, 128>::open(Default::default(), None);
-            calls(&input, args[0] == "like", &mut out, |c| o.exec(c))
+            calls(&input, false, &mut out, |c| o.exec(c))
         }
-        ["calls" | "like", "hall"] => {
+        ["calls", "hall"] => {
             let mut o = oracle::Oracle::<16, 4, 32>::open(Default::default(), None);
-            calls(&input, args[0] == "like", &mut out, |c| o.exec(c))
+            calls(&input, false, &mut out, |c| o.exec(c))
+        }
+        ["calls", "held"] | ["like"] => {
+            let mut o = WithModel::<64, 8, 128>::open(None);
+            calls(&input, args[0] == "like", &mut out, |c| o.told(c))
+        }
+        ["calls", "held", "hall"] | ["like", "hall"] => {
+            let mut o = WithModel::<16, 4, 32>::open(None);
+            calls(&input, args[0] == "like", &mut out, |c| o.told(c))
         }
         ["list"] => {
             let mut o = oracle::Oracle::<64, 8, 128>::open(Default::default(), Some(64));
             list(&input, &mut out, |c| o.exec(c));
             at_end(&o.list(), &mut out)
+        }
+        ["list", "held"] => {
+            let mut o = WithModel::<64, 8, 128>::open(Some(64));
+            list(&input, &mut out, |c| o.told(c));
+            at_end(&o.rust.list(), &mut out)
         }
         ["model"] | ["model", "hall"] => {
             let bounds = if args.len() == 2 { HALL } else { FIELD };

@@ -1,12 +1,13 @@
 //! ORACLE: the customer's Rust, called. Every answer below comes out of the unchanged files, but for what this driver
 //! does itself: the limit (refusal 8: the call is made, and taken back if the count then exceeds the limit), the names
-//! of the outcomes, `unlike` (README.md), and `spt01` and `tsp01`, which are the model's and say so in their names.
+//! of the outcomes, `unlike` (README.md), `spt01` and `tsp01`, which are the model's and say so in their names, and
+//! `resend`, which puts the trees back where 02's U2 wants nothing changed.
 use crate::answer::Answer;
 use crate::call::*;
 use crate::convert::*;
 use crate::params::*;
 use crate::tally::counted;
-use model::{Bounds, Ignore, Stored, Token};
+use model::{Bounds, Ignore, Recency, Stored, Token};
 use std::panic::{catch_unwind, AssertUnwindSafe};
 use std::rc::Rc;
 use ufotofu_codec::block_on;
@@ -97,6 +98,50 @@ impl<const MCL: usize, const MCC: usize, const MPL: usize> Oracle<MCL, MCC, MPL>
         Ok(Answer::Taken(pruned.map(|(k, _)| places[&k]).collect()))
     }
 
+    /// An ingestion that the model answers with held: the very entry is stored. The Rust files it anew, and removes with the
+    /// stored one the extensions that tie; with pruning prevented it refuses with 7. Exactly that is asserted, by the Rust's
+    /// own records. Its trees are then put back, if they are not as they were by themselves: if the token is another, the
+    /// available length was not 0, or an extension went. The Rust's own answer, and whether anything was put back.
+    pub fn resend(&mut self, e: &model::Entry, token: &Token, prevent: bool) -> Result<(Answer, bool), String> {
+        let before = [self.raw(false), self.raw(true)];
+        let answer = self.exec(&Call::Ingest(e.clone(), *token, prevent));
+        let after = [self.raw(false), self.raw(true)];
+        let told = |what: &str| Err(format!("a resend of {e:?}, {what}: the Rust says {answer:?}"));
+        if prevent {
+            return if answer == Answer::Refused(7) && after == before { Ok((answer, false)) } else { told("pruning prevented") };
+        }
+        // What the Rust does, by 01: of its subspace, at its path or below, whatever has its time, digest and length goes.
+        let new = [&e.payload_length.to_be_bytes()[..], &e.payload_digest, token, &[0; 8]].concat();
+        let (mut at, mut pairs, mut gone) = (0, vec![], vec![]);
+        for (k, v) in &before[0] {
+            let Some((s, p, t)) = model::FIELD.decode(false, k) else { return told("beside a key that no encoder writes") };
+            if s == e.subspace && p.starts_with(&e.path) && t == e.timestamp && v[..40] == new[..40] {
+                pairs.push((at, (k.len() + v.len()) as u32));
+                gone.push(p);
+            }
+            at += (k.len() + v.len()) as u32;
+        }
+        if gone.first() != Some(&e.path) || answer != Answer::Taken(pairs) {
+            return told("that is stored");
+        }
+        for (time_first, was) in before.iter().enumerate() {
+            let key = |p: &model::Path| model::key(&model::Entry { path: p.clone(), ..e.clone() }, time_first == 1);
+            let (own, gone): (_, Vec<_>) = (key(&e.path), gone.iter().map(key).collect());
+            let now = was.iter().filter(|(k, _)| k[..] == own[..] || !gone.iter().any(|g| k[..] == g[..]));
+            let now: Vec<(Vec<u8>, Vec<u8>)> = now.map(|(k, v)| (k.to_vec(), if k[..] == own[..] { new.clone() } else { v.to_vec() })).collect();
+            if after[time_first].len() != now.len() || after[time_first].iter().zip(&now).any(|((k, v), (l, w))| k[..] != l[..] || v[..] != w[..]) {
+                return told("and files something else");
+            }
+        }
+        let changed = after != before;
+        if changed {
+            let [spt, tsp] = before;
+            self.restore(false, spt);
+            self.restore(true, tsp);
+        }
+        Ok((answer, changed))
+    }
+
     pub fn exec(&mut self, call: &Call) -> Answer {
         crate::quiet();
         YES.with(|y| y.set(u64::MAX));
@@ -184,7 +229,13 @@ impl<const MCL: usize, const MCC: usize, const MPL: usize> Oracle<MCL, MCC, MPL>
             }
             Call::Newer(a, b) => {
                 let (a, b): (Entry<MCL, MCC, MPL, _, _, _>, _) = (entry(a)?, entry(b)?);
-                Answer::Newer(a.is_newer_than(&b), a.prunes(&b))
+                // Asked both ways: newer, older, or neither.
+                match (a.is_newer_than(&b), b.is_newer_than(&a)) {
+                    (true, false) => Answer::Newer(Recency::Newer, a.prunes(&b)),
+                    (false, true) => Answer::Newer(Recency::Older, a.prunes(&b)),
+                    (false, false) => Answer::Newer(Recency::Same, a.prunes(&b)),
+                    (true, true) => Answer::Said("each is newer than the other".into()),
+                }
             }
             Call::InArea(a, e) => {
                 let a: g::Area<MCL, MCC, MPL, Sub> = area(a)?;

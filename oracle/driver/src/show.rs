@@ -69,6 +69,7 @@ pub fn show(a: &Answer) -> String {
             format!("ok {}{shown}", pairs.len())
         }
         Answer::Obsolete(e, _) => format!("obsolete {}", short(e)),
+        Answer::Held => "held".into(),
         Answer::Done => "done".into(),
         Answer::Absent => "none".into(),
         Answer::Forgot(n) => format!("forgot {n}"),
@@ -83,7 +84,7 @@ pub fn show(a: &Answer) -> String {
         Answer::Range(r) => format!("range {}", range3d(r)),
         Answer::Above(p) => format!("path {}", show_open(p, show_path)),
         Answer::Order(order, prefix) => format!("{order:?}{}", if *prefix { " prefix" } else { "" }).to_lowercase(),
-        Answer::Newer(newer, prunes) => format!("newer {} prunes {}", *newer as u8, *prunes as u8),
+        Answer::Newer(order, prunes) => format!("{order:?} prunes {}", *prunes as u8).to_lowercase(),
         Answer::Included(yes) => format!("included {}", *yes as u8),
         Answer::Keys(a, b) => format!("key {} {}", show_hex(a), show_hex(b)),
         Answer::Triple(s, p, t) => format!("triple {} {} {t}", show_last(s), show_path(p)),

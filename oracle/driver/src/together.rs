@@ -1,6 +1,6 @@
 //! together KIND FROM TO N ..: for each seed from FROM to TO, N random calls of that KIND go through the customer's Rust, the
 //! model and the port in one process (three/mod.rs). KIND: keys, raw, shared, wide, refusals (the call language's), untied,
-//! tied, full, values (gen_steps.rs). Prints for each run how many calls were judged by whom and what was skipped, and then
+//! tied, held, full, values (gen_steps.rs). Prints for each run how many calls were judged by whom and what was skipped, and then
 //! how often each thing occurred in all of them. Ends with 1 at the first difference, with the fewest steps that show one.
 //!
 //! together least M KIND FROM TO N ..: the same, and ends with 1 if any row of the table is below M.
@@ -68,7 +68,9 @@ fn main() {
         let by = |j: Judged| judged.get(&j).copied().unwrap_or(0);
         print!("{kind} {from} {to} {n}: {} by the Rust and the model, {} by the model", by(Judged::ByBoth), by(Judged::ByModel));
         print!("; the Rust differs in {} (1.2, 5), {} (2, read)", by(Judged::SkippedArea), by(Judged::SkippedRead));
-        println!(", {} (2, panics), {} (2, unreached); {bad} lines are no call", by(Judged::SkippedPanic), by(Judged::SkippedUnreached));
+        print!(", {} (2, panics), {} (2, unreached)", by(Judged::SkippedPanic), by(Judged::SkippedUnreached));
+        print!(", {} (12, held), {} (12, held and prevented), {} (12, held and put back)", by(Judged::Held), by(Judged::HeldPrevented), by(Judged::HeldBack));
+        println!("; {bad} lines are no call");
     }
     let mut low = 0;
     for (row, n) in table.all() {

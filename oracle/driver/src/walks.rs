@@ -1,13 +1,8 @@
 //! Walks over everything small: the path laws over all paths of tiny instances, the Rust beside the model over all short
 //! sequences of ingests.
 use crate::call::{call, Call};
-use crate::judge::Judge;
-use crate::oracle::Oracle;
-use crate::params::*;
-use model::FIELD;
+use crate::with_model::WithModel;
 use willow_data_model::Path;
-
-type O = Oracle<64, 8, 128>;
 
 /// All legal paths over all 256 bytes, in order; what `successor` and `greater_but_not_prefixed` should answer is then
 /// read off the list.
@@ -99,16 +94,17 @@ pub fn exhaust() {
         }
     }
     let dump = call("dump").unwrap();
-    let (mut n, mut bad) = (0, 0);
+    let (mut n, mut bad, mut held, mut back) = (0, 0, 0, 0);
     let mut run = |calls: &[&Call]| {
-        let mut o = O::open(Ns([0; 16]), Some(2));
-        let mut m = Judge::limited(2, FIELD);
+        let mut both = WithModel::<64, 8, 128>::open(Some(2));
         n += 1;
         for c in calls.iter().copied().chain([&dump]) {
-            let (a, b) = (o.exec(c), m.exec(c));
-            if a != b {
+            let a = both.exec(c);
+            held += a.back.is_some() as u64;
+            back += (a.back == Some(true)) as u64;
+            if a.back.is_none() && a.rust != a.model {
                 bad += 1;
-                println!("{calls:?}\n  Rust {a:?}\n  01   {b:?}");
+                println!("{calls:?}\n  Rust {:?}\n  01   {:?}", a.rust, a.model);
             }
         }
     };
@@ -121,5 +117,5 @@ pub fn exhaust() {
             }
         }
     }
-    println!("{n} sequences of up to 3 of {} ingests (limit 2), {bad} answers differ", set.len());
+    println!("{n} sequences of up to 3 of {} ingests (limit 2), {bad} answers differ; {held} resends, held, {back} of them put back in the Rust", set.len());
 }

@@ -12,6 +12,8 @@ pub enum Verdict {
     Taken(Vec<Pair>),
     /// A stored entry that is newer, with its token.
     Obsolete(Entry, Token),
+    /// The very entry is stored already; nothing changes, its token and available length included (02, U2).
+    Held,
 }
 
 #[derive(Clone, Debug, PartialEq, Eq)]
@@ -72,10 +74,14 @@ impl Store {
         if e.namespace != self.namespace {
             return Err(6);
         }
-        if let Some(x) = self.list.iter().find(|x| x.entry.covers(e) && x.entry.is_newer_than(e)) {
+        if let Some(x) = self.list.iter().find(|x| x.entry.covers(e) && x.entry.compare(e) == Recency::Newer) {
             return Ok(Verdict::Obsolete(x.entry.clone(), x.token));
         }
-        let outdated = |x: &Stored| e.covers(&x.entry) && !x.entry.is_newer_than(e);
+        // The same subspace, path, timestamp, digest and length; the namespace is the store's.
+        if self.list.iter().any(|x| x.entry == *e) {
+            return Ok(Verdict::Held);
+        }
+        let outdated = |x: &Stored| e.covers(&x.entry) && x.entry.compare(e) != Recency::Newer;
         let (mut at, mut pruned) = (0, vec![]);
         for x in &self.list {
             let length = record(x, false).len() as u32;

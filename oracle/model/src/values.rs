@@ -1,4 +1,5 @@
 //! Document 01's values: plain bytes, numbers and lists. Orders are those of bytes and numbers.
+use std::cmp::Ordering;
 
 pub type Namespace = [u8; 16];
 pub type Subspace = [u8; 16];
@@ -79,29 +80,41 @@ impl Ignore {
     }
 }
 
+/// How recent an entry is beside another.
+#[derive(Clone, Copy, Debug, PartialEq, Eq)]
+pub enum Recency {
+    Newer,
+    Older,
+    Same,
+}
+
 /// By whole components.
 pub fn is_prefix(a: &Path, b: &Path) -> bool {
     b.starts_with(a)
 }
 
 impl Entry {
-    /// By timestamp, then digest as bytes, then payload length, each strictly.
-    pub fn is_newer_than(&self, other: &Entry) -> bool {
-        self.recency() > other.recency()
+    /// By timestamp, then digest as bytes, then payload length: 02's U2.
+    pub fn compare(&self, other: &Entry) -> Recency {
+        match self.rank().cmp(&other.rank()) {
+            Ordering::Greater => Recency::Newer,
+            Ordering::Less => Recency::Older,
+            Ordering::Equal => Recency::Same,
+        }
     }
     /// Of one namespace and subspace, the path being the other's or prefixing it, and newer.
     pub fn prunes(&self, other: &Entry) -> bool {
-        self.namespace == other.namespace && self.covers(other) && self.is_newer_than(other)
+        self.namespace == other.namespace && self.covers(other) && self.compare(other) == Recency::Newer
     }
     /// Of one subspace, the path being the other's or prefixing it.
     pub fn covers(&self, other: &Entry) -> bool {
         self.subspace == other.subspace && is_prefix(&self.path, &other.path)
     }
-    /// Of one subspace, one path extending the other, and neither newer.
+    /// Of one subspace, one path extending the other, and neither newer nor older.
     pub fn ties(&self, other: &Entry) -> bool {
-        self.path != other.path && (self.covers(other) || other.covers(self)) && self.recency() == other.recency()
+        self.path != other.path && (self.covers(other) || other.covers(self)) && self.compare(other) == Recency::Same
     }
-    fn recency(&self) -> (u64, Digest, u64) {
+    fn rank(&self) -> (u64, Digest, u64) {
         (self.timestamp, self.payload_digest, self.payload_length)
     }
 }

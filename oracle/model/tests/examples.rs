@@ -1,4 +1,4 @@
-//! Document 01's examples, with answers as it states them.
+//! Document 01's examples, with answers as it states them, and 02's U1 and U2.
 use model::*;
 
 fn p(comps: &[&[u8]]) -> Path {
@@ -63,7 +63,12 @@ fn path_values() {
 #[test]
 fn newer_and_times() {
     let (a, b) = (entry(p(&[&[0x61]]), 5, 3, 10), entry(p(&[&[0x61], &[0x62]]), 5, 3, 10));
-    assert!(!a.is_newer_than(&b) && !b.is_newer_than(&a) && a.ties(&b) && !a.ties(&a));
+    assert_eq!((a.compare(&b), b.compare(&a), a.compare(&a)), (Recency::Same, Recency::Same, Recency::Same));
+    assert!(a.ties(&b) && !a.ties(&a));
+    // Timestamp before digest before length.
+    for (x, y) in [(entry(p(&[]), 6, 0, 0), entry(p(&[]), 5, 9, 9)), (entry(p(&[]), 5, 0, 9), entry(p(&[]), 5, 9, 8)), (entry(p(&[]), 5, 9, 8), entry(p(&[]), 5, 8, 8))] {
+        assert_eq!((x.compare(&y), y.compare(&x)), (Recency::Newer, Recency::Older));
+    }
     assert!(entry(p(&[]), 5, 0, 11).prunes(&a) && entry(p(&[]), 5, 4, 10).prunes(&b) && !entry(p(&[]), 4, 9, 99).prunes(&a));
     let times = Range { start: 5, end: Some(10) };
     assert!(times.includes(&9) && !times.includes(&10) && !times.includes(&4));
@@ -89,6 +94,36 @@ fn ties_and_limit() {
     assert_eq!(s.ingest(&other, &TOKEN, false), Err(6));
     assert_eq!(s.ingest(&Entry { path: vec![vec![]; 9], ..other }, &TOKEN, false), Err(4));
     assert_eq!((Store::open([0; 16], 0, FIELD), Store::open([0; 16], 1025, FIELD)), (Err(1), Err(1)));
+}
+
+/// Document 02's U2: the same entry twice.
+#[test]
+fn resends() {
+    let (short, long) = (entry(p(&[&[0x61]]), 5, 3, 10), entry(p(&[&[0x61], &[0x62]]), 5, 3, 10));
+    let mut s = Store::open([0; 16], 2, FIELD).unwrap();
+    assert_eq!((s.ingest(&short, &TOKEN, true), s.ingest(&long, &TOKEN, true)), (Ok(Verdict::Taken(vec![])), Ok(Verdict::Taken(vec![]))));
+    assert!(s.poke_available(&sub(1), &short.path, 2));
+    // Full, with a tie, with an available length; also with pruning prevented and with another token.
+    let before = s.clone();
+    for (e, token, prevent) in [(&short, TOKEN, false), (&short, TOKEN, true), (&short, [9; 64], false), (&long, [9; 64], true)] {
+        assert_eq!(s.ingest(e, &token, prevent), Ok(Verdict::Held));
+        assert_eq!(s, before);
+    }
+    // Another namespace; a wrong tally; an illegal path.
+    assert_eq!(s.ingest(&Entry { namespace: [1; 16], ..short.clone() }, &TOKEN, false), Err(6));
+    s.poke_tally(20, 4);
+    assert_eq!(s.ingest(&short, &TOKEN, false), Err(10));
+    s.poke_tally(20, 5);
+    assert_eq!(s.ingest(&short, &TOKEN, false), Ok(Verdict::Held));
+    // The same place with another length, digest or time; another place alone is a tie.
+    for near in [entry(short.path.clone(), 5, 4, 10), entry(short.path.clone(), 5, 3, 11), entry(short.path.clone(), 6, 3, 10)] {
+        assert_eq!(s.ingest(&near, &TOKEN, true), Err(7));
+    }
+    assert_eq!(s.ingest(&entry(short.path.clone(), 5, 2, 10), &TOKEN, true), Ok(Verdict::Obsolete(short.clone(), TOKEN)));
+    assert_eq!(s.ingest(&entry(p(&[&[0x61], &[0x63]]), 5, 3, 10), &TOKEN, false), Err(8));
+    // After the last resend nothing else is held: the newer entry prunes both.
+    assert!(matches!(s.ingest(&entry(short.path.clone(), 5, 4, 10), &TOKEN, false), Ok(Verdict::Taken(pruned)) if pruned.len() == 2));
+    assert!(matches!(s.ingest(&short, &TOKEN, false), Ok(Verdict::Obsolete(..))));
 }
 
 /// The four lines of the listing program.

@@ -11,7 +11,8 @@ pub struct Opened {
     pub state: State,
 }
 
-/// Taken, with how many entries were pruned; or `obsolete`, with a stored entry that is newer and its token; or refused.
+/// Refused; or `obsolete`, with a stored entry that is newer and its token; or `held`, the very entry being stored already; or, if all three are 0, taken, with
+/// how many entries were pruned. Only an entry that is taken changes anything.
 #[repr(C)]
 #[derive(Clone, Copy, Debug, PartialEq, Eq)]
 pub struct Ingested {
@@ -19,6 +20,8 @@ pub struct Ingested {
     pub refusal: u8,
     /// 1: a stored entry is newer, and nothing changed.
     pub obsolete: u8,
+    /// 1: an entry of the same subspace, path, timestamp, digest and length is stored, and nothing changed, its token included.
+    pub held: u8,
     /// How many entries were pruned.
     pub pruned: usize,
     /// The state to hand in next.
@@ -149,6 +152,18 @@ pub struct Compared {
     pub greater: u8,
 }
 
+/// How two entries compare; the same if all three are 0.
+#[repr(C)]
+#[derive(Clone, Copy, Debug, PartialEq, Eq)]
+pub struct EntriesCompared {
+    /// 0 or 4.
+    pub refusal: u8,
+    /// 1: the first is newer.
+    pub newer: u8,
+    /// 1: the first is older.
+    pub older: u8,
+}
+
 /// The least path above another that this one does not prefix.
 #[repr(C)]
 #[derive(Clone, Copy, Debug, PartialEq, Eq)]
@@ -217,7 +232,7 @@ pub struct Stepped {
 
 layout! {
     Opened: 40, refusal 0, state 8;
-    Ingested: 392, refusal 0, obsolete 1, pruned 8, state 16, newer 48, token 328;
+    Ingested: 392, refusal 0, obsolete 1, held 2, pruned 8, state 16, newer 48, token 328;
     PairsIngested: 8584, ingested 0, pairs 392;
     EntryForgotten: 40, refusal 0, state 8;
     AreaForgotten: 48, refusal 0, state 8, forgotten 40;
@@ -229,6 +244,7 @@ layout! {
     AreaRange: 480, refusal 0, range 8;
     Answer: 2, refusal 0, yes 1;
     Compared: 3, refusal 0, less 1, greater 2;
+    EntriesCompared: 3, refusal 0, newer 1, older 2;
     Above: 208, refusal 0, found 1, path 8;
     Encoded: 16, refusal 0, length 8;
     Decoded: 232, refusal 0, subspace 8, path 24, timestamp 224;

@@ -76,9 +76,11 @@ into_store! {
     open = vb_open(namespace_id: &[u8; 16], limit: usize;;) -> Opened;
 
     /// Files an entry with its token and available length 0. It is obsolete, and nothing changes, if a stored entry of the subspace, at a prefix of its
-    /// path or the path itself, is newer. Else what it outdates is removed: entries at its path or below that are not newer. The pairs of these, as they stood before the
-    /// call, in key order, go to the front of `prune`, which has at least `limit` pairs; `pruned` says how many, and what lies behind stays.
-    /// Refused: 1, 2, 3, 10, 4, 6, then obsolete, then 7 (with `prevent_pruning`), 8.
+    /// path or the path itself, is newer. It is held, and nothing changes, if an entry of the same subspace, path, timestamp, digest and length is stored: the
+    /// stored one keeps its token and available length, whatever token comes now. Else what it outdates is removed: entries at its path or below that are not
+    /// newer. The pairs of these, as they stood before the call, in key order, go to the front of `prune`, which has at least `limit` pairs; `pruned` says how
+    /// many, and what lies behind stays.
+    /// Refused: 1, 2, 3, 10, 4, 6, then obsolete, held, then 7 (with `prevent_pruning`), 8.
     ingest_entry = vb_ingest_entry(state: State; prune: [Pair]; entry: Entry, token: &[u8; 64], prevent_pruning: u8) -> Ingested;
 
     /// [`ingest_entry`] over a prune list of at least 2 × limit numbers, offset and length by turns. Refused as there.
@@ -140,8 +142,8 @@ over_values! {
     /// The least legal path above p that p does not prefix, if there is one. Refused: 4.
     path_greater_but_not_prefixed = vb_path_greater_but_not_prefixed(p: Path) -> Above;
 
-    /// Whether a is newer than b: by timestamp, then digest as bytes, then payload length, each strictly. Refused: 4.
-    entry_is_newer_than = vb_entry_is_newer_than(a: Entry, b: Entry) -> Answer;
+    /// Whether a is newer than b, older or the same: by timestamp, then digest as bytes, then payload length. Where the entries stand plays no part. Refused: 4.
+    entry_compare = vb_entry_compare(a: Entry, b: Entry) -> EntriesCompared;
 
     /// Whether a prunes b: of one namespace and subspace, a's path is b's or prefixes it, and a is newer. Refused: 4.
     entry_prunes = vb_entry_prunes(a: Entry, b: Entry) -> Answer;

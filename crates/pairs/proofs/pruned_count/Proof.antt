@@ -13,6 +13,9 @@ enum-told c = search needs
 enum-told-2 : tie.Need-enum-told-2
 enum-told-2 c = search needs
 
+enum-told-3 : tie.Need-enum-told-3
+enum-told-3 c = search needs
+
 returns : tie.Need-returns
 unfolding verdictSays
 returns c = search needs
@@ -25,6 +28,10 @@ returns-3 : tie.Need-returns-3
 unfolding verdictSays
 returns-3 c = search needs
 
+returns-4 : tie.Need-returns-4
+unfolding verdictSays
+returns-4 c = search needs
+
 pub pruned-count-spec : {M : Type 1} → statement M
 pruned-count-spec =
-    tie.close (tie.spec enum-known-verdict enum-told enum-told-2 returns returns-2 returns-3)
+    tie.close (tie.spec enum-known-verdict enum-told enum-told-2 enum-told-3 returns returns-2 returns-3 returns-4)

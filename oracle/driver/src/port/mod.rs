@@ -161,18 +161,19 @@ impl Port {
             }
             _ => raw::ingest_entry(h.state, &mut store, prune, e, k, prevent),
         };
-        let plain = raw::Ingested { refusal: 0, obsolete: 0, pruned: 0, state: got.state, newer: raw::Entry::default(), token: [0; 64] };
+        let plain = raw::Ingested { refusal: 0, obsolete: 0, held: 0, pruned: 0, state: got.state, newer: raw::Entry::default(), token: [0; 64] };
         self.keep(got.refusal, got.state, h.state)?;
-        Ok(match (got.refusal, got.obsolete, unentry(&got.newer)) {
-            (0, 1, Some(newer)) => {
+        Ok(match (got.refusal, got.obsolete, got.held, unentry(&got.newer)) {
+            (0, 1, _, Some(newer)) => {
                 let plain = raw::Ingested { obsolete: 1, newer: Spell::plain().entry(&newer), token: got.token, ..plain };
                 strict(got, plain, Answer::Obsolete(newer, got.token))
             }
-            (0, 0, _) if got.pruned <= h.lengths[5] => {
+            (0, 0, 1, _) => strict(got, raw::Ingested { held: 1, state: h.state, ..plain }, Answer::Held),
+            (0, 0, _, _) if got.pruned <= h.lengths[5] => {
                 let pairs = self.buffers.prune[..got.pruned].iter().map(|p| (p.offset, p.length)).collect();
                 strict(got, raw::Ingested { pruned: got.pruned, ..plain }, Answer::Taken(pairs))
             }
-            (n, _, _) => strict(got, raw::Ingested { refusal: n, ..plain }, Answer::Refused(n)),
+            (n, ..) => strict(got, raw::Ingested { refusal: n, ..plain }, Answer::Refused(n)),
         })
     }
     fn found(&self, got: raw::EntryFound) -> Answer {

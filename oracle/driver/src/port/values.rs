@@ -52,12 +52,29 @@ fn order(a: raw::Path, b: raw::Path) -> Result<Answer, Answer> {
     Ok(Answer::Order(order, prefix))
 }
 
-fn newer(a: raw::Entry, b: raw::Entry) -> Result<Answer, Answer> {
-    let (newer, prunes, pruned) = (yes(raw::entry_is_newer_than(a, b)), yes(raw::entry_prunes(a, b)), yes(raw::entry_is_pruned_by(b, a)));
-    if prunes != pruned || newer.as_ref().err() != prunes.as_ref().err() {
-        return Err(Answer::Said(format!("contradictory: {newer:?} {prunes:?} {pruned:?}")));
+/// Newer, older or the same, or a refusal.
+fn recency(got: raw::EntriesCompared) -> Result<Recency, Answer> {
+    match got {
+        raw::EntriesCompared { refusal: 0, newer: 1, older: 0 } => Ok(Recency::Newer),
+        raw::EntriesCompared { refusal: 0, newer: 0, older: 1 } => Ok(Recency::Older),
+        raw::EntriesCompared { refusal: 0, newer: 0, older: 0 } => Ok(Recency::Same),
+        raw::EntriesCompared { refusal, newer: 0, older: 0 } => Err(Answer::Refused(refusal)),
+        _ => Err(Answer::Said(format!("stray: {got:?}"))),
     }
-    Ok(Answer::Newer(newer?, prunes?))
+}
+
+fn newer(a: raw::Entry, b: raw::Entry) -> Result<Answer, Answer> {
+    let (order, back) = (recency(raw::entry_compare(a, b)), recency(raw::entry_compare(b, a)));
+    let (prunes, pruned) = (yes(raw::entry_prunes(a, b)), yes(raw::entry_is_pruned_by(b, a)));
+    let turned = order.clone().map(|order| match order {
+        Recency::Newer => Recency::Older,
+        Recency::Older => Recency::Newer,
+        Recency::Same => Recency::Same,
+    });
+    if prunes != pruned || turned != back || order.as_ref().err() != prunes.as_ref().err() {
+        return Err(Answer::Said(format!("contradictory: {order:?} {back:?} {prunes:?} {pruned:?}")));
+    }
+    Ok(Answer::Newer(order?, prunes?))
 }
 
 /// A key, written into a buffer that is full of something else.

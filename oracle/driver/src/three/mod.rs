@@ -27,6 +27,11 @@ pub enum Judged {
     SkippedRead,
     SkippedPanic,
     SkippedUnreached,
+    /// docs/DIFFERENCES.md 12: a resend, which the model and the port hold. The Rust takes it anew and changes no byte; refuses it, pruning being
+    /// prevented; or changes something, which is put back.
+    Held,
+    HeldPrevented,
+    HeldBack,
 }
 
 pub struct Three {
@@ -245,6 +250,10 @@ impl Three {
         let alone = refusal.is_some() || matches!(call, Call::Decode01(..)) || (!opens && (matches!(call, Call::Open(..)) || self.closed && on_store(call)));
         if alone {
             return Ok(Judged::ByModel);
+        }
+        if let (Call::Ingest(e, token, prevent), Answer::Held) = (call, model) {
+            let (_, back) = self.rust.resend(e, token, *prevent)?;
+            return Ok(if *prevent { Judged::HeldPrevented } else if back { Judged::HeldBack } else { Judged::Held });
         }
         let rust = self.rust.exec(call);
         if rust == *model {

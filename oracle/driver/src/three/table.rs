@@ -13,12 +13,14 @@ const CALLS: [&str; 19] = [
     "open", "ingest", "forget", "farea", "entry", "qarea", "qrange", "narea", "nrange", "count", "size", "aoi", "arange",
     "above", "order", "newer", "inarea", "inrange", "key",
 ];
-const ROWS: [&str; 72] = [
+const ROWS: [&str; 83] = [
     "taken", "taken, nothing pruned", "taken, one pruned", "taken, several pruned", "obsolete", "obsolete by its own path",
-    "obsolete by a prefix", "done", "done, an entry forgotten", "done, nothing there", "refused 1", "refused 2",
-    "refused 3", "refused 4", "refused 5", "refused 6", "refused 7", "refused 8", "refused 9", "refused 10", "tie: the longer is stored",
-    "tie: the shorter is stored", "resend", "resend, pruning prevented", "resend with another token", "resend beside a tie",
-    "resend with an available length", "prevented, nothing to prune", "ingestion into a full store",
+    "obsolete by a prefix", "done", "done, an entry forgotten", "done, nothing there", "refused 1", "refused 2", "refused 3",
+    "refused 4", "refused 5", "refused 6", "refused 7", "refused 8", "refused 9", "refused 10", "tie: the longer is stored",
+    "tie: the shorter is stored", "held", "held, pruning prevented", "held by a full store", "held with another token",
+    "held beside a longer path that ties", "held beside a shorter path that ties", "held with an available length",
+    "resend with a wrong tally", "resend of another namespace", "stored but for its timestamp", "stored but for its digest",
+    "stored but for its length", "stored but for its path, a tie", "prevented, nothing to prune", "ingestion into a full store",
     "ingestion into a full store of 1,024", "taken by a full store", "protected area", "protected area that saves",
     "both flags", "incomplete alone hides", "empty alone hides", "available length strictly between, in a query",
     "lookup that finds", "lookup hidden by a flag", "listing of several", "next from a record that does not match",
@@ -28,7 +30,8 @@ const ROWS: [&str; 72] = [
     "9 components alone are wrong", "129 bytes alone are wrong", "65 bytes alone are wrong", "empty path",
     "digest whose bytes differ", "token whose bytes differ", "subspace of 16 bytes", "timestamp from 2^63 on",
     "length from 2^63 on", "namespace not 0", "key that no encoder writes", "key of 298 bytes", "least path above: none",
-    "a new item", "a new item between others", "an item that goes", "an item that goes from between others", "newest timestamp lowered",
+    "entries compared: newer", "entries compared: older", "entries compared: same", "a new item", "a new item between others",
+    "an item that goes", "an item that goes from between others", "newest timestamp lowered",
 ];
 
 fn name(c: &Call) -> &'static str {
@@ -124,6 +127,11 @@ impl Table {
             self.add(&format!("refused 4 in {}", name(c)), *n == 4);
         }
         self.values(c);
+        if let Call::Ingest(e, ..) = c {
+            let stored = |e: &Entry| store.entries().iter().any(|x| x.entry == *e);
+            self.add("resend with a wrong tally", *answer == Answer::Refused(10) && stored(e));
+            self.add("resend of another namespace", *answer == Answer::Refused(6) && stored(&Entry { namespace: store.namespace, ..e.clone() }));
+        }
         // Nothing below is met by a call that is refused for what it is handed.
         if matches!(answer, Answer::Refused(1..=4 | 10)) && (on_store(c) || step.front != Front::Plain) {
             return;
@@ -154,6 +162,11 @@ impl Table {
             }
             Call::QueryRange(r, i) | Call::NextInRange(r, i, _) => self.listing(store, *i, c, answer, |e| r.includes(e)),
             Call::Aoi(a, count, size) => self.interest(store, a, *count, *size),
+            Call::Newer(..) => {
+                if let Answer::Newer(order, _) = answer {
+                    self.add(&format!("entries compared: {order:?}").to_lowercase(), true);
+                }
+            }
             Call::Above(_) => self.add("least path above: none", *answer == Answer::Above(None)),
             Call::Decode(..) | Call::Decode01(..) => self.add("key that no encoder writes", *answer == Answer::Refused(5)),
             Call::Key(..) => self.add("key of 298 bytes", matches!(answer, Answer::Keys(k, _) if k.len() == 298)),
@@ -214,13 +227,21 @@ impl Table {
         let ties = |longer: bool| store.entries().iter().any(|x| x.entry.ties(e) && (x.entry.path.len() > e.path.len()) == longer);
         self.add("tie: the longer is stored", ties(true));
         self.add("tie: the shorter is stored", ties(false));
-        if let Some(x) = store.entries().iter().find(|x| x.entry == *e) {
-            self.add("resend", true);
-            self.add("resend, pruning prevented", prevent);
-            self.add("resend with another token", x.token != *k);
-            self.add("resend beside a tie", ties(true) || ties(false));
-            self.add("resend with an available length", x.available > 0);
+        if let (Some(x), Answer::Held) = (store.entries().iter().find(|x| x.entry == *e), answer) {
+            self.add("held", true);
+            self.add("held, pruning prevented", prevent);
+            self.add("held by a full store", full);
+            self.add("held with another token", x.token != *k);
+            self.add("held beside a longer path that ties", ties(true));
+            self.add("held beside a shorter path that ties", ties(false));
+            self.add("held with an available length", x.available > 0);
+            return;
         }
+        let but = |f: &dyn Fn(&Entry) -> Entry| store.entries().iter().any(|x| x.entry != *e && f(&x.entry) == *e);
+        self.add("stored but for its timestamp", but(&|x| Entry { timestamp: e.timestamp, ..x.clone() }));
+        self.add("stored but for its digest", but(&|x| Entry { payload_digest: e.payload_digest, ..x.clone() }));
+        self.add("stored but for its length", but(&|x| Entry { payload_length: e.payload_length, ..x.clone() }));
+        self.add("stored but for its path, a tie", ties(true) || ties(false));
     }
     /// What becomes of the tally when the entry at a place is forgotten.
     fn forgotten(&mut self, store: &Store, s: &Subspace, p: &Path) {

@@ -13,6 +13,9 @@ enum-told c = search needs
 enum-told-2 : tie.Need-enum-told-2
 enum-told-2 c = search needs
 
+enum-told-3 : tie.Need-enum-told-3
+enum-told-3 c = search needs
+
 enum-known-verdict : tie.Need-enum-known-verdict
 enum-known-verdict c = search needs
 
@@ -26,8 +29,12 @@ returns-2 c = sym (ap (λ (v : IngestVerdict). answerOf (verdictSays v)) (c .enu
 
 returns-3 : tie.Need-returns-3
 unfolding verdictSays answerOf
-returns-3 c = sym (ap (λ (v : IngestVerdict). answerOf (verdictSays v)) (c .before .verdict .given .1))
+returns-3 c = sym (ap (λ (v : IngestVerdict). answerOf (verdictSays v)) (c .enum-told3 .given .1))
+
+returns-4 : tie.Need-returns-4
+unfolding verdictSays answerOf
+returns-4 c = sym (ap (λ (v : IngestVerdict). answerOf (verdictSays v)) (c .before .verdict .given .1))
 
 pub answer-of-spec : {M : Type 1} → statement M
 answer-of-spec =
-    tie.close (tie.spec enum-told enum-told-2 enum-known-verdict returns returns-2 returns-3)
+    tie.close (tie.spec enum-told enum-told-2 enum-told-3 enum-known-verdict returns returns-2 returns-3 returns-4)

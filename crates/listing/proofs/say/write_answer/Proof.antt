@@ -2,7 +2,7 @@
 use native.Mathlib.Omega.{arith}
 use mathlib.Core.Path.{sym, ap, _∙_}
 use Rattle.listing.specs.Say.{refusedWord, numbered, answerText}
-use Rattle.listing.specs.declared.carry.Answer.the-variants.{Ok, Obsolete, Bad}
+use Rattle.listing.specs.declared.carry.Answer.the-variants.{Ok, Obsolete, Held, Bad}
 use Rattle.listing.proofs.SayLaws.{answer-said}
 use borrow.Author.Needs.{needs}
 use Rattle.listing.proofs.say.write_answer.Statement.{statement}
@@ -34,6 +34,15 @@ slice-aggregate-write-bytes-3 c = search needs
 
 write-bytes-requires-3 : tie.Need-write-bytes-requires-3
 write-bytes-requires-3 c κs = search needs
+
+enum-told-4 : tie.Need-enum-told-4
+enum-told-4 c = search needs
+
+slice-aggregate-write-bytes-4 : tie.Need-slice-aggregate-write-bytes-4
+slice-aggregate-write-bytes-4 c = search needs
+
+write-bytes-requires-4 : tie.Need-write-bytes-requires-4
+write-bytes-requires-4 c κs = search needs
 
 enum-known-answer : tie.Need-enum-known-answer
 enum-known-answer c = search needs
@@ -75,7 +84,7 @@ unfolding answerText
 returns-3 c =
     let p = (c .before .before .before .before .before .before .before .before) in
     let w = c .before .before .write-bytes3 in
-    answer-said (p .args .answer) (answerText Bad) (p .args .out .now) (w .last .1 .0) (w .result) (ap answerText (c .before .before .before .before .before .enum-told3 .given .1)) (omega (arith, w .ensures .0)) (w .ensures .0) (w .ensures .1)
+    answer-said (p .args .answer) (answerText Held) (p .args .out .now) (w .last .1 .0) (w .result) (ap answerText (c .before .before .before .before .before .enum-told3 .given .1)) (omega (arith, w .ensures .0)) (w .ensures .0) (w .ensures .1)
 
 same-length-4 : tie.Need-same-length-4
 same-length-4 c = search needs
@@ -83,6 +92,16 @@ same-length-4 c = search needs
 returns-4 : tie.Need-returns-4
 unfolding answerText
 returns-4 c =
+    let p = (c .before .before .before .before .before .before .before .before) in
+    let w = c .before .before .write-bytes4 in
+    answer-said (p .args .answer) (answerText Bad) (p .args .out .now) (w .last .1 .0) (w .result) (ap answerText (c .before .before .before .before .before .enum-told4 .given .1)) (omega (arith, w .ensures .0)) (w .ensures .0) (w .ensures .1)
+
+same-length-5 : tie.Need-same-length-5
+same-length-5 c = search needs
+
+returns-5 : tie.Need-returns-5
+unfolding answerText
+returns-5 c =
     let p = (c .before .before .before .before .before .before .before .before .before .before) in
     let w = c .before .before .write-numbered in
     let n = c .before .before .before .before .wide in
@@ -101,6 +120,9 @@ write-answer-spec =
     enum-told-3
     slice-aggregate-write-bytes-3
     write-bytes-requires-3
+    enum-told-4
+    slice-aggregate-write-bytes-4
+    write-bytes-requires-4
     enum-known-answer
     slice-aggregate-write-numbered
     wide-requires
@@ -112,4 +134,6 @@ write-answer-spec =
     same-length-3
     returns-3
     same-length-4
-    returns-4)
+    returns-4
+    same-length-5
+    returns-5)

@@ -11,6 +11,9 @@ enum-known-verdict c = search needs
 enum-told : tie.Need-enum-told
 enum-told c = search needs
 
+enum-told-2 : tie.Need-enum-told-2
+enum-told-2 c = search needs
+
 enum-known-verdict-2 : tie.Need-enum-known-verdict-2
 enum-known-verdict-2 c = search needs
 
@@ -24,9 +27,13 @@ returns-2 c = rw (c .enum-told .given .1)
 
 returns-3 : tie.Need-returns-3
 unfolding verdictSays numberOf
-returns-3 c = rw (c .before .verdict2 .given .1)
+returns-3 c = rw (c .enum-told2 .given .1)
+
+returns-4 : tie.Need-returns-4
+unfolding verdictSays numberOf
+returns-4 c = rw (c .before .verdict2 .given .1)
 
 pub plain-ingested-spec : {M : Type 1} → statement M
 plain-ingested-spec =
     tie.close
-    (tie.spec enum-known-verdict enum-told enum-known-verdict-2 returns returns-2 returns-3)
+    (tie.spec enum-known-verdict enum-told enum-told-2 enum-known-verdict-2 returns returns-2 returns-3 returns-4)

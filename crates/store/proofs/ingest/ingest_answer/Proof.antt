@@ -9,7 +9,7 @@ use Rattle.data_model.specs.Entry.{entryOf}
 use Rattle.store.specs.Store.{Tallied, talliedOf}
 use Rattle.store.specs.Ingest.{verdictSays, ingestRefusal, placeDecided}
 use Rattle.store.specs.declared.ingest.Ingestion.{Ingestion}
-use Rattle.store.proofs.IngestLaws.{Ready, inSpt, decided-own, ready, ready-formed, answers-refused, answers-late, old-bounds, answers-old, take-fits, answers-take, marked-own, refused-unlike, obsolete-unlike}
+use Rattle.store.proofs.IngestLaws.{Ready, inSpt, decided-own, ready, ready-ordered, answers-refused, answers-late, answers-already, old-bounds, answers-old, take-fits, answers-take, marked-own, refused-unlike, obsolete-unlike, held-unlike}
 use borrow.Author.Needs.{needs}
 use Rattle.store.proofs.ingest.ingest_answer.Statement.{statement}
 use Rattle.store.proofs.ingest.ingest_answer.Tie as tie
@@ -76,7 +76,7 @@ decide-requires c κs =
     let v = known e in
     let m = v .passes .most in
     let f = v .passes .few in
-    (ready-formed (lent p .store) (p .args .prune .now) (p .args .ingestion .entry) v, omega arith, v .legal-path, omega (arith, p .pre))
+    (ready-ordered (lent p .store) (p .args .prune .now) (p .args .ingestion .entry) v, omega arith, v .legal-path, omega (arith, p .pre))
 
 enum-known-d : tie.Need-enum-known-d
 enum-known-d c = search needs
@@ -105,6 +105,12 @@ obsolete-answer-requires c κs =
     let p = start e in
     old-bounds (lent p) (p .args .prune .now) (p .args .ingestion) (zero e) ((c .before .before .before .before .before .before .before) .decide .result) (own (c .before .before .before .before .before .before .before))
     _ ((c .before .before .before) .d2 .given .1)
+
+enum-told : tie.Need-enum-told
+enum-told c = search needs
+
+plain-answer-requires-3 : tie.Need-plain-answer-requires-3
+plain-answer-requires-3 c κs = search needs
 
 enum-known-d-3 : tie.Need-enum-known-d-3
 enum-known-d-3 c = search needs
@@ -147,6 +153,19 @@ same-length-3 c = search needs
 returns-4 : tie.Need-returns-4
 unfolding verdictSays
 returns-4 c =
+    let e = c .before .before .before .before .before .before .before .before .before in
+    let p = start e in (
+      answers-already (lent p) (p .args .prune .now) (p .args .ingestion) (zero e) ((c .before .before .before .before .before) .decide .result) (own (c .before .before .before .before .before))
+          ((c .before) .enum-told .given .1) _ (c .plain-answer3 .ensures),
+      λ n q. held-unlike (c .plain-answer3 .ensures) q,
+    )
+
+same-length-4 : tie.Need-same-length-4
+same-length-4 c = search needs
+
+returns-5 : tie.Need-returns-5
+unfolding verdictSays
+returns-5 c =
     let e = (c .before .before .before .before .before .before .before .before .before .before) in
     let p = start e in (
       answers-take (lent p) (p .args .prune .now) (p .args .ingestion) (zero e) ((c .before .before .before .before .before .before) .decide .result) (own (c .before .before .before .before .before .before))
@@ -172,6 +191,8 @@ ingest-answer-spec =
     slice-aggregate-obsolete-answer
     slice-aggregate-obsolete-answer-2
     obsolete-answer-requires
+    enum-told
+    plain-answer-requires-3
     enum-known-d-3
     taken-answer-requires
     same-length
@@ -179,4 +200,6 @@ ingest-answer-spec =
     same-length-2
     returns-3
     same-length-3
-    returns-4)
+    returns-4
+    same-length-4
+    returns-5)

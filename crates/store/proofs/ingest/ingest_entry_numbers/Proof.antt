@@ -11,7 +11,7 @@ use Rattle.data_model.specs.Said.{says}
 use Rattle.store.specs.Ingest.{succeeds, verdictSays, ingestedSays}
 use Rattle.store.specs.Store.{limitMost, Tallied, talliedOf}
 use Rattle.store.specs.declared.ingest.IngestVerdict.{IngestVerdict}
-use Rattle.store.specs.declared.ingest.IngestVerdict.the-variants.{Success, Obsolete, Refused}
+use Rattle.store.specs.declared.ingest.IngestVerdict.the-variants.{Success, Obsolete, Held, Refused}
 use Rattle.store.proofs.ingest.IngestVerdict.{the-type}
 use Rattle.store.proofs.FileLaws.{success-may, filed-asks, filed-tallied, outcome-filed, outcome-same}
 use borrow.Author.Needs.{needs}
@@ -21,11 +21,12 @@ use Rattle.store.proofs.ingest.ingest_entry_numbers.Tie as tie
 abbrev lent : tie.Start → Tallied
 lent p = talliedOf (p .args .state) (p .args .spt .now) (p .args .«spt-dir» .now) (p .args .tsp .now) (p .args .«tsp-dir» .now) (p .args .tally .now)
 
--- A verdict whose tag is 1 or 2 is no success.
-other : (v : IngestVerdict) → OneOf (1 ∷ 2 ∷ []) (tagOf the-type v) → (n : ℕ) → verdictSays v ≡ says (succeeds n) → ⊥
+-- A verdict whose tag is 1, 2 or 3 is no success.
+other : (v : IngestVerdict) → OneOf (1 ∷ 2 ∷ 3 ∷ []) (tagOf the-type v) → (n : ℕ) → verdictSays v ≡ says (succeeds n) → ⊥
 unfolding verdictSays
-other (Success m) k n q = ⊎-elim (λ e. omega arith) (λ e. omega arith) k
+other (Success m) k n q = ⊎-elim (λ e. omega arith) (λ j. ⊎-elim (λ e. omega arith) (λ e. omega arith) j) k
 other Obsolete k n q = let z : _≡_ {A = ℕ} 0 1 = cc in omega arith
+other Held k n q = let z : _≡_ {A = ℕ} 0 1 = cc in omega arith
 other (Refused m) k n q = let z : _≡_ {A = ℕ} 0 1 = cc in omega arith
 
 slice-aggregate-ingest-answer : tie.Need-slice-aggregate-ingest-answer

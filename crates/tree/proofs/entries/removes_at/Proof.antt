@@ -1,7 +1,15 @@
 -- `removes_at` meets its contract: by the address, then by the rank. Assumes nothing.
-use Rattle.data_model.specs.Entry.{entryOf, rankOf}
+use mathlib.Core.Path.{_≡_, ap}
+use mathlib.Core.Bool.{Bool, true, false, not}
+use Rattle.laws.specs.Order.{isGreater}
+use Rattle.layout.specs.Layout.{recordAt}
+use Rattle.data_model.specs.Path.{field}
+use Rattle.data_model.specs.Entry.{entryOf, rankOf, byRank}
+use Rattle.data_model.proofs.Answers.{ranked-newer, ranked-older, ranked-same}
 use Rattle.key_laws.specs.KeyOrder.{Sized}
-use Rattle.tree.specs.Stored.{tripleOf}
+use Rattle.tree.specs.Stored.{tripleOf, stored}
+use Rattle.tree.specs.Matching.{removes}
+use Rattle.tree.specs.Address.{rankAt}
 use Rattle.tree.proofs.AddressLaws.{removes-not}
 use Rattle.tree.proofs.CoverLaws.{removes-rank}
 use borrow.Author.Needs.{needs}
@@ -25,14 +33,47 @@ returns c = let p = c .before .before .before .before .before .before in removes
 compare-with-requires : tie.Need-compare-with-requires
 compare-with-requires c κs = search needs
 
-is-greater-requires : tie.Need-is-greater-requires
-is-greater-requires c κs = search needs
+enum-told : tie.Need-enum-told
+enum-told c = search needs
+
+enum-told-2 : tie.Need-enum-told-2
+enum-told-2 c = search needs
+
+enum-told-3 : tie.Need-enum-told-3
+enum-told-3 c = search needs
+
+-- Where the entry covers record k: by the ranks.
+abbrev start : tie.After-compare-with → tie.Start
+start c = c .before .before .before .before .before .before .before
+
+by-rank : (c : tie.After-compare-with) (g : Bool) → isGreater (byRank (rankAt (start c .args .order) (recordAt (start c .args .k) (start c .args .dir .now) (start c .args .tree .now))) (rankOf (start c .args .e))) ≡ g
+    → not g ≡ removes (entryOf (start c .args .e)) (stored (start c .args .order) field (start c .args .e .«namespace_id») (recordAt (start c .args .k) (start c .args .dir .now) (start c .args .tree .now)))
+unfolding entryOf
+by-rank c g q = let p = start c in removes-rank (p .pre .0) (λ i. c .before .before .before .before .before .shared-slice-known2 .given i .fits) (p .args .e) (sized p) _ g q _ _ (p .pre .1) (c .before .before .before .address-at .ensures) (c .before .before .begins .ensures) (c .before .if1 .left)
 
 returns-2 : tie.Need-returns-2
-unfolding entryOf
-returns-2 c =
-    let p = c .before .before .before .before .before .before .before .before in
-    removes-rank (p .pre .0) (λ i. c .before .before .before .before .before .before .shared-slice-known2 .given i .fits) (p .args .e) (sized p) _ _ (c .before .compare-with .ensures) _ (c .is-greater .ensures) _ _ (p .pre .1) (c .before .before .before .before .address-at .ensures) (c .before .before .before .begins .ensures) (c .before .before .if1 .left)
+unfolding isGreater
+returns-2 c = by-rank (c .before .before) true (ap isGreater (ranked-newer _ _ (c .before .before .compare-with .ensures) (c .enum-told .given .1)))
+
+returns-3 : tie.Need-returns-3
+unfolding isGreater
+returns-3 c = by-rank (c .before .before) false (ap isGreater (ranked-older _ _ (c .before .before .compare-with .ensures) (c .enum-told2 .given .1)))
+
+returns-4 : tie.Need-returns-4
+unfolding isGreater
+returns-4 c = by-rank (c .before .before) false (ap isGreater (ranked-same _ _ (c .before .before .compare-with .ensures) (c .enum-told3 .given .1)))
 
 pub removes-at-spec : {M : Type 1} → statement M
-removes-at-spec = tie.close (tie.spec address-at-requires begins-requires returns compare-with-requires is-greater-requires returns-2)
+removes-at-spec =
+    tie.close
+    (tie.spec
+    address-at-requires
+    begins-requires
+    returns
+    compare-with-requires
+    enum-told
+    enum-told-2
+    enum-told-3
+    returns-2
+    returns-3
+    returns-4)

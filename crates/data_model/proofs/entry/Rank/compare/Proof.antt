@@ -1,7 +1,7 @@
--- `cmp` meets its contract. Assumes nothing.
+-- `compare` meets its contract. Assumes nothing.
 use borrow.Author.Needs.{needs}
-use Rattle.data_model.proofs.entry.Rank.cmp.Statement.{statement}
-use Rattle.data_model.proofs.entry.Rank.cmp.Tie as tie
+use Rattle.data_model.proofs.entry.Rank.compare.Statement.{statement}
+use Rattle.data_model.proofs.entry.Rank.compare.Tie as tie
 
 slice-aggregate-compare-ranks : tie.Need-slice-aggregate-compare-ranks
 slice-aggregate-compare-ranks c = search needs
@@ -15,8 +15,8 @@ compare-ranks-requires c κs = search needs
 returns : tie.Need-returns
 returns c = c .compare-ranks .ensures
 
-pub cmp-spec : {M : Type 1} → statement M
-cmp-spec =
+pub compare-spec : {M : Type 1} → statement M
+compare-spec =
     tie.close
     (tie.spec
     slice-aggregate-compare-ranks
