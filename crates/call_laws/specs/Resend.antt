@@ -17,7 +17,7 @@ use Rattle.call_laws.specs.Checks.{Outdated, AlreadyStored}
 abbrev pub HeldNotObsolete : Figures → Store → Type 0
 HeldNotObsolete f s = ((x y : Stored) → x ∈ held f Spt s → y ∈ held f Spt s → prunes (x .entry) (y .entry) ≡ false) → (e : Entry) → AlreadyStored f s e → Outdated f s e → ⊥
 
--- It is held, and nothing changes: the state that is answered, both trees with the stored token and available length, their directories, the tally and the
+-- A stored entry that comes again is held, and nothing changes: the state that is answered, both trees with the stored token and available length, their directories, the tally and the
 -- prune list are those handed in.
 pub record Resent (f : Figures) (w : Tallied) (i : IngestCall) : Type 0 where
   pub verdict : ingested f w (i .prune) (i .handed) .answer ≡ plainAnswer (says is-held) (w .store .state)

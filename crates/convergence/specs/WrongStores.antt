@@ -48,12 +48,13 @@ FilesNothing m = (s : Tallied) → Reached m s → (i : IngestCall) (k : KeyOrde
 abbrev pub FirstOnly : AStore → Type 0
 FirstOnly m = (s : Tallied) → Reached m s → (i : IngestCall) → (s .store .state .count ≡ 0 → ⊥) → notRefused (outcome field s (ingest i) .verdict) ≡ true → m .call s (ingest i) .verdict ≡ obsolete
 
--- It calls held whatever comes to a place where an entry is stored, and would not be refused: later readings are lost to earlier ones.
+-- Whether what a call hands in is an entry at whose subspace and path an entry is stored.
 unfoldable pub isOccupied : Tallied → Call → Bool
 isOccupied s (ingest i) = any (standsAt (i .handed .entry .«subspace_id») (components (i .handed .entry .path))) (held field Spt (s .store))
 isOccupied s (forget-entry p) = false
 isOccupied s (forget-area a) = false
 
+-- It calls held whatever comes to a place where an entry is stored, and would not be refused: later readings are lost to earlier ones.
 abbrev pub HoldsByPlace : AStore → Type 0
 HoldsByPlace m = (s : Tallied) → Reached m s → (c : Call) → isOccupied s c ≡ true → notRefused (outcome field s c .verdict) ≡ true → m .call s c .verdict ≡ already-held
 
@@ -143,6 +144,7 @@ ifDone obsolete a b = b
 ifDone already-held a b = b
 ifDone done a b = a
 
+-- The one where an entry is held, the other elsewhere.
 unfoldable pub ifHeld : {A : Type 0} → Verdict → A → A → A
 ifHeld (refused n) a b = b
 ifHeld obsolete a b = b
