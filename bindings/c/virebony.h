@@ -7,7 +7,8 @@
 
    What you owe: a pointer with a count points to so many elements, of the type's own alignment, and is not NULL unless the count is 0; a pointer
    without a count points to the whole array that is named. A buffer that a call writes (no const) overlaps no other that it is lent. Nobody else
-   writes a lent buffer during the call. Compare VB_EDITION with vb_edition() once.
+   writes a lent buffer during the call. Compare VB_EDITION with vb_edition() once: an archive of another edition may link all the same, and answer
+   otherwise.
 
    How to read a call. Structs go by value. A yes or no is a byte: handed in, every byte but 0 means yes; answered, it is 0 or 1. So no value is left
    without a meaning. `refusal` is 0, or the first number of VB_* below that applies, in the order that the call's comment lists. A refused call has changed
@@ -25,7 +26,8 @@ extern "C" {
 #define VB_ASSERT _Static_assert
 #endif
 
-/* The edition of this header. */
+/* The edition of this header. 2 brought the tally; 3 brought `held`, and vb_entry_compare in place of vb_entry_is_newer_than. A program of edition 2 would
+   take an entry that is held for one that was taken. */
 #define VB_EDITION 3
 
 enum {
@@ -226,8 +228,8 @@ vb_answer vb_path_is_prefix_of(vb_path p, vb_path q);
 /* The least legal path above p that p does not prefix, if there is one. Refused: 4. */
 vb_above vb_path_greater_but_not_prefixed(vb_path p);
 
-/* Whether a is newer than b, older or the same: by timestamp, then digest as bytes, then payload length. Namespace, subspace and
-   path play no part, but an illegal path is refused; so entries at two places may be the same, and the second is not held for it. Refused: 4. */
+/* Whether a is newer than b, older or the same: by timestamp, then digest as bytes, then payload length. Namespace, subspace and path play no part, but an
+   illegal path is refused. So entries at two places may compare as the same; vb_ingest_entry holds one only if subspace and path are the same too. Refused: 4. */
 vb_entries_compared vb_entry_compare(vb_entry a, vb_entry b);
 
 /* Whether a prunes b: of one namespace and subspace, a's path is b's or prefixes it, and a is newer. Refused: 4. */

@@ -105,7 +105,7 @@ static const char *const names[] = {"open", "ingest", "ingest, numbers", "ingest
 
 /* What came, by kind: each number of a refusal; answers of yes (obsolete, found); those of held; those that name something (pruned, forgotten, counted, a part,
    times that start elsewhere than the area's). */
-static long came[CALL_KINDS][11], yeses[CALL_KINDS], helds[CALL_KINDS], named[CALL_KINDS], calls;
+static long came[CALL_KINDS][11], yeses[CALL_KINDS], held_verdicts[CALL_KINDS], named[CALL_KINDS], calls;
 /* How an entry was held: with pruning prevented, by a full store, with another token, beside a tie, with an available length. */
 static long held_ways[5];
 
@@ -127,7 +127,7 @@ static answer judged_call(const call *c, int damage) {
     if (field) fault(field, c, &want, &got, damage);
     if (differ(&now, writes ? &after : &before)) fault("a byte", c, &want, &got, damage);
     came[c->kind][want.refusal]++;
-    yeses[c->kind] += want.yes, helds[c->kind] += want.held;
+    yeses[c->kind] += want.yes, held_verdicts[c->kind] += want.held;
     if (want.held) {
         held_how how = judge_held_how(c);
         held_ways[0] += c->prevent_pruning != 0, held_ways[1] += store.state.count == store.state.limit, held_ways[2] += how.other_token;
@@ -209,7 +209,7 @@ static void every_call(int damage) {
     }
 }
 
-/* What came, by kind. A branch of 01 that was never reached is a fault of this program. */
+/* What came, by kind. A branch of the papers that was never reached is a fault of this program. */
 static int table(bool enough) {
     static const char *const can[] = {"012", "yh+01234678t", "yh+01234678t", "yh+01234678t", "012349t", "+01234t", "y01234", "y+01234", "+0", "y+01234", "+0", "+01234", "+01234", "+01234"};
     int missing = 0;
@@ -217,10 +217,10 @@ static int table(bool enough) {
     for (int n = 1; n < 11; n++) printf(" %8d", n);
     puts("");
     for (int k = 0; k < CALL_KINDS; k++) {
-        printf("%-17s %9ld %9ld %9ld %9ld", names[k], came[k][0], yeses[k], helds[k], named[k]);
+        printf("%-17s %9ld %9ld %9ld %9ld", names[k], came[k][0], yeses[k], held_verdicts[k], named[k]);
         for (int n = 1; n < 11; n++) printf(" %8ld", came[k][n]);
         puts("");
-        for (const char *p = can[k]; *p; p++) missing += !(*p == 'y' ? yeses[k] : *p == 'h' ? helds[k] : *p == '+' ? named[k] : came[k][*p == 't' ? 10 : *p - '0']);
+        for (const char *p = can[k]; *p; p++) missing += !(*p == 'y' ? yeses[k] : *p == 'h' ? held_verdicts[k] : *p == '+' ? named[k] : came[k][*p == 't' ? 10 : *p - '0']);
     }
     printf("held: with pruning prevented %ld, by a full store %ld, with another token %ld, beside a tie %ld, with an available length %ld\n", held_ways[0], held_ways[1],
            held_ways[2], held_ways[3], held_ways[4]);

@@ -173,7 +173,7 @@ static void full(void) {
     for (int i = 0; i < 3; i++) ingests("no resend, prevented", named(entry("a", near[i].time, near[i].length, near[i].digest)), true, 7, false, 0);
     ingests("no resend: another length", named(entry("a", 5, 4, 1)), false, 0, false, 1);
     expect("the new token", tree[0][29 + 40], 9);
-    expect("resent, count", state.count, 1);
+    expect("one is left", state.count, 1);
     ingests("what was stored is now obsolete", again, true, 0, true, 0);
     vb_entry older = named(entry("a", 4, 3, 1));
     ingests("obsolete in a full store", older, true, 0, true, 0);
@@ -187,8 +187,8 @@ static void full(void) {
 }
 
 /* [61] and [61][62], which tie, of available lengths 2 and 0: a resend of either is held, and both stay. Other bytes behind the path's total and other ends
-   behind its count make no other entry, nor does a component's end that is where another path has a byte: [61][62] is not [6162], nor [61][62][]. At [61][63],
-   where nothing is, an entry of that rank is none that is held. */
+   behind its count make no other entry. Other components do: [61][62][] and [6162] are taken. Then the store is full, and an entry of that rank in another
+   subspace or at [61][63] gets 8: it is not held. */
 static void resends(void) {
     fresh(4), in("a", 5, 3, 1), in("a/b", 5, 3, 1);
     memset(token, 9, sizeof token);

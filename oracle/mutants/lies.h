@@ -115,11 +115,11 @@ MAY static vb_area_forgotten lie_forget_area(vb_state state, VB_BUFFERS, vb_area
     return r;
 }
 
-/* Lies about an entry that is held, or that is stored at its place at all; `found` is what is stored there. */
+/* Lies about an entry that is held; `found` is what is stored at its place. */
 MAY static vb_ingested lie_about_held(vb_ingested r, vb_state state, VB_BUFFERS, vb_pair *prune, size_t prune_len, vb_entry entry, const uint8_t token[64], uint8_t prevent,
                                       vb_lengthy_entry found) {
-    size_t total = entry.path.count ? entry.path.ends[entry.path.count - 1] : 0;
     if (!r.held) return r;
+    size_t total = entry.path.count ? entry.path.ends[entry.path.count - 1] : 0;
     if (LIE == HELD_BEHIND_SEVEN && prevent) r.refusal = 7, r.held = 0;
     if (LIE == HELD_BEHIND_EIGHT && state.count == state.limit) r.refusal = 8, r.held = 0;
     if (LIE == HELD_IS_SUCCESS) r.held = 0;
@@ -134,7 +134,8 @@ MAY static vb_ingested lie_about_held(vb_ingested r, vb_state state, VB_BUFFERS,
         below.subspace = entry.subspace_id, below.path = entry.path, below.times.start = entry.timestamp, below.times.open = 1;
         if (LIE == HELD_TAKES_TIES && !found.available && vb_count_area(state, ARGUMENTS, below).count > 1) { /* what lies below goes, and the entry is filed again */
             vb_state left = vb_forget_area(state, ALL_ARGUMENTS, below, 0, below).state;
-            return vb_ingest_entry(left, ALL_ARGUMENTS, prune, prune_len, entry, found.token, 0);
+            r.state = vb_ingest_entry(left, ALL_ARGUMENTS, prune, prune_len, entry, found.token, 0).state;
+            return r;
         }
         for (int t = 0; t < 2; t++)
             for (size_t k = 0; k < state.count; k++) {

@@ -49,7 +49,8 @@ TallyRight f w = tallyPart w ≡ tallyBytes (w .store .state .limit) (held f Spt
 abbrev pub Outdated : Figures → Store → Entry → Type 0
 Outdated f s e = (x : Stored) × x ∈ held f Spt s × (covers (x .entry) e ≡ true) × (newer (x .entry) e ≡ true)
 
--- 02, U2: the very entry is stored, which is one of the same subspace, path, timestamp, digest and length, whatever its token.
+-- 02, U2: the very entry is stored, which is one of the same subspace, path, timestamp, digest and length, whatever its token. (Their namespace is the
+-- store's, as 6 has been looked for.)
 abbrev pub AlreadyStored : Figures → Store → Entry → Type 0
 AlreadyStored f s e = (x : Stored) × x ∈ held f Spt s × (x .entry ≡ e)
 

@@ -1,4 +1,4 @@
--- 02, U2: a stored entry that comes again.
+-- 02, U2: a stored entry that comes again; and which of the verdicts never meet, so that their order does not matter.
 use mathlib.Core.Path.{_≡_}
 use mathlib.Core.Bool.{false}
 use Rattle.laws.specs.Sorted.{_∈_}
@@ -10,17 +10,25 @@ use Rattle.tree.specs.declared.stored.KeyOrder.the-variants.{Spt}
 use Rattle.store.specs.Store.{Store, held, Tallied}
 use Rattle.store.specs.Ingest.{is-held, plainAnswer, ingestRefusal, ingested}
 use Rattle.call_laws.specs.Calls.{IngestCall}
-use Rattle.call_laws.specs.Checks.{Outdated, AlreadyStored}
+use Rattle.call_laws.specs.Checks.{Outdated, AlreadyStored, Removes}
 
--- Where none that is stored prunes another, as `apart` of a well-formed store says, no entry is both stored already and outdated: so it does not matter which of
--- the two is looked for first. Theorem `held-not-obsolete`.
+-- None that is stored prunes another, as `apart` of a well-formed store says.
+abbrev pub NonePrunes : Figures → Store → Type 0
+NonePrunes f s = (x y : Stored) → x ∈ held f Spt s → y ∈ held f Spt s → prunes (x .entry) (y .entry) ≡ false
+
+-- Then no entry is both stored already and outdated: so it does not matter whether held or obsolete is looked for first. Theorem `held-not-obsolete`.
 abbrev pub HeldNotObsolete : Figures → Store → Type 0
-HeldNotObsolete f s = ((x y : Stored) → x ∈ held f Spt s → y ∈ held f Spt s → prunes (x .entry) (y .entry) ≡ false) → (e : Entry) → AlreadyStored f s e → Outdated f s e → ⊥
+HeldNotObsolete f s = NonePrunes f s → (e : Entry) → AlreadyStored f s e → Outdated f s e → ⊥
 
--- A stored entry that comes again is held, and nothing changes: the state that is answered, both trees with the stored token and available length, their directories, the tally and the
--- prune list are those handed in.
+-- Nor is an entry both outdated and one that would remove another: so it does not matter whether obsolete or 7 is looked for first. Theorem
+-- `obsolete-not-prevented`.
+abbrev pub ObsoleteNotPrevented : Figures → Store → Type 0
+ObsoleteNotPrevented f s = NonePrunes f s → (e : Entry) → Outdated f s e → Removes f s e → ⊥
+
+-- A stored entry that comes again is held, and nothing changes: the state that is answered, both trees with the stored token and available length, their
+-- directories, the tally and the prune list are those handed in. The newer entry in the answer and its token are all 0.
 pub record Resent (f : Figures) (w : Tallied) (i : IngestCall) : Type 0 where
-  pub verdict : ingested f w (i .prune) (i .handed) .answer ≡ plainAnswer (says is-held) (w .store .state)
+  pub answer : ingested f w (i .prune) (i .handed) .answer ≡ plainAnswer (says is-held) (w .store .state)
   pub unchanged : ingested f w (i .prune) (i .handed) .left ≡ w
   pub unwritten : ingested f w (i .prune) (i .handed) .prune ≡ i .prune
 

@@ -137,7 +137,7 @@ silent = leaving λ s c o. record { store = o .left .store; tally = s .tally }
 abbrev pub hasty : AStore
 hasty = leaving λ s c o. record { store = o .left .store; tally = tallyHolding (s .store .state .limit) (held field Spt (s .store)) (s .tally) }
 
--- As ours, but for what an ingestion that is done leaves.
+-- The one where a call is done, the other elsewhere.
 unfoldable pub ifDone : {A : Type 0} → Verdict → A → A → A
 ifDone (refused n) a b = b
 ifDone obsolete a b = b
@@ -151,6 +151,7 @@ ifHeld obsolete a b = b
 ifHeld already-held a b = a
 ifHeld done a b = b
 
+-- As ours, but for what an ingestion that is done leaves.
 unfoldable pub instead : (IngestCall → Tallied → Tallied) → Tallied → Call → Outcome Tallied → Tallied
 instead g s (ingest i) o = ifDone (o .verdict) (g i s) s
 instead g s (forget-entry p) o = o .left

@@ -1,8 +1,9 @@
 //! oracle calls [hall]       the call language (README.md) from standard input, answered by the Rust
 //! oracle list               document 01's listing program, likewise
-//! oracle calls held [hall]  the same with the model beside it: where the model says held, `held` and the Rust's own answer, and the Rust's
-//! oracle list held          trees are put back if that changed them (`held back` and the answer)
-//! oracle model [hall]       the call language, answered by the model of document 01; not the Rust
+//! oracle calls held [hall]  the calls with the model beside the Rust: where the model says held, `held` and the Rust's own answer, and its trees
+//!                           are put back if that changed them (`held back` and the answer)
+//! oracle list held          the listing program, likewise
+//! oracle model [hall]       the call language, answered by the model of the papers; not the Rust
 //! oracle list model         the listing program over the model; not the Rust
 //! oracle like [hall]        the calls themselves, without those that the Rust answers `unlike` (for vectors/)
 //! oracle gen SEED N KIND    N random calls; KIND: in, shared, hall, wide, refusals, calls, keys, raw, untied, tied, held, full, values

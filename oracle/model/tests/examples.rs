@@ -109,8 +109,9 @@ fn resends() {
         assert_eq!(s.ingest(e, &token, prevent), Ok(Verdict::Held));
         assert_eq!(s, before);
     }
-    // Another namespace; a wrong tally; an illegal path.
+    // Another namespace; an illegal path; a wrong tally.
     assert_eq!(s.ingest(&Entry { namespace: [1; 16], ..short.clone() }, &TOKEN, false), Err(6));
+    assert_eq!(s.ingest(&Entry { path: vec![vec![]; 9], ..short.clone() }, &TOKEN, false), Err(4));
     s.poke_tally(20, 4);
     assert_eq!(s.ingest(&short, &TOKEN, false), Err(10));
     s.poke_tally(20, 5);
@@ -121,7 +122,7 @@ fn resends() {
     }
     assert_eq!(s.ingest(&entry(short.path.clone(), 5, 2, 10), &TOKEN, true), Ok(Verdict::Obsolete(short.clone(), TOKEN)));
     assert_eq!(s.ingest(&entry(p(&[&[0x61], &[0x63]]), 5, 3, 10), &TOKEN, false), Err(8));
-    // After the last resend nothing else is held: the newer entry prunes both.
+    // A newer entry at the path prunes both; what was stored is then obsolete, not held.
     assert!(matches!(s.ingest(&entry(short.path.clone(), 5, 4, 10), &TOKEN, false), Ok(Verdict::Taken(pruned)) if pruned.len() == 2));
     assert!(matches!(s.ingest(&short, &TOKEN, false), Ok(Verdict::Obsolete(..))));
 }

@@ -142,8 +142,8 @@ over_values! {
     /// The least legal path above p that p does not prefix, if there is one. Refused: 4.
     path_greater_but_not_prefixed = vb_path_greater_but_not_prefixed(p: Path) -> Above;
 
-    /// Whether a is newer than b, older or the same: by timestamp, then digest as bytes, then payload length. Namespace, subspace and
-    /// path play no part, but an illegal path is refused; so entries at two places may be the same, and the second is not held for it. Refused: 4.
+    /// Whether a is newer than b, older or the same: by timestamp, then digest as bytes, then payload length. Namespace, subspace and path play no part, but an
+    /// illegal path is refused. So entries at two places may compare as the same; [`ingest_entry`] holds one only if subspace and path are the same too. Refused: 4.
     entry_compare = vb_entry_compare(a: Entry, b: Entry) -> EntriesCompared;
 
     /// Whether a prunes b: of one namespace and subspace, a's path is b's or prefixes it, and a is newer. Refused: 4.
