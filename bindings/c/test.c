@@ -553,7 +553,7 @@ static void ingestion(void) {
     IS(k.spt_dir[1], 144); /* key 16 + 8 + 8, value 112 */
     IS(k.prune[0].offset, 0xeeeeeeee);
     kept before = copy_of(&k);
-    r = ingest(&k, entry(1, "61", 5, 3, 9), 1);
+    r = ingest(&k, entry(1, "61", 6, 3, 9), 1);
     IS(r.refusal, 7); /* it would prune */
     IS(r.state.count, 1);
     vb_ingested refused = ingest(&k, entry(1, "61/62", 4, 3, 9), 2); /* obsolete goes before 7 */
@@ -566,14 +566,14 @@ static void ingestion(void) {
     same_path(refused.newer.path, "61/62");
     unchanged(&k, &before);
     drop(&before);
-    r = ingest(&k, entry(1, "61", 5, 3, 9), 0); /* a tie is removed */
+    r = ingest(&k, entry(1, "61", 6, 3, 9), 0); /* the older one is removed */
     IS(r.refusal | r.obsolete | r.held, 0);
     IS(r.pruned, 1);
     IS(r.state.count, 1);
     IS(k.prune[0].offset, 0);
     IS(k.prune[0].length, 144);
     IS(k.prune[1].offset, 0xeeeeeeee);
-    r = ingest(&k, entry(1, "61/62", 5, 3, 9), 255); /* the other way round: two */
+    r = ingest(&k, entry(1, "61/62", 6, 3, 9), 255); /* of equal rank: two */
     IS(r.refusal | r.obsolete | r.held | r.pruned, 0);
     IS(r.state.count, 2);
     IS(r.newer.timestamp | r.token[0], 0);
@@ -771,7 +771,7 @@ static void tallies(void) {
     kept second = copy_of(&k); /* over numbers, and over pairs by value */
     uint32_t *numbers = (uint32_t *)lent(40);
     static vb_pairs by_value;
-    high.path = path("");
+    high.path = path(""), high.payload_length = 1;
     vb_ingested r = vb_ingest_entry_numbers(k.state, STORE(&k), numbers, 10, high, token, 0);
     IS(r.pruned, 1);
     k.state = r.state;
@@ -782,6 +782,95 @@ static void tallies(void) {
     free(numbers);
     drop(&second);
     drop(&k);
+}
+
+/* Taken, with so many pruned and so many entries then. */
+static void is_taken(vb_ingested r, size_t pruned, size_t count) {
+    IS(r.refusal | r.obsolete | r.held, 0);
+    IS(r.pruned, pruned);
+    IS(r.state.count, count);
+}
+
+/* Ties: equal in timestamp, digest and length, one path extending the other. None removes another, so the order in which they come leaves no trace. */
+static void ties(void) {
+    static const char *const line[] = {"61", "61/62", "61/62/63"};
+    static const int orders[][3] = {{0, 2, 1}, {1, 0, 2}, {1, 2, 0}, {2, 0, 1}, {2, 1, 0}};
+    static vb_pairs by_value;
+    kept k = store_of(2), second = store_of(2);
+    for (int i = 0; i < 2; i++) { /* [61][62] and then [61], the other way round in the second: two, with pruning prevented too, and the same bytes */
+        is_taken(ingest(&k, entry(1, line[1 - i], 5, 3, 9), 1), 0, 1 + (size_t)i);
+        is_taken(ingest(&second, entry(1, line[i], 5, 3, 9), 0), 0, 1 + (size_t)i);
+    }
+    unchanged(&k, &second); /* both lists of pairs are as they were lent */
+    IS(k.prune[0].offset, 0xeeeeeeee);
+    const uint32_t pairs[] = {0, 141, 141, 144}; /* 29 bytes of key and 112 of value; 3 more for [62] */
+    for (int i = 0; i < 4; i++) {
+        IS(k.spt_dir[i], pairs[i]);
+        IS(k.tsp_dir[i], pairs[i]);
+    }
+    same_triple(vb_decode_spt_entry_key(k.spt, 29), 0, "61", 1, 5);
+    same_triple(vb_decode_spt_entry_key(k.spt + 141, 32), 0, "61/62", 1, 5);
+    same_triple(vb_decode_tsp_entry_key(k.tsp, 29), 0, "61", 1, 5);
+    same_triple(vb_decode_tsp_entry_key(k.tsp + 141, 32), 0, "61/62", 1, 5);
+    same_item(&k, 0, 0, 1, 2, 5);
+    is_taken(ingest(&k, entry(1, "", 6, 0, 0), 0), 2, 1); /* a later one above removes both */
+    for (int i = 0; i < 2; i++) {
+        IS(k.prune[i].offset, pairs[2 * i]);
+        IS(k.prune[i].length, pairs[2 * i + 1]);
+    }
+    drop(&second);
+    drop(&k);
+
+    k = store_of(1); /* full, and nothing would go: 8, with pruning prevented too */
+    is_taken(ingest(&k, entry(1, "61/62", 5, 3, 9), 0), 0, 1);
+    kept before = copy_of(&k);
+    for (int prevent = 0; prevent < 2; prevent++) {
+        IS(ingest(&k, entry(1, "61", 5, 3, 9), prevent).refusal, 8);
+        IS(vb_ingest_entry_numbers(k.state, STORE(&k), (uint32_t *)k.prune, 2, entry(1, "61", 5, 3, 9), token, prevent).refusal, 8);
+        IS(vb_ingest_entry_by_value(k.state, STORE(&k), by_value, entry(1, "61", 5, 3, 9), token, prevent).ingested.refusal, 8);
+    }
+    unchanged(&k, &before);
+    drop(&before);
+    drop(&k);
+
+    kept first = store_of(5); /* three on one line, and again in each other order */
+    for (size_t i = 0; i < 3; i++) is_taken(ingest(&first, entry(1, line[i], 5, 3, 9), 0), 0, i + 1);
+    for (size_t i = 0; i < 3; i++) IS(ingest(&first, entry(1, line[i], 5, 3, 9), 0).held, 1);
+    same_item(&first, 0, 0, 1, 3, 5);
+    items(&first, 1);
+    for (int o = 0; o < 5; o++) {
+        k = store_of(5);
+        for (size_t i = 0; i < 3; i++) is_taken(ingest(&k, entry(1, line[orders[o][i]], 5, 3, 9), (uint8_t)(o % 2)), 0, i + 1);
+        unchanged(&k, &first);
+        drop(&k);
+    }
+    drop(&first);
+
+    k = store_of(2); /* [61][62] ties and [61][63] is older: the second goes, and its pair alone is told */
+    is_taken(ingest(&k, entry(1, "61/62", 5, 3, 9), 0), 0, 1);
+    is_taken(ingest(&k, entry(1, "61/63", 5, 2, 9), 0), 0, 2);
+    IS(ingest(&k, entry(1, "61", 5, 3, 9), 1).refusal, 7);
+    second = copy_of(&k);
+    is_taken(vb_ingest_entry_numbers(second.state, STORE(&second), (uint32_t *)second.prune, 4, entry(1, "61", 5, 3, 9), token, 0), 1, 2);
+    is_taken(ingest(&k, entry(1, "61", 5, 3, 9), 0), 1, 2);
+    IS(k.prune[0].offset, 144);
+    IS(k.prune[0].length, 144);
+    IS(k.prune[1].offset, 0xeeeeeeee);
+    unchanged(&k, &second);
+    IS(vb_find_entry(k.state, READ(&k), subspace(1), path("61/62"), ignore(0, 0)).found, 1);
+    IS(vb_find_entry(k.state, READ(&k), subspace(1), path("61/63"), ignore(0, 0)).found, 0);
+    drop(&second);
+    drop(&k);
+
+    static const struct { uint64_t time, length; uint8_t digest; size_t pruned; } near[] = {
+        {4, 9, 255, 1}, {5, 9, 8, 1}, {5, 2, 9, 1}, {6, 0, 0, 0}, {5, 0, 10, 0}, {5, 4, 9, 0}};
+    for (int i = 0; i < 6; i++) { /* [61][62] older, or newer, by the timestamp, the digest or the length: no tie */
+        k = store_of(2);
+        is_taken(ingest(&k, entry(1, "61/62", near[i].time, near[i].length, near[i].digest), 0), 0, 1);
+        if (near[i].pruned) IS(ingest(&k, entry(1, "61", 5, 3, 9), 1).refusal, 7);
+        is_taken(ingest(&k, entry(1, "61", 5, 3, 9), 0), near[i].pruned, 2 - near[i].pruned);
+        drop(&k);
+    }
 }
 
 /* The verdict held, and nothing else in the answer but the state. */
@@ -901,9 +990,10 @@ int main(void) {
     odd_values();
     openings();
     ingestion();
-    resends();
     reading_and_forgetting();
     tallies();
+    ties();
+    resends();
     wrong_tallies();
     printf("%u comparisons with answers written by hand\n", compared);
     return 0;

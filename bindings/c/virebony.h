@@ -26,9 +26,10 @@ extern "C" {
 #define VB_ASSERT _Static_assert
 #endif
 
-/* The edition of this header. 2 brought the tally; 3 brought `held`, and vb_entry_compare in place of vb_entry_is_newer_than. A program of edition 2 would
-   take an entry that is held for one that was taken. */
-#define VB_EDITION 3
+/* The edition of this header. 2 brought the tally; 3 brought `held`, and vb_entry_compare in place of vb_entry_is_newer_than; with 4 an ingestion removes
+   older entries only, and no longer those of equal rank. A program of edition 2 would take an entry that is held for one that was taken; one of edition 3
+   would take it that an entry of equal rank below a new one is gone. */
+#define VB_EDITION 4
 
 enum {
     VB_LIMIT_MOST = 1024, /* entries that a store may be opened for */
@@ -167,9 +168,9 @@ vb_opened vb_open(const uint8_t namespace_id[16], size_t limit, VB_BUFFERS);
 
 /* Files an entry with its token and available length 0. It is obsolete, and nothing changes, if a stored entry of the subspace, at a prefix of its
    path or the path itself, is newer. It is held, and nothing changes, if an entry of the same subspace, path, timestamp, digest and length is stored: the
-   stored one keeps its token and available length, whatever token comes now. Else what it outdates is removed: entries at its path or below that are not
-   newer. The pairs of these, as they stood before the call, in key order, go to the front of `prune`, which has at least `limit` pairs; `pruned` says how
-   many, and what lies behind stays.
+   stored one keeps its token and available length, whatever token comes now. Else the entries of the subspace at its path or below that are older, by
+   timestamp, then digest, then payload length, are removed; an entry of equal rank stays. The pairs of those removed, as they stood before the call, in key
+   order, go to the front of `prune`, which has at least `limit` pairs; `pruned` says how many, and what lies behind stays.
    Refused: 1, 2, 3, 10, 4, 6, then obsolete, held, then 7 (with `prevent_pruning`), 8. */
 vb_ingested vb_ingest_entry(vb_state state, VB_BUFFERS, vb_pair *prune, size_t prune_len, vb_entry entry, const uint8_t token[64], uint8_t prevent_pruning);
 

@@ -58,6 +58,15 @@ static void take_new(const call *c) {
 /* "the same subspace, path, timestamp, digest and length" */
 static bool same_entry(const item *a, const item *b) { return same_subspace(a, b) && same_path(a, b) && compared(a, b) == SAME; }
 
+bool judge_above_tie(const call *c) {
+    take_new(c);
+    for (size_t k = 0; k < judged_store->state.count; k++) {
+        const item *e = judged_items + k;
+        if (same_subspace(e, &new) && prefixes(&new, e) && !same_path(e, &new) && compared(e, &new) == SAME) return true;
+    }
+    return false;
+}
+
 held_how judge_held_how(const call *c) {
     held_how how = {false, false, false};
     take_new(c);
@@ -88,7 +97,7 @@ static answer ingested(const call *c, lent *after, answer a) {
         }
     for (size_t k = 0; k < after->state.count; k++) {
         const item *e = judged_items + k;
-        if (same_subspace(e, &new) && prefixes(&new, e) && compared(e, &new) != NEWER) pruned++;
+        if (same_subspace(e, &new) && prefixes(&new, e) && compared(e, &new) == OLDER) pruned++; /* "removes strictly older entries only" */
         else left[n++] = e;
     }
     if (c->prevent_pruning && pruned) return refused(a, 7);

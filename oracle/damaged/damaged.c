@@ -108,6 +108,8 @@ static const char *const names[] = {"open", "ingest", "ingest, numbers", "ingest
 static long came[CALL_KINDS][11], yeses[CALL_KINDS], held_verdicts[CALL_KINDS], named[CALL_KINDS], calls;
 /* How an entry was held: with pruning prevented, by a full store, with another token, beside a tie, with an available length. */
 static long held_ways[5];
+/* What became of an entry above one that ties with it: taken; with pruning prevented; while something older went; refused with 7, for something older; with 8. */
+static long tied_ways[5];
 
 static void fault(const char *what, const call *c, const answer *want, const answer *got, int damage) {
     printf("fault: %s, call '%s', damage %d, refusal %d, verdict %d, held %d, number %llu; by the papers %d, %d, %d, %llu; seed %llx\n", what, names[c->kind], damage,
@@ -132,6 +134,11 @@ static answer judged_call(const call *c, int damage) {
         held_how how = judge_held_how(c);
         held_ways[0] += c->prevent_pruning != 0, held_ways[1] += store.state.count == store.state.limit, held_ways[2] += how.other_token;
         held_ways[3] += how.beside_tie, held_ways[4] += how.available;
+    }
+    bool taken = c->kind > OPEN && c->kind < FORGET_ENTRY && !want.refusal && !want.yes && !want.held;
+    if ((taken || want.refusal == 7 || want.refusal == 8) && judge_above_tie(c)) {
+        tied_ways[0] += taken, tied_ways[1] += taken && c->prevent_pruning, tied_ways[2] += taken && want.number;
+        tied_ways[3] += want.refusal == 7, tied_ways[4] += want.refusal == 8;
     }
     named[c->kind] += want.number || want.part.length || (c->kind == INTEREST && !want.refusal && want.range.times.start != c->area.times.start);
     return got;
@@ -224,7 +231,9 @@ static int table(bool enough) {
     }
     printf("held: with pruning prevented %ld, by a full store %ld, with another token %ld, beside a tie %ld, with an available length %ld\n", held_ways[0], held_ways[1],
            held_ways[2], held_ways[3], held_ways[4]);
-    for (int i = 0; i < 5; i++) missing += !held_ways[i];
+    printf("above a tie: taken %ld, with pruning prevented %ld, while something older went %ld; refused with 7 %ld, with 8 %ld\n", tied_ways[0], tied_ways[1], tied_ways[2],
+           tied_ways[3], tied_ways[4]);
+    for (int i = 0; i < 5; i++) missing += !held_ways[i], missing += !tied_ways[i];
     if (missing && enough) printf("fault: %d kinds of answers never came\n", missing);
     return missing && enough;
 }

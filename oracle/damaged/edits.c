@@ -82,7 +82,7 @@ static bool covers(const Copy *a, const Copy *b) { return a->subspace == b->subs
 
 static void take_out(size_t k) { memmove(copies + k, copies + k + 1, (--copied - k) * sizeof(Copy)); }
 
-/* 0 if taken, 8 if full, -1 if obsolete, -2 if held; the pairs of what it prunes. Digest, length and token are always the same. */
+/* 0 if taken, 8 if full, -1 if obsolete, -2 if held; the pairs of what it prunes. Digest, length and token are always the same, so that equal times tie. */
 static int put_in(const Copy *c, size_t *pruned) {
     size_t at = 0;
     for (size_t k = 0; k < copied; k++)
@@ -91,13 +91,13 @@ static int put_in(const Copy *c, size_t *pruned) {
         if (covers(copies + k, c) && copies[k].more == c->more && copies[k].time == c->time) return -2;
     *pruned = 0;
     for (size_t k = 0, offset = 0; k < copied; k++) {
-        if (covers(c, copies + k) && copies[k].time <= c->time)
+        if (covers(c, copies + k) && copies[k].time < c->time)
             want_prune[*pruned].offset = (uint32_t)offset, want_prune[(*pruned)++].length = (uint32_t)copies[k].len[0];
         offset += copies[k].len[0];
     }
     if (copied - *pruned == state.limit) return 8;
     for (size_t k = copied; k-- > 0;)
-        if (covers(c, copies + k) && copies[k].time <= c->time) take_out(k);
+        if (covers(c, copies + k) && copies[k].time < c->time) take_out(k);
     while (at < copied && compare(copies + at, c, 0) < 0) at++;
     memmove(copies + at + 1, copies + at, (copied++ - at) * sizeof(Copy));
     copies[at] = *c;
@@ -175,8 +175,13 @@ static const char *ingest(long *kinds) {
     Copy c;
     memset(&c, 0, sizeof c);
     c.n = rand() % (rand() % 5 > 1 ? 1000 : 10), c.more = rand() % 4, c.time = rand() % 8, c.subspace = rand() % 3 ? 1 : rand() % SUBSPACES;
-    if (copied && rand() % 8 == 0) c = copies[rand() % copied]; /* once more */
+    if (copied && rand() % 4 == 0) { /* once more, or what ties with it: at a prefix of its path, or below */
+        c = copies[rand() % copied];
+        if (rand() % 2) c.more = rand() % 4;
+    }
     write_records(&c);
+    bool above_tie = false;
+    for (size_t k = 0; k < copied; k++) above_tie |= covers(&c, copies + k) && copies[k].more > c.more && copies[k].time == c.time;
     vb_entry e = entry(&c);
     uint8_t token[64];
     size_t pruned = 0;
@@ -187,6 +192,7 @@ static const char *ingest(long *kinds) {
     if (!said && (r.pruned != pruned || memcmp(prune, want_prune, pruned * sizeof *prune))) return "a pair";
     state = r.state;
     kinds[said == -1 ? 1 : said == -2 ? 6 : said ? 2 : pruned ? 3 : 0]++;
+    kinds[7] += above_tie && !said, kinds[8] += above_tie && said > 0;
     return NULL;
 }
 
@@ -214,7 +220,7 @@ static const char *forget(long *kinds) {
 
 int main(void) {
     static const uint8_t namespace_id[16];
-    long done = 0, kinds[7] = {0};
+    long done = 0, kinds[9] = {0};
     for (int seed = 0; seed < 220; seed++) {
         srand(seed);
         copied = 0, state.limit = 1 + rand() % MOST;
@@ -227,7 +233,7 @@ int main(void) {
             done++;
         }
     }
-    printf("%ld random edits beside a plain copy: %ld put in, %ld obsolete, %ld held, %ld full, %ld that prune, %ld entries and %ld areas forgotten\n", done, kinds[0],
-           kinds[1], kinds[6], kinds[2], kinds[3], kinds[4], kinds[5]);
-    return 0;
+    printf("%ld random edits beside a plain copy: %ld put in, %ld obsolete, %ld held, %ld full, %ld that prune, %ld entries and %ld areas forgotten; above a tie %ld put in, %ld full\n", done,
+           kinds[0], kinds[1], kinds[6], kinds[2], kinds[3], kinds[4], kinds[5], kinds[7], kinds[8]);
+    return !kinds[7] || !kinds[8];
 }

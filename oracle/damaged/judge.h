@@ -1,6 +1,6 @@
-/* A judge of the store's calls, written from document 01 and from 02's U1 (the tally) and U2 (the same entry twice), and sharing no code and no number with the port or with whoever
-   makes the calls: of the header it uses the shapes of values only. It reads a store once, as it was lent, and then says of each call on it what the answer
-   is and what every byte of the buffers is afterwards. */
+/* A judge of the store's calls, written from document 01 and from 02's U1 (the tally), U2 (the same entry twice) and U3 (ties), and sharing no code and no number with
+   the port or with whoever makes the calls: of the header it uses the shapes of values only. It reads a store once, as it was lent, and then says of each call on it
+   what the answer is and what every byte of the buffers is afterwards. */
 #ifndef JUDGE_H
 #define JUDGE_H
 #include "virebony.h"
@@ -54,6 +54,9 @@ const char *judge_differs(const call *c, const answer *want, const answer *got);
 /* Of an ingestion that is held on the store that was read: whether an entry that ties with it is stored, a part of its payload is there, the token is another. */
 typedef struct { bool beside_tie, available, other_token; } held_how;
 held_how judge_held_how(const call *c);
+
+/* Of an ingestion with a legal path on the store that was read, which is well-formed: whether an entry at a proper extension of its path ties with it. */
+bool judge_above_tie(const call *c);
 
 /* Whether a path is legal. */
 bool judge_is_legal(const vb_path *p);

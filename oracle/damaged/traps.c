@@ -1,4 +1,4 @@
-/* Stores and calls on which a plausible wrong port fails, each answer written by hand from 01, and from 02: U1 for the tally, U2 for the same entry twice.
+/* Stores and calls on which a plausible wrong port fails, each answer written by hand from 01, and from 02: U1 for the tally, U2 for the same entry twice, U3 for ties.
    Ends with 1 if one is not as written. */
 #include "virebony.h"
 #include <stdbool.h>
@@ -92,12 +92,24 @@ static void ingests(const char *what, vb_entry e, bool prevent, int refusal, boo
     state = r.state;
 }
 
+/* Every byte of the trees, the directories, the tally and the prune list, kept; and whether they are again what was kept. */
+static struct {
+    uint8_t trees[sizeof tree], items[sizeof tally];
+    uint32_t dirs[2][2 * MOST + 8];
+    vb_pair pairs[MOST + 4];
+} was;
+
+static void keep(void) {
+    memcpy(was.trees, tree, sizeof tree), memcpy(was.items, tally, sizeof tally), memcpy(was.dirs, dir, sizeof dir), memcpy(was.pairs, prune, sizeof prune);
+}
+
+static bool as_it_was(void) {
+    return !memcmp(was.trees, tree, sizeof tree) && !memcmp(was.items, tally, sizeof tally) && !memcmp(was.dirs, dir, sizeof dir) && !memcmp(was.pairs, prune, sizeof prune);
+}
+
 /* The verdict held: nothing else in the answer but the state that was handed in, and no byte of any buffer is another. */
 static void holds(const char *what, vb_entry e, bool prevent) {
-    static uint8_t trees[sizeof tree], items[sizeof tally];
-    static uint32_t dirs[2][2 * MOST + 8];
-    static vb_pair pairs[MOST + 4];
-    memcpy(trees, tree, sizeof tree), memcpy(items, tally, sizeof tally), memcpy(dirs, dir, sizeof dir), memcpy(pairs, prune, sizeof prune);
+    keep();
     vb_ingested r = vb_ingest_entry(state, STORE, prune, lent, e, token, prevent);
     expect(what, r.held, true);
     expect(what, r.refusal | r.obsolete | r.pruned, 0);
@@ -110,7 +122,7 @@ static void holds(const char *what, vb_entry e, bool prevent) {
     for (int i = 0; i < VB_MPL; i++) told |= r.newer.path.bytes[i];
     expect(what, told, 0);
     expect(what, r.newer.timestamp | r.newer.payload_length | r.newer.subspace_id.high | r.newer.subspace_id.low | r.newer.path.count | r.newer.path.ends[0], 0);
-    expect(what, memcmp(trees, tree, sizeof tree) || memcmp(items, tally, sizeof tally) || memcmp(dirs, dir, sizeof dir) || memcmp(pairs, prune, sizeof prune), 0);
+    expect(what, as_it_was(), true);
 }
 
 static vb_entry named(vb_entry e) { /* of the store's namespace */
@@ -139,14 +151,92 @@ static void lists(const char *what, vb_ignore i, size_t place, bool found, size_
     expect(what, p.length, length), expect(what, q.length, length);
 }
 
-/* [61] stored, then [61][62] equal in timestamp, digest and length: both stand, and the calls after it don't answer 3. */
+/* The item at a place, and, with `last`, that zeros follow it up to the limit's room and what lies beyond is untouched. */
+static void item(const char *what, size_t place, uint64_t high, uint64_t low, uint32_t count, uint64_t newest, bool last) {
+    const uint8_t *p = tally + ITEM * place;
+    for (int i = 0; i < 8; i++) {
+        expect(what, p[i], high >> (56 - 8 * i) & 255), expect(what, p[8 + i], low >> (56 - 8 * i) & 255);
+        expect(what, p[20 + i], newest >> (56 - 8 * i) & 255);
+    }
+    for (int i = 0; i < 4; i++) expect(what, p[16 + i], count >> (24 - 8 * i) & 255);
+    if (!last) return;
+    for (size_t i = ITEM * (place + 1); i < sizeof tally; i++) expect(what, tally[i], i < ITEM * state.limit ? 0 : 7);
+}
+
+/* [61][62] stored, then [61] equal in timestamp, digest and length, pruning prevented: both stand, no pair is written, and the calls after it don't answer 3. The
+   other way round it is the same in every byte. The keys have 29 and 32 bytes. */
 static void ties(void) {
-    fresh(4), in("a", 5, 3, 1), in("a/b", 5, 3, 1);
+    static const uint32_t pairs[] = {0, 29 + 112, 29 + 112, 32 + 112};
+    fresh(4), in("a", 5, 3, 1), in("a/b", 5, 3, 1), keep();
+    fresh(4), in("a/b", 5, 3, 1);
+    ingests("a tie above, prevented", named(entry("a", 5, 3, 1)), true, 0, false, 0);
+    expect("the same bytes", as_it_was(), true);
+    expect("no pair", prune[0].offset, 0x07070707);
+    for (int i = 0; i < 4; i++) expect("two records", dir[0][i], pairs[i]), expect("two records", dir[1][i], pairs[i]);
+    item("two are tallied", 0, 0, 1, 2, 5, true);
     counts("ties are counted", all(), 0, 2);
+    holds("the first once more", named(entry("a/b", 5, 3, 1)), true), holds("the second once more", named(entry("a", 5, 3, 1)), true);
     vb_entry e = entry("a", 5, 3, 1);
     vb_entry_forgotten f = vb_forget_entry(state, STORE, e.subspace_id, e.path, 0, e.payload_digest);
     expect("a tie is forgotten", f.refusal, 0);
     expect("the other is left", f.state.count, 1);
+}
+
+/* [61], [61][62] and [61][62][63], all tied, in each of six orders: three, and every byte the same. Then the empty path, of the same digest and length: at 5 a fourth;
+   a length more and it removes all four, whose keys have 26, 29, 32 and 35 bytes. */
+static void line_of_ties(void) {
+    static const char *const line[] = {"a", "a/b", "a/b/c"};
+    static const int orders[][3] = {{0, 1, 2}, {0, 2, 1}, {1, 0, 2}, {1, 2, 0}, {2, 0, 1}, {2, 1, 0}};
+    static const uint32_t pairs[] = {0, 138, 138, 141, 279, 144, 423, 147};
+    for (int o = 0; o < 6; o++) {
+        fresh(5);
+        for (int i = 0; i < 3; i++) in(line[orders[o][i]], 5, 3, 1);
+        expect("three", state.count, 3);
+        item("three are tallied", 0, 0, 1, 3, 5, true);
+        if (o) expect("the same bytes", as_it_was(), true);
+        else keep();
+    }
+    in("", 5, 3, 1);
+    ingests("newer than all four", named(entry("", 5, 4, 1)), false, 0, false, 4);
+    for (int i = 0; i < 4; i++) expect("its pair", prune[i].offset, pairs[2 * i]), expect("its pair", prune[i].length, pairs[2 * i + 1]);
+    expect("no fifth pair", prune[4].offset, 0x07070707);
+    item("one is tallied", 0, 0, 1, 1, 5, true);
+}
+
+/* Limit 1, full of [61][62]. [61] that ties with it removes nothing: 8, with pruning prevented too, and no byte is another. One that is newer is taken. */
+static void full_of_ties(void) {
+    fresh(1), in("a/b", 5, 3, 1), keep();
+    ingests("a tie makes no room", named(entry("a", 5, 3, 1)), false, 8, false, 0);
+    ingests("a tie makes no room, prevented", named(entry("a", 5, 3, 1)), true, 8, false, 0);
+    ingests("nor does one above both", named(entry("", 5, 3, 1)), false, 8, false, 0);
+    ingests("nor does one below", named(entry("a/b/c", 5, 3, 1)), false, 8, false, 0);
+    expect("no byte changed", as_it_was(), true);
+    ingests("newer, prevented", named(entry("a", 5, 4, 1)), true, 7, false, 0);
+    ingests("newer", named(entry("a", 5, 4, 1)), false, 0, false, 1);
+}
+
+/* Below [61] at 5, of length 3 and digest 1, stand [61][62], which ties, [61][63], [61][64] and [61][65], older by length, digest and time, and [61][66], [61][67] and
+   [61][68], newer by these. It is refused with 7 if pruning is prevented; else the three older go, and theirs are the pairs. Each record has 144 bytes. */
+static void beside_ties(void) {
+    fresh(8), in("a/b", 5, 3, 1), in("a/c", 5, 2, 1), in("a/d", 5, 9, 0), in("a/e", 4, 9, 9), in("a/f", 5, 4, 1), in("a/g", 5, 0, 2), in("a/h", 6, 0, 0);
+    ingests("three would go", named(entry("a", 5, 3, 1)), true, 7, false, 0);
+    ingests("three go", named(entry("a", 5, 3, 1)), false, 0, false, 3);
+    for (uint32_t i = 0; i < 3; i++) expect("its pair", prune[i].offset, 144 * (i + 1)), expect("its pair", prune[i].length, 144);
+    expect("no fourth pair", prune[3].offset, 0x07070707);
+    item("five are tallied", 0, 0, 1, 5, 6, true);
+    static const char *const left[] = {"a", "a/b", "a/f", "a/g", "a/h"};
+    for (int i = 0; i < 5; i++) expect(left[i], vb_find_entry(state, READ, subspace(1), path(left[i]), ignore(false, false)).found, true);
+    vb_entry other = named(entry("a", 5, 3, 1));
+    other.subspace_id = subspace(2), other.path = path("a/b");
+    ingests("a tie of another subspace", other, true, 0, false, 0);
+    other.path = path("a");
+    ingests("and one above it there", other, true, 0, false, 0);
+    item("there two", 1, 0, 2, 2, 5, true);
+    fresh(3), in("a/b", 5, 3, 1), in("a/c", 5, 2, 1); /* one that ties, and an older one */
+    ingests("one goes", named(entry("a", 5, 3, 1)), false, 0, false, 1);
+    expect("that of [61][63]", prune[0].offset, 144), expect("and no other", prune[1].offset, 0x07070707);
+    ingests("a later one, prevented", named(entry("a", 6, 0, 0)), true, 7, false, 0);
+    ingests("a later one removes both", named(entry("a", 6, 0, 0)), false, 0, false, 2);
 }
 
 /* Limit 1, full. The same entry with another token: held, not 7 or 8, and the old token stays; of another namespace 6, with a wrong tally 10. The same place
@@ -303,18 +393,6 @@ static void shapes(void) {
 
 /* The tally */
 
-/* The item at a place, and, with `last`, that zeros follow it up to the limit's room and what lies beyond is untouched. */
-static void item(const char *what, size_t place, uint64_t high, uint64_t low, uint32_t count, uint64_t newest, bool last) {
-    const uint8_t *p = tally + ITEM * place;
-    for (int i = 0; i < 8; i++) {
-        expect(what, p[i], high >> (56 - 8 * i) & 255), expect(what, p[8 + i], low >> (56 - 8 * i) & 255);
-        expect(what, p[20 + i], newest >> (56 - 8 * i) & 255);
-    }
-    for (int i = 0; i < 4; i++) expect(what, p[16 + i], count >> (24 - 8 * i) & 255);
-    if (!last) return;
-    for (size_t i = ITEM * (place + 1); i < sizeof tally; i++) expect(what, tally[i], i < ITEM * state.limit ? 0 : 7);
-}
-
 static void in_subspace(vb_subspace s, const char *p, uint64_t time) {
     vb_entry e = named(entry(p, time, 3, 1));
     e.subspace_id = s;
@@ -342,7 +420,7 @@ static void zeros(void) {
     item("again one item", 0, 0, 0, 1, 0, true);
 }
 
-/* Entries of one subspace at 5 and 9, and the one at 9 is forgotten: newest 5. What an entry prunes is not newer than it, so that pruning lowers nothing:
+/* Entries of one subspace at 5 and 9, and the one at 9 is forgotten: newest 5. What an entry prunes is older than it, so that pruning lowers nothing:
    [61] at 9 stays when [62] at 5 is pruned by one at 6. */
 static void lowered(void) {
     fresh(4), in("a", 5, 3, 1), in("b", 9, 3, 1);
@@ -484,7 +562,7 @@ static void turned_away(void) {
 }
 
 int main(void) {
-    ties(), full(), resends(), pruned(), interest(), listings(), shapes();
+    ties(), line_of_ties(), full_of_ties(), beside_ties(), full(), resends(), pruned(), interest(), listings(), shapes();
     zeros(), lowered(), moved_up(), halves(), most(), behind(), turned_away();
     printf("traps: %d expectations, %d wrong\n", asked, wrong);
     return wrong != 0;

@@ -122,13 +122,14 @@ static vb_path path_again(const vb_path *was) {
     return p;
 }
 
-static vb_path near_path(void) {
-    if (!memories || one_in(3)) return random_path();
-    vb_path p = remembered[below(memories)].path;
-    if (p.count && one_in(3)) p.count = below(p.count); /* a prefix */
+/* A path, a prefix of it, or one component more. */
+static vb_path path_near(vb_path p) {
+    if (p.count && one_in(3)) p.count = below(p.count);
     else if (p.count < VB_MCC && (p.count ? p.ends[p.count - 1] : 0) < VB_MPL && one_in(3)) add_component(&p, below(2));
     return p;
 }
+
+static vb_path near_path(void) { return !memories || one_in(3) ? random_path() : path_near(remembered[below(memories)].path); }
 
 static vb_subspace near_subspace(void) { return memories && !one_in(4) ? remembered[below(memories)].subspace_id : random_subspace(); }
 
@@ -173,10 +174,11 @@ static vb_entry random_entry(const uint8_t namespace_id[16]) {
     if (filled) {
         e.path = no_path();
         e.path.bytes[0] = (uint8_t)(filled >> 8), e.path.bytes[1] = (uint8_t)filled++, e.path.ends[0] = 2, e.path.count = 1;
-    } else if (memories && one_in(4)) { /* at a place that may be stored; perhaps the same entry, or one that ties with it */
+        if (one_in(2)) add_component(&e.path, 1);
+    } else if (memories && one_in(3)) { /* at a place that may be stored, above it or below; perhaps the same entry, or one that ties with it */
         const vb_entry *r = remembered + below(memories);
         e.subspace_id = r->subspace_id;
-        if (one_in(2)) e.path = r->path;
+        if (!one_in(4)) e.path = path_near(r->path);
         if (one_in(2)) e.timestamp = r->timestamp, e.payload_length = r->payload_length, memcpy(e.payload_digest, r->payload_digest, 32);
     }
     return e;

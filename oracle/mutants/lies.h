@@ -120,7 +120,7 @@ MAY static vb_ingested lie_about_held(vb_ingested r, vb_state state, VB_BUFFERS,
                                       vb_lengthy_entry found) {
     if (!r.held) return r;
     size_t total = entry.path.count ? entry.path.ends[entry.path.count - 1] : 0;
-    if (LIE == HELD_BEHIND_SEVEN && prevent) r.refusal = 7, r.held = 0;
+    if (LIE == HELD_IS_SEVEN && prevent) r.refusal = 7, r.held = 0;
     if (LIE == HELD_BEHIND_EIGHT && state.count == state.limit) r.refusal = 8, r.held = 0;
     if (LIE == HELD_IS_SUCCESS) r.held = 0;
     if (LIE == HELD_AND_PRUNED) r.pruned = 1;
@@ -150,6 +150,43 @@ MAY static vb_ingested lie_about_held(vb_ingested r, vb_state state, VB_BUFFERS,
     return r;
 }
 
+/* The paths of the stored entries that tie with an entry from below; their pairs and those of what is older at its path or below, in key order. */
+static size_t tied, covered;
+static vb_path tied_paths[VB_LIMIT_MOST];
+static vb_pair covered_pairs[VB_LIMIT_MOST];
+MAY static void find_ties(vb_state state, VB_CONST_BUFFERS, vb_entry entry) {
+    tied = covered = 0;
+    if (vb_count_area(state, ARGUMENTS, (vb_area){.path = entry.path}).refusal) return;
+    for (size_t k = 0; k < state.count; k++) {
+        vb_pair pair = {spt_dir[2 * k], spt_dir[2 * k + 1]};
+        const uint8_t *value = spt + pair.offset + pair.length - VB_VALUE;
+        vb_decoded d = vb_decode_spt_entry_key(spt + pair.offset, pair.length - VB_VALUE);
+        if (d.subspace.high != entry.subspace_id.high || d.subspace.low != entry.subspace_id.low || !vb_path_is_prefix_of(entry.path, d.path).yes) continue;
+        vb_entry at = {.path = d.path, .timestamp = d.timestamp};
+        for (int i = 0; i < 8; i++) at.payload_length = at.payload_length << 8 | value[i];
+        memcpy(at.payload_digest, value + 8, 32);
+        vb_entries_compared c = vb_entry_compare(at, entry);
+        if (c.newer) continue;
+        covered_pairs[covered++] = pair;
+        if (!c.older) tied_paths[tied++] = at.path;
+    }
+}
+
+/* Lies about an entry that has a tie below it. */
+MAY static vb_ingested lie_about_ties(vb_ingested r, vb_state state, VB_BUFFERS, vb_pair *prune, size_t prune_len, vb_entry entry, const uint8_t token[64], uint8_t prevent) {
+    static const uint8_t digest[32];
+    if (!tied || r.obsolete || r.held) return r;
+    if (LIE == TIES_ARE_SEVEN && !r.refusal && prevent) { /* what was filed goes again */
+        vb_forget_entry(r.state, ALL_ARGUMENTS, entry.subspace_id, entry.path, 0, digest);
+        return (vb_ingested){.refusal = 7, .state = state};
+    }
+    if (prevent || !(LIE == TIES_REMOVED && !r.refusal) && !(LIE == TIES_MAKE_ROOM && r.refusal == 8)) return r;
+    for (size_t k = 0; k < tied; k++) r.state = vb_forget_entry(r.state, ALL_ARGUMENTS, entry.subspace_id, tied_paths[k], 0, digest).state;
+    if (r.refusal) r = vb_ingest_entry(r.state, ALL_ARGUMENTS, prune, prune_len, entry, token, 0);
+    r.pruned = covered, memcpy(prune, covered_pairs, covered * sizeof *prune);
+    return r;
+}
+
 MAY static vb_ingested lie_ingest_entry(vb_state state, VB_BUFFERS, vb_pair *prune, size_t prune_len, vb_entry entry, const uint8_t token[64], uint8_t prevent) {
     static uint8_t kept[VB_RECORD_MOST * VB_LIMIT_MOST + 64];
     static uint32_t kept_dir[2 * VB_LIMIT_MOST + 64];
@@ -160,6 +197,7 @@ MAY static vb_ingested lie_ingest_entry(vb_state state, VB_BUFFERS, vb_pair *pru
     if (LIE == HELD_BY_PLACE_AND_TIME && found.found && found.lengthy.entry.timestamp == entry.timestamp && !memcmp(state.namespace_id, entry.namespace_id, 16) &&
         prune_len >= state.limit && !vb_forget_area(state, ALL_ARGUMENTS, (vb_area){.path = entry.path}, 1, (vb_area){.path = entry.path}).refusal)
         return (vb_ingested){.held = 1, .state = state};
+    if (LIE == TIES_REMOVED || LIE == TIES_ARE_SEVEN || LIE == TIES_MAKE_ROOM) find_ties(state, ARGUMENTS, entry);
     keep_tally(tally, tally_len);
     vb_ingested r = vb_ingest_entry(state, ALL_ARGUMENTS, prune, prune_len, entry, token, prevent);
     if (LIE == TALLY_BEFORE_THE_CHANGE && r.pruned) tally[19] += (uint8_t)r.pruned;
@@ -174,6 +212,7 @@ MAY static vb_ingested lie_ingest_entry(vb_state state, VB_BUFFERS, vb_pair *pru
     if (LIE == ONE_TREE_PRUNED && r.pruned) memcpy(tsp, kept, tsp_len), memcpy(tsp_dir, kept_dir, 4 * tsp_dir_len);
     if (LIE == BEYOND_THE_BOUNDS && !r.refusal && spt_len > VB_RECORD_MOST * state.limit) spt[VB_RECORD_MOST * state.limit] = 0;
     if (LIE == ALL_OBSOLETE && !r.refusal) r.obsolete = 1;
+    r = lie_about_ties(r, state, ALL_ARGUMENTS, prune, prune_len, entry, token, prevent);
     return lie_about_held(r, state, ALL_ARGUMENTS, prune, prune_len, entry, token, prevent, found.lengthy);
 }
 

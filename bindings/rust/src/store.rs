@@ -115,8 +115,9 @@ impl Store {
     }
 
     /// Files an entry with available length 0. It is obsolete, and nothing changes, if a stored entry of its subspace at its path or a prefix of it is
-    /// newer. It is held, and nothing changes, if an entry of the same subspace, path, timestamp, digest and length is stored. Else what it outdates is removed:
-    /// entries at its path or below that are not newer. Refused: 6; if it is neither obsolete nor held 7 (with `prevent_pruning`), 8.
+    /// newer. It is held, and nothing changes, if an entry of the same subspace, path, timestamp, digest and length is stored. Else the entries of the subspace
+    /// at its path or below that are older, by timestamp, then digest, then payload length, are removed; an entry of equal rank stays. Refused: 6; if it is
+    /// neither obsolete nor held 7 (with `prevent_pruning`), 8.
     pub fn ingest_entry(&mut self, authorised_entry: AuthorisedEntry, prevent_pruning: bool) -> Result<EntryIngestionSuccess, Refusal> {
         let (entry, token) = authorised_entry.into_parts();
         let Store { state, spt, spt_dir, tsp, tsp_dir, tally, prune } = self;

@@ -62,6 +62,16 @@ fn sentences_of_refusals() {
     assert_eq!((Refusal::from_number(0), Refusal::from_number(11)), (None, None));
 }
 
+/// What an ingestion does is said in the same words.
+#[test]
+fn words_of_an_ingestion() {
+    let words = |text: &'static str, behind| {
+        let from = text.find("Files an entry with its token").unwrap();
+        text[from..].split(behind).next().unwrap().split_whitespace().filter(|word| *word != "///").collect::<Vec<_>>()
+    };
+    assert_eq!(words(HEADER, "*/"), words(CALLS, "ingest_entry ="));
+}
+
 /// The header's asserts name a struct, its size and offsets; the crate's own asserts (src/sys) have the same.
 #[test]
 fn sizes_and_offsets() {

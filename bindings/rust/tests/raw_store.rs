@@ -101,17 +101,94 @@ fn ingestion_one_after_another() {
     assert_eq!((taken.refusal, taken.obsolete, taken.pruned, taken.state.count), (0, 0, 0, 1));
     assert_eq!(kept.spt_dir[..4], [0, 144, 0, 0]); // key 16 + 8 + 8, value 112
     assert_eq!(kept.prune, [UNTOUCHED; 4]);
-    assert_eq!(kept.ingest(entry(1, "61", 5, 3, 9), 1).refusal, 7); // it would prune
+    assert_eq!(kept.ingest(entry(1, "61", 6, 3, 9), 1).refusal, 7); // it would prune
     let obsolete = kept.ingest(entry(1, "61/62", 4, 3, 9), 2); // obsolete goes before 7
     assert_eq!((obsolete.refusal, obsolete.obsolete, obsolete.state.count, obsolete.token), (0, 1, 1, TOKEN));
     assert_eq!(obsolete.newer, raw::Entry { path: answered("61/62"), ..entry(1, "", 5, 3, 9) });
-    let tied = kept.ingest(entry(1, "61", 5, 3, 9), 0); // a tie is removed
-    assert_eq!((tied.refusal, tied.obsolete, tied.pruned, tied.state.count), (0, 0, 1, 1));
+    let above = kept.ingest(entry(1, "61", 6, 3, 9), 0); // the older one is removed
+    assert_eq!((above.refusal, above.obsolete, above.pruned, above.state.count), (0, 0, 1, 1));
     assert_eq!(kept.prune, [raw::Pair { offset: 0, length: 144 }, UNTOUCHED, UNTOUCHED, UNTOUCHED]);
-    let below = kept.ingest(entry(1, "61/62", 5, 3, 9), 255); // the other way round: two
+    let below = kept.ingest(entry(1, "61/62", 6, 3, 9), 255); // of equal rank: two
     assert_eq!((below.refusal, below.obsolete, below.pruned, below.state.count, below.token), (0, 0, 0, 2, [0; 64]));
     let elsewhere = raw::Entry { namespace_id: [1; 16], ..entry(1, "61", 9, 3, 9) };
     assert_eq!(kept.ingest(elsewhere, 0).refusal, 6);
+}
+
+/// An ingestion that was taken: how many it pruned, and how many entries there are then.
+fn taken(answer: raw::Ingested) -> (usize, usize) {
+    assert_eq!((answer.refusal, answer.obsolete, answer.held), (0, 0, 0));
+    (answer.pruned, answer.state.count)
+}
+
+/// Document 02's U3: of entries equal in timestamp, digest and length, one path extending the other, none removes another.
+#[test]
+fn ties_in_either_order() {
+    let (above, below) = (entry(1, "61", 5, 3, 9), entry(1, "61/62", 5, 3, 9));
+    let (mut kept, mut other) = (Kept::open(2), Kept::open(2));
+    assert_eq!([below, above].map(|e| taken(kept.ingest(e, 1))), [(0, 1), (0, 2)]); // pruning prevented: nothing would be removed
+    assert_eq!([above, below].map(|e| taken(other.ingest(e, 0))), [(0, 1), (0, 2)]);
+    assert_eq!(kept, other); // every byte, and the lists of pairs as they were lent
+    assert_eq!([&kept.spt_dir, &kept.tsp_dir], [&[0, 141, 141, 144]; 2]); // key 29 or 32, value 112
+    assert_eq!(kept.prune, [UNTOUCHED; 2]);
+    assert_eq!(raw::decode_spt_entry_key(&kept.spt[141..173]).path, answered("61/62"));
+    assert_eq!(raw::decode_tsp_entry_key(&kept.tsp[141..173]).path, answered("61/62"));
+    assert_eq!(kept.tally, items(2, &[(0, 1, 2, 5)]));
+    assert_eq!(taken(kept.ingest(entry(1, "", 6, 0, 0), 0)), (2, 1)); // a later one above removes both
+    assert_eq!(kept.prune, [raw::Pair { offset: 0, length: 141 }, raw::Pair { offset: 141, length: 144 }]);
+}
+
+#[test]
+fn a_tie_makes_no_room_in_a_full_store() {
+    let mut kept = Kept::open(1);
+    assert_eq!(taken(kept.ingest(entry(1, "61/62", 5, 3, 9), 0)), (0, 1));
+    let (full, state, above) = (kept.clone(), kept.state, entry(1, "61", 5, 3, 9));
+    for prevent in [0, 1] {
+        assert_eq!(kept.ingest(above, prevent).refusal, 8); // with pruning prevented too: nothing would be removed
+        assert_eq!(raw::ingest_entry_numbers(state, &mut kept.buffers_mut(), &mut [7; 2], above, &TOKEN, prevent).refusal, 8);
+        let by_value = raw::ingest_entry_by_value(state, &mut kept.buffers_mut(), raw::Pairs { pairs: [UNTOUCHED; 1024] }, above, &TOKEN, prevent);
+        assert_eq!((by_value.ingested.refusal, by_value.pairs), (8, [UNTOUCHED; 1024]));
+    }
+    assert_eq!(kept, full);
+}
+
+/// All six orders leave the same: both trees, their directories and a tally that counts three.
+#[test]
+fn three_ties_in_every_order() {
+    let line = ["61", "61/62", "61/62/63"].map(|text| entry(1, text, 5, 3, 9));
+    let stores = [[0, 1, 2], [0, 2, 1], [1, 0, 2], [1, 2, 0], [2, 0, 1], [2, 1, 0]].map(|order| {
+        let mut kept = Kept::open(5);
+        assert_eq!(order.map(|i| taken(kept.ingest(line[i], 1))), [(0, 1), (0, 2), (0, 3)]);
+        kept
+    });
+    assert_eq!(stores[0].tally, items(5, &[(0, 1, 3, 5)]));
+    assert_eq!(stores[0].spt_dir[..6], [0, 141, 141, 144, 285, 147]);
+    assert!(stores.iter().all(|kept| *kept == stores[0]));
+}
+
+#[test]
+fn an_older_one_beside_a_tie() {
+    let mut kept = Kept::open(2);
+    let above = entry(1, "61", 5, 3, 9);
+    assert_eq!([("61/62", 3), ("61/63", 2)].map(|(text, length)| taken(kept.ingest(entry(1, text, 5, length, 9), 0))), [(0, 1), (0, 2)]);
+    assert_eq!(kept.ingest(above, 1).refusal, 7);
+    assert_eq!(taken(kept.ingest(above, 0)), (1, 2)); // the store was full, and [61][63] makes room
+    assert_eq!(kept.prune, [raw::Pair { offset: 144, length: 144 }, UNTOUCHED]);
+    let found = |text| raw::find_entry(kept.state, kept.buffers(), subspace(1), path(text), ignore(0, 0)).found;
+    assert_eq!(["61", "61/62", "61/63"].map(found), [1, 1, 0]);
+}
+
+/// [61][62], older or newer than [61] by its timestamp, digest or length: no tie.
+#[test]
+fn older_and_newer_below() {
+    let [older, newer] = [[(4, 9, 255), (5, 9, 8), (5, 2, 9)], [(6, 0, 0), (5, 0, 10), (5, 4, 9)]];
+    for (time, length, digest) in older.into_iter().chain(newer) {
+        let mut kept = Kept::open(2);
+        assert_eq!(taken(kept.ingest(entry(1, "61/62", time, length, digest), 0)), (0, 1));
+        let prunes = older.contains(&(time, length, digest));
+        let prevented = kept.clone().ingest(entry(1, "61", 5, 3, 9), 1).refusal;
+        assert_eq!(prevented, if prunes { 7 } else { 0 });
+        assert_eq!(taken(kept.ingest(entry(1, "61", 5, 3, 9), 0)), if prunes { (1, 1) } else { (0, 2) });
+    }
 }
 
 /// Document 02's U2: held, over pair records, over numbers and by value, and no byte of any buffer is another.

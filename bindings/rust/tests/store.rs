@@ -97,13 +97,36 @@ fn subspaces_as_bytes() {
     assert_eq!(<[u8; 16]>::from(subspace), bytes);
 }
 
+/// What a list of entries leaves in a store of this limit, each taken with so many pruned: how many, and the buffers' bytes.
+fn filed(limit: usize, entries: &[(AuthorisedEntry, usize)]) -> (usize, Vec<u8>) {
+    let mut store = Store::open(NAMESPACE, limit).unwrap();
+    for (entry, pruned) in entries {
+        assert_eq!(store.ingest_entry(*entry, *pruned == 0), success(*pruned)); // pruning prevented where nothing is removed
+    }
+    let (_, b) = store.as_parts();
+    let numbers = [b.spt_dir, b.tsp_dir].concat().into_iter().flat_map(u32::to_be_bytes);
+    (store.len(), [b.spt, b.tsp, store.tally().as_bytes()].concat().into_iter().chain(numbers).collect())
+}
+
+/// Document 02's U3: [61][62] and [61], equal in timestamp, digest and length, both stay, whichever came first, and the bytes are the same.
 #[test]
-fn a_tie_above_removes_and_below_stays() {
-    let (above, below) = (entry(1, &[b"a"], 5, 3, 9), entry(1, &[b"a", b"b"], 5, 3, 9));
-    let mut store = Store::open(NAMESPACE, 4).unwrap();
-    assert_eq!((store.ingest_entry(below, false), store.ingest_entry(above, false), store.len()), (success(0), success(1), 1));
-    let mut store = Store::open(NAMESPACE, 4).unwrap();
-    assert_eq!((store.ingest_entry(above, false), store.ingest_entry(below, false), store.len()), (success(0), success(0), 2));
+fn ties_stay() {
+    let [above, below, last] = [&[&b"a"[..]][..], &[b"a", b"b"], &[b"a", b"b", b"c"]].map(|components| entry(1, components, 5, 3, 9));
+    let (count, two) = filed(4, &[(above, 0), (below, 0)]);
+    assert_eq!((count, filed(4, &[(below, 0), (above, 0)])), (2, (2, two)));
+    let three = filed(4, &[(above, 0), (below, 0), (last, 0)]);
+    assert_eq!(three.0, 3);
+    for [x, y, z] in [[above, last, below], [below, above, last], [below, last, above], [last, above, below], [last, below, above]] {
+        assert_eq!(filed(4, &[(x, 0), (y, 0), (z, 0)]), three);
+    }
+    let mut store = Store::open(NAMESPACE, 1).unwrap();
+    assert_eq!((store.ingest_entry(below, false), store.ingest_entry(above, false), store.len()), (success(0), Err(Refusal::Full), 1));
+    let older = entry(1, &[b"a", b"c"], 5, 2, 9);
+    assert_eq!(filed(2, &[(below, 0), (older, 0), (above, 1)]), filed(2, &[(above, 0), (below, 0)])); // the older one alone goes
+    assert_eq!(filed(2, &[(below, 0), (above, 0), (entry(1, &[], 6, 0, 0), 2)]).0, 1); // a later one above removes both
+    let mut store = Store::open(NAMESPACE, 3).unwrap();
+    assert_eq!([last, below, above].map(|entry| store.ingest_entry(entry, true)), [success(0); 3]);
+    assert_eq!(store.tally().of(subspace(1)).map(|item| (item.count, item.newest)), Some((3, 5)));
 }
 
 /// Document 02's U2, one after another: a resend, with another token, with pruning prevented, to a full store, beside a tie; and what is no resend.

@@ -5,8 +5,8 @@ use borrow.Author.Tests.{eq-eqb}
 use Rattle.laws.specs.Sorted.{any}
 use Rattle.laws.proofs.Truth.{clash, refute}
 use Rattle.data_model.specs.Path.{Figures}
-use Rattle.data_model.specs.Entry.{Entry, entryOf, newer, prunes}
-use Rattle.key_laws.proofs.EntryLaws.{newer-weak, covers-trans, prunes-make}
+use Rattle.data_model.specs.Entry.{Entry, entryOf, prunes}
+use Rattle.key_laws.proofs.EntryLaws.{prunes-make, prunes-trans}
 use Rattle.tree.specs.Matching.{outdates}
 use Rattle.tree.specs.declared.stored.KeyOrder.the-variants.{Spt}
 use Rattle.store.specs.Store.{Store, held, Tallied}
@@ -14,7 +14,7 @@ use Rattle.store.specs.Ingest.{already, decidedOf, decided, ingestRefusal, judg
 use Rattle.store.proofs.IngestLaws.{first-absent}
 use Rattle.call_laws.specs.Calls.{IngestCall}
 use Rattle.call_laws.specs.Checks.{AlreadyStored}
-use Rattle.call_laws.specs.Resend.{HeldNotObsolete, ObsoleteNotPrevented, Resent, HeldAgain}
+use Rattle.call_laws.specs.Resend.{HeldNotObsolete, ObsoleteNotPrevented, HeldNotPrevented, Resent, HeldAgain}
 use Rattle.call_laws.proofs.WellFormedFacts.{well-formed-store}
 use Rattle.call_laws.proofs.Checked.{old-words, held-tested}
 use Rattle.call_laws.proofs.Did.{passed}
@@ -23,12 +23,13 @@ use Rattle.call_laws.proofs.Did.{passed}
 pub held-not-obsolete : (f : Figures) (s : Store) → HeldNotObsolete f s
 held-not-obsolete f s apart e h o = clash (prunes-make (o .0 .entry) e (o .2) (o .3)) (subst (λ (z : Entry). prunes (o .0 .entry) z ≡ false) (h .2) (apart (o .0) (h .0) (o .1) (h .1)))
 
--- What outdates an entry would prune what that entry removes.
+-- What outdates an entry would prune what that entry removes, and so would the entry itself, if it were stored.
 pub obsolete-not-prevented : (f : Figures) (s : Store) → ObsoleteNotPrevented f s
 obsolete-not-prevented f s apart e o r =
-    let below = covers-trans (o .0 .entry) e (r .0 .entry) (o .2) (r .2) in
-    let older : newer (o .0 .entry) (r .0 .entry) ≡ false = refute _ λ g. clash (prunes-make (o .0 .entry) (r .0 .entry) below g) (apart (o .0) (r .0) (o .1) (r .1)) in
-    clash (newer-weak (r .0 .entry) (o .0 .entry) e older (o .3)) (r .3)
+    clash (prunes-trans (o .0 .entry) e (r .0 .entry) (prunes-make (o .0 .entry) e (o .2) (o .3)) (prunes-make e (r .0 .entry) (r .2) (r .3))) (apart (o .0) (r .0) (o .1) (r .1))
+
+pub held-not-prevented : (f : Figures) (s : Store) → HeldNotPrevented f s
+held-not-prevented f s apart e h r = clash (prunes-make e (r .0 .entry) (r .2) (r .3)) (subst (λ (z : Entry). prunes z (r .0 .entry) ≡ false) (h .2) (apart (h .0) (r .0) (h .1) (r .1)))
 
 module _ (f : Figures) (w : Tallied) (i : IngestCall) (z : ingestRefusal f w (i .prune) (i .handed .entry) ≡ 0) (h : AlreadyStored f (w .store) (entryOf (i .handed .entry))) where
   current : any (outdates (entryOf (i .handed .entry))) (held f Spt (w .store)) ≡ false

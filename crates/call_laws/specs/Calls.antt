@@ -2,14 +2,14 @@
 use Prim.Native.Nat.{ℕ, _≤_, _<_, _^_}
 use mathlib.Core.Path.{_≡_}
 use mathlib.Core.List.{List, [], _∷_}
-use mathlib.Core.Bool.{Bool, true, false, cond}
+use mathlib.Core.Bool.{Bool, false, cond}
 use mathlib.Core.Option.{Option, some, none}
 use lib.ListN.{length}
 use lib.Dec.{eqb}
 use Rattle.laws.specs.Sorted.{_∈_}
 use Rattle.data_model.specs.Said.{Said, refuses, says}
-use Rattle.data_model.specs.Path.{Figures, components, isPrefix}
-use Rattle.data_model.specs.Entry.{Entry, entryOf}
+use Rattle.data_model.specs.Path.{Figures, components}
+use Rattle.data_model.specs.Entry.{entryOf}
 use Rattle.data_model.specs.declared.path.Path.{Path}
 use Rattle.data_model.specs.declared.parameters.Subspace.{Subspace}
 use Rattle.data_model.specs.declared.area.Area.{Area}
@@ -59,13 +59,6 @@ pub data Call : Type 0 where
 -- What an ingestion files.
 abbrev pub filedAs : IngestCall → Stored
 filedAs i = filing (entryOf (i .handed .entry)) (i .handed .token)
-
--- Two entries of one subspace, the path of b properly extending that of a, that agree in timestamp, digest and length.
-pub record Tied (a b : Entry) : Type 0 where
-  pub subspace : a .subspace ≡ b .subspace
-  pub extends : isPrefix (a .path) (b .path) ≡ true
-  pub properly : a .path ≡ b .path → ⊥
-  pub rank : a .rank ≡ b .rank
 
 -- A buffer of a call's own: how long it is, and how long it must be.
 pub record Room : Type 0 where

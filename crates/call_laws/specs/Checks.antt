@@ -54,9 +54,9 @@ Outdated f s e = (x : Stored) × x ∈ held f Spt s × (covers (x .entry) e ≡ 
 abbrev pub AlreadyStored : Figures → Store → Entry → Type 0
 AlreadyStored f s e = (x : Stored) × x ∈ held f Spt s × (x .entry ≡ e)
 
--- A stored entry at the path or an extension is not newer: it would be removed, and all others stay (`stays`).
+-- 02, U3: a stored entry at the path or an extension is strictly older: it would be removed, and all others stay (`stays`), those that tie too.
 abbrev pub Removes : Figures → Store → Entry → Type 0
-Removes f s e = (x : Stored) × x ∈ held f Spt s × (covers e (x .entry) ≡ true) × (newer (x .entry) e ≡ false)
+Removes f s e = (x : Stored) × x ∈ held f Spt s × (covers e (x .entry) ≡ true) × (newer e (x .entry) ≡ true)
 
 -- The entry stored at the subspace and path has another digest.
 abbrev pub OtherDigest : Figures → Store → Target → Type 0

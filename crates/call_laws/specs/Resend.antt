@@ -25,6 +25,11 @@ HeldNotObsolete f s = NonePrunes f s → (e : Entry) → AlreadyStored f s e →
 abbrev pub ObsoleteNotPrevented : Figures → Store → Type 0
 ObsoleteNotPrevented f s = NonePrunes f s → (e : Entry) → Outdated f s e → Removes f s e → ⊥
 
+-- Nor is an entry both stored already and one that would remove another: so it does not matter whether held or 7 is looked for first. (Held and 8 do meet, in a
+-- full store: there held comes first.) Theorem `held-not-prevented`.
+abbrev pub HeldNotPrevented : Figures → Store → Type 0
+HeldNotPrevented f s = NonePrunes f s → (e : Entry) → AlreadyStored f s e → Removes f s e → ⊥
+
 -- A stored entry that comes again is held, and nothing changes: the state that is answered, both trees with the stored token and available length, their
 -- directories, the tally and the prune list are those handed in. The newer entry in the answer and its token are all 0.
 pub record Resent (f : Figures) (w : Tallied) (i : IngestCall) : Type 0 where

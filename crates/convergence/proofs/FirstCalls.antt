@@ -72,7 +72,7 @@ unfolding computing
 next-later = record { fits = refl; says = says-later }
 
 pub done-next : (x : IngestCall) → DoneNext x → outcome field t1 (ingest x) .verdict ≡ done
-done-next x d = second-says x (d .says)
+done-next x d = second-says one x (d .says)
 
 -- A call keeps the limit.
 pub limits : (s : Tallied) (c : Call) → outcome field s c .left .store .state .limit ≡ s .store .state .limit

@@ -4,7 +4,7 @@ use mathlib.Core.Path.{_≡_, refl, sym, ap, subst, _∙_}
 use mathlib.Core.List.{List, [], _∷_, map, List·Memᴰ·head as here, List·Memᴰ·tail as there}
 use mathlib.Core.Bool.{true}
 use native.Mathlib.Omega.{arith}
-use lib.ListN.{replicate, getD}
+use lib.ListN.{length, replicate, getD}
 use Rattle.laws.specs.Sorted.{_∈_, all, Ascends}
 use Rattle.laws.proofs.Truth.{clash}
 use Rattle.layout.specs.Layout.{treeBytes, dirNumbers}
@@ -24,19 +24,19 @@ use Rattle.call_laws.specs.Outcomes.{Outcome, outcome, opens}
 use Rattle.call_laws.proofs.Did.{so, Did, was-refused, was-obsolete, was-held, has-filed, has-forgotten, did}
 use Rattle.call_laws.proofs.Stands.{opened-store}
 use Rattle.call_laws.proofs.Right.{refused-done, obsolete-done, held-done, not-forgets}
-use Rattle.convergence.specs.Demand.{ours, history, afterAll, Receipt, receiptOf, notRefused, receipts, received, Run, throughout, events, Plain, Current, receiptIn, Exactly, Contents, Demand3}
-use Rattle.convergence.specs.Examples.{atLimit, one, two, later, other-token}
-use Rattle.convergence.specs.WrongStores.{ifDone, instead, Flaw, counts-only, leaves-bytes, loses-token, available-1, prunes-nothing, prunes-one-tree, in-order-of-arrival, makes, flawed, with-flaw, leaves, Broken, Refuted}
+use Rattle.convergence.specs.Demand.{ours, history, afterAll, Receipt, receiptOf, notRefused, receipts, received, Run, throughout, events, OneToken, Current, receiptIn, Exactly, Contents, Demand3}
+use Rattle.convergence.specs.Examples.{atLimit, one, two, later, lower, other-token}
+use Rattle.convergence.specs.WrongStores.{ifDone, instead, Flaw, counts-only, leaves-bytes, loses-token, available-1, prunes-nothing, prunes-ties, prunes-one-tree, in-order-of-arrival, makes, flawed, with-flaw, leaves, Broken, Refuted}
 use Rattle.convergence.proofs.Examined.{verdictIn}
 use Rattle.convergence.proofs.Computing.{computing, reading}
 use Rattle.convergence.proofs.Lines.{fine, lines-values, lines-gather, opens-fine, computed}
-use Rattle.convergence.proofs.Shown.{only, tokens-one, mayTie, noneMayTie, ties-none}
+use Rattle.convergence.proofs.Shown.{only, tokens-one, current-by}
 
 pub ok-2 : limitOk 2 ≡ true
 unfolding limitOk
 ok-2 = refl
 
--- The store that is opened, and ours after one entry: of bytes that can be computed.
+-- The store that is opened, and one with one entry: of bytes that can be computed.
 abbrev begun : Tallied
 begun = talliedHolding field nothing (asked (atLimit 2))
 
@@ -46,17 +46,17 @@ t0 = opens field (atLimit 2) .left
 begins : t0 ≡ begun
 begins = opened-store field (atLimit 2) (opens-fine 2 ok-2)
 
-abbrev pub next : Tallied
-next = talliedHolding field (record { spt = filedAs one ∷ []; tsp = filedAs one ∷ [] }) begun
+abbrev pub next : IngestCall → Tallied
+next a = talliedHolding field (record { spt = filedAs a ∷ []; tsp = filedAs a ∷ [] }) begun
 
 -- The verdicts of ours.
 pub first-done : (x : IngestCall) → map verdictIn (history (ours field) t0 (ingest x ∷ [])) ≡ done ∷ [] → outcome field t0 (ingest x) .verdict ≡ done
 unfolding history
 first-done x e = ap (λ (l : List Verdict). getD l 0 obsolete) e
 
-pub second-says : (x : IngestCall) {v : Verdict} → map verdictIn (history (ours field) t0 (ingest one ∷ ingest x ∷ [])) ≡ done ∷ v ∷ [] → outcome field (outcome field t0 (ingest one) .left) (ingest x) .verdict ≡ v
+pub second-says : (a x : IngestCall) {v : Verdict} → map verdictIn (history (ours field) t0 (ingest a ∷ ingest x ∷ [])) ≡ done ∷ v ∷ [] → outcome field (outcome field t0 (ingest a) .left) (ingest x) .verdict ≡ v
 unfolding history
-second-says x e = ap (λ (l : List Verdict). getD l 1 obsolete) e
+second-says a x e = ap (λ (l : List Verdict). getD l 1 obsolete) e
 
 pub says-later : map verdictIn (history (ours field) t0 (map ingest (one ∷ later ∷ []))) ≡ done ∷ done ∷ []
 unfolding computing
@@ -69,6 +69,10 @@ says-two = computed 2 refl (one ∷ two ∷ []) refl .says-all
 pub done-one : outcome field t0 (ingest one) .verdict ≡ done
 unfolding computing
 done-one = first-done one (computed 2 refl (one ∷ []) refl .says-all)
+
+done-lower : outcome field t0 (ingest lower) .verdict ≡ done
+unfolding computing
+done-lower = first-done lower (computed 2 refl (lower ∷ []) refl .says-all)
 
 done-token : outcome field t0 (ingest other-token) .verdict ≡ done
 unfolding computing
@@ -91,23 +95,37 @@ ours-files s i d = go (did field s (ingest i))
     go (has-filed j q t e) = ap (λ (o : Outcome Tallied). o .left) e ∙ ap (λ (k : IngestCall). makes filed k s) (same q)
     go (has-forgotten p q e) = not-forgets i p q
 
-makes-next : makes filed one begun ≡ next
+makes-one : makes filed one begun ≡ next one
 unfolding computing reading heldBy
-makes-next = refl
+makes-one = refl
 
-pub ours-next : outcome field t0 (ingest one) .left ≡ next
-ours-next = ours-files t0 one done-one ∙ ap (makes filed one) begins ∙ makes-next
+makes-lower : makes filed lower begun ≡ next lower
+unfolding computing reading heldBy
+makes-lower = refl
 
-pub next-says : (x : IngestCall) {v : Verdict} → map verdictIn (history (ours field) t0 (ingest one ∷ ingest x ∷ [])) ≡ done ∷ v ∷ [] → outcome field next (ingest x) .verdict ≡ v
-next-says x {v} e = subst (λ (s : Tallied). outcome field s (ingest x) .verdict ≡ v) ours-next (second-says x e)
+next-by : (a : IngestCall) → outcome field t0 (ingest a) .verdict ≡ done → makes filed a begun ≡ next a → outcome field t0 (ingest a) .left ≡ next a
+next-by a d q = ours-files t0 a d ∙ ap (makes filed a) begins ∙ q
 
-done-later : outcome field next (ingest later) .verdict ≡ done
+pub ours-next : outcome field t0 (ingest one) .left ≡ next one
+ours-next = next-by one done-one makes-one
+
+next-verdict : (a x : IngestCall) {v : Verdict} → outcome field t0 (ingest a) .left ≡ next a → map verdictIn (history (ours field) t0 (ingest a ∷ ingest x ∷ [])) ≡ done ∷ v ∷ [] → outcome field (next a) (ingest x) .verdict ≡ v
+next-verdict a x {v} n e = subst (λ (s : Tallied). outcome field s (ingest x) .verdict ≡ v) n (second-says a x e)
+
+pub next-says : (x : IngestCall) {v : Verdict} → map verdictIn (history (ours field) t0 (ingest one ∷ ingest x ∷ [])) ≡ done ∷ v ∷ [] → outcome field (next one) (ingest x) .verdict ≡ v
+next-says x = next-verdict one x ours-next
+
+done-later : outcome field (next one) (ingest later) .verdict ≡ done
 done-later = next-says later says-later
 
-done-two : outcome field next (ingest two) .verdict ≡ done
+done-two : outcome field (next one) (ingest two) .verdict ≡ done
 done-two = next-says two says-two
 
--- What a store with a flaw leaves after one entry, and after `one` and another where the flaw does not show on the first.
+done-tied : outcome field (next lower) (ingest one) .verdict ≡ done
+unfolding computing
+done-tied = next-verdict lower one (next-by lower done-lower makes-lower) (computed 2 refl (lower ∷ one ∷ []) refl .says-all)
+
+-- What a store with a flaw leaves after one entry, and after two where the flaw does not show on the first.
 step : (w : Flaw) (s : Tallied) (i : IngestCall) → outcome field s (ingest i) .verdict ≡ done → with-flaw w .call s (ingest i) .left ≡ flawed w i s
 unfolding instead ifDone
 step w s i d = rw d refl
@@ -116,9 +134,20 @@ after-one : (w : Flaw) (x : IngestCall) → outcome field t0 (ingest x) .verdict
 unfolding afterAll
 after-one w x d = ap (λ (s : Tallied). s .store) (step w t0 x d ∙ ap (flawed w x) begins)
 
-after-two : (w : Flaw) (x : IngestCall) → flawed w one begun ≡ next → outcome field next (ingest x) .verdict ≡ done → leaves w (one ∷ x ∷ []) ≡ flawed w x next .store
-unfolding afterAll
-after-two w x q d = ap (λ (s : Tallied). with-flaw w .call s (ingest x) .left .store) (step w t0 one done-one ∙ ap (flawed w one) begins ∙ q) ∙ ap (λ (s : Tallied). s .store) (step w next x d)
+module _ (w : Flaw) (a x : IngestCall) (first : outcome field t0 (ingest a) .verdict ≡ done) (q : flawed w a begun ≡ next a) (second : outcome field (next a) (ingest x) .verdict ≡ done) where
+  unseen : with-flaw w .call t0 (ingest a) .left ≡ next a
+  unseen = step w t0 a first ∙ ap (flawed w a) begins ∙ q
+
+  after-two : leaves w (a ∷ x ∷ []) ≡ flawed w x (next a) .store
+  unfolding afterAll
+  after-two = ap (λ (s : Tallied). with-flaw w .call s (ingest x) .left .store) unseen ∙ ap (λ (s : Tallied). s .store) (step w (next a) x second)
+
+  -- Both are received.
+  got-two : received (history (with-flaw w) t0 (map ingest (a ∷ x ∷ []))) ≡ map receiptOf (a ∷ x ∷ [])
+  unfolding history received receipts notRefused input
+  got-two =
+      let f : outcome field (with-flaw w .call t0 (ingest a) .left) (ingest x) .verdict ≡ done = ap (λ (s : Tallied). outcome field s (ingest x) .verdict) unseen ∙ second in
+      rw (f, first) refl
 
 -- The flaws.
 alone : (x : IngestCall) → Current (receiptOf x ∷ []) (receiptOf x)
@@ -152,35 +181,47 @@ available-one h =
     let z : _≡_ {A = ℕ} 1 0 = k (record { entry = entryOf (one .handed .entry); token = one .handed .token; available = 1 }) (here refl) in
     omega arith
 
-next-nothing : flawed prunes-nothing one begun ≡ next
+next-nothing : flawed prunes-nothing one begun ≡ next one
 unfolding flawed computing reading heldBy
 next-nothing = refl
 
-next-one-tree : flawed prunes-one-tree one begun ≡ next
+next-one-tree : flawed prunes-one-tree one begun ≡ next one
 unfolding flawed computing reading heldBy
 next-one-tree = refl
 
-next-arrival : flawed in-order-of-arrival one begun ≡ next
+next-arrival : flawed in-order-of-arrival one begun ≡ next one
 unfolding flawed computing reading heldBy
 next-arrival = refl
+
+next-ties : flawed prunes-ties lower begun ≡ next lower
+unfolding flawed computing reading heldBy
+next-ties = refl
 
 none-pruned : Exactly (held field Spt (leaves prunes-nothing (one ∷ later ∷ []))) (map receiptOf (one ∷ later ∷ [])) → ⊥
 unfolding flawed computing reading heldBy
 none-pruned h =
-    let k = subst (λ (s : Store). Exactly (held field Spt s) (map receiptOf (one ∷ later ∷ []))) (after-two prunes-nothing later next-nothing done-later) h in
+    let k = subst (λ (s : Store). Exactly (held field Spt s) (map receiptOf (one ∷ later ∷ []))) (after-two prunes-nothing one later done-one next-nothing done-later) h in
     clash {b = prunes (receiptOf later .entry) (receiptOf one .entry)} refl (k (receiptOf one) .0 (here refl) .unpruned (receiptOf later) (there (here refl)))
+
+ties-pruned : Exactly (held field Spt (leaves prunes-ties (lower ∷ one ∷ []))) (map receiptOf (lower ∷ one ∷ [])) → ⊥
+unfolding flawed computing reading heldBy
+ties-pruned h =
+    let k = subst (λ (s : Store). Exactly (held field Spt s) (map receiptOf (lower ∷ one ∷ []))) (after-two prunes-ties lower one done-lower next-ties done-tied) h in
+    let m : receiptOf lower ∈ map receiptIn (held field Spt (flawed prunes-ties one (next lower) .store)) = k (receiptOf lower) .1 (current-by _ (receiptOf lower) (here refl) refl) in
+    let z : _≡_ {A = ℕ} 2 1 = ap (λ (r : Receipt). length (r .entry .path)) (only m) in
+    omega arith
 
 one-pruned : let s = leaves prunes-one-tree (one ∷ later ∷ []) in dirOf Tsp s ≡ dirNumbers (dirRoom 2) (map (recordOf Tsp) (held field Tsp s)) → ⊥
 unfolding flawed computing reading heldBy
 one-pruned h =
-    let e = subst (λ (s : Store). dirOf Tsp s ≡ dirNumbers (dirRoom 2) (map (recordOf Tsp) (held field Tsp s))) (after-two prunes-one-tree later next-one-tree done-later) h in
+    let e = subst (λ (s : Store). dirOf Tsp s ≡ dirNumbers (dirRoom 2) (map (recordOf Tsp) (held field Tsp s))) (after-two prunes-one-tree one later done-one next-one-tree done-later) h in
     let z : _≡_ {A = ℕ} 141 0 = ap (λ (l : List ℕ). getD l 3 0) e in
     omega arith
 
 by-arrival : Ascends keyBelow (map (recordOf Tsp) (held field Tsp (leaves in-order-of-arrival (one ∷ two ∷ [])))) → ⊥
 unfolding flawed computing reading heldBy Ascends
 by-arrival h =
-    let k = subst (λ (s : Store). Ascends keyBelow (map (recordOf Tsp) (held field Tsp s))) (after-two in-order-of-arrival two next-arrival done-two) h in
+    let k = subst (λ (s : Store). Ascends keyBelow (map (recordOf Tsp) (held field Tsp s))) (after-two in-order-of-arrival one two done-one next-arrival done-two) h in
     clash {b = keyBelow (recordOf Tsp (filedAs one)) (recordOf Tsp (filedAs two))} (k .0 (recordOf Tsp (filedAs two)) (here refl)) refl
 
 pub broken : Broken
@@ -190,36 +231,22 @@ broken = record {
   loses-token = token-lost;
   available-1 = available-one;
   prunes-nothing = none-pruned;
+  prunes-ties = ties-pruned;
   prunes-one-tree = one-pruned;
   in-order-of-arrival = by-arrival;
 }
 
--- All that is handed in is received, and the premises hold of it.
+-- What is handed in is received, and the premise holds of it.
 got-one : (w : Flaw) (x : IngestCall) → outcome field t0 (ingest x) .verdict ≡ done → received (history (with-flaw w) t0 (map ingest (x ∷ []))) ≡ map receiptOf (x ∷ [])
 unfolding history received receipts notRefused input
 got-one w x d = rw d refl
 
-got-two : (w : Flaw) (x : IngestCall) → flawed w one begun ≡ next → outcome field next (ingest x) .verdict ≡ done → received (history (with-flaw w) t0 (map ingest (one ∷ x ∷ []))) ≡ map receiptOf (one ∷ x ∷ [])
-unfolding history received receipts notRefused input
-got-two w x q d =
-    let e : with-flaw w .call t0 (ingest one) .left ≡ next = step w t0 one done-one ∙ ap (flawed w one) begins ∙ q in
-    let f : outcome field (with-flaw w .call t0 (ingest one) .left) (ingest x) .verdict ≡ done = ap (λ (s : Tallied). outcome field s (ingest x) .verdict) e ∙ d in
-    rw (f, done-one) refl
-
-plain-1 : (x : IngestCall) → Plain (map receiptOf (x ∷ []))
-plain-1 x = record { one-token = λ a b n k e. ap (λ (r : Receipt). r .token) (only n ∙ sym (only k)); no-tie = λ a b n k t. t .properly (ap (λ (r : Receipt). r .entry .path) (only n ∙ sym (only k))) }
-
-plain-two : Plain (map receiptOf (one ∷ two ∷ []))
-unfolding computing mayTie noneMayTie
-plain-two = record { one-token = tokens-one (replicate 64 0) _ refl; no-tie = ties-none _ refl }
-
-plain-later : Plain (map receiptOf (one ∷ later ∷ []))
-unfolding computing mayTie noneMayTie
-plain-later = record { one-token = tokens-one (replicate 64 0) _ refl; no-tie = ties-none _ refl }
+one-token-1 : (x : IngestCall) → OneToken (map receiptOf (x ∷ []))
+one-token-1 x a b n k e = ap (λ (r : Receipt). r .token) (only n ∙ sym (only k))
 
 -- So demand 3 says of these what each of them breaks.
 module _ (w : Flaw) (v : Demand3 (throughout field) (with-flaw w)) (xs : List IngestCall) (h : all (fine 2) xs ≡ true)
-    (got : received (history (with-flaw w) t0 (map ingest xs)) ≡ map receiptOf xs) (p : Plain (map receiptOf xs)) where
+    (got : received (history (with-flaw w) t0 (map ingest xs)) ≡ map receiptOf xs) (p : OneToken (map receiptOf xs)) where
   abbrev run : Run (throughout field) (with-flaw w)
   run = record { opening = atLimit 2; accepted = opens-fine 2 ok-2; calls = map ingest xs; values = lines-values 2 xs h }
 
@@ -237,10 +264,11 @@ module _ (w : Flaw) (v : Demand3 (throughout field) (with-flaw w)) (xs : List In
 
 pub having-a-flaw : (w : Flaw) → Refuted (with-flaw w)
 unfolding computing
-having-a-flaw counts-only v = broken .counts-only (exactly counts-only v (one ∷ []) refl (got-one counts-only one done-one) (plain-1 one) Spt)
-having-a-flaw leaves-bytes v = broken .leaves-bytes (bytes leaves-bytes v (one ∷ []) refl (got-one leaves-bytes one done-one) (plain-1 one) Spt)
-having-a-flaw loses-token v = broken .loses-token (exactly loses-token v (other-token ∷ []) refl (got-one loses-token other-token done-token) (plain-1 other-token) Spt)
-having-a-flaw available-1 v = broken .available-1 (whole available-1 v (one ∷ []) refl (got-one available-1 one done-one) (plain-1 one) Spt .details)
-having-a-flaw prunes-nothing v = broken .prunes-nothing (exactly prunes-nothing v (one ∷ later ∷ []) refl (got-two prunes-nothing later next-nothing done-later) plain-later Spt)
-having-a-flaw prunes-one-tree v = broken .prunes-one-tree (numbers prunes-one-tree v (one ∷ later ∷ []) refl (got-two prunes-one-tree later next-one-tree done-later) plain-later Tsp)
-having-a-flaw in-order-of-arrival v = broken .in-order-of-arrival (whole in-order-of-arrival v (one ∷ two ∷ []) refl (got-two in-order-of-arrival two next-arrival done-two) plain-two Tsp .laid .ascending)
+having-a-flaw counts-only v = broken .counts-only (exactly counts-only v (one ∷ []) refl (got-one counts-only one done-one) (one-token-1 one) Spt)
+having-a-flaw leaves-bytes v = broken .leaves-bytes (bytes leaves-bytes v (one ∷ []) refl (got-one leaves-bytes one done-one) (one-token-1 one) Spt)
+having-a-flaw loses-token v = broken .loses-token (exactly loses-token v (other-token ∷ []) refl (got-one loses-token other-token done-token) (one-token-1 other-token) Spt)
+having-a-flaw available-1 v = broken .available-1 (whole available-1 v (one ∷ []) refl (got-one available-1 one done-one) (one-token-1 one) Spt .details)
+having-a-flaw prunes-nothing v = broken .prunes-nothing (exactly prunes-nothing v (one ∷ later ∷ []) refl (got-two prunes-nothing one later done-one next-nothing done-later) (tokens-one (replicate 64 0) _ refl) Spt)
+having-a-flaw prunes-ties v = broken .prunes-ties (exactly prunes-ties v (lower ∷ one ∷ []) refl (got-two prunes-ties lower one done-lower next-ties done-tied) (tokens-one (replicate 64 0) _ refl) Spt)
+having-a-flaw prunes-one-tree v = broken .prunes-one-tree (numbers prunes-one-tree v (one ∷ later ∷ []) refl (got-two prunes-one-tree one later done-one next-one-tree done-later) (tokens-one (replicate 64 0) _ refl) Tsp)
+having-a-flaw in-order-of-arrival v = broken .in-order-of-arrival (whole in-order-of-arrival v (one ∷ two ∷ []) refl (got-two in-order-of-arrival one two done-one next-arrival done-two) (tokens-one (replicate 64 0) _ refl) Tsp .laid .ascending)

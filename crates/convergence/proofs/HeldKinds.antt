@@ -9,13 +9,12 @@ use Rattle.data_model.specs.Path.{field}
 use Rattle.tree.specs.Stored.{Stored}
 use Rattle.tree.specs.declared.stored.KeyOrder.the-variants.{Spt}
 use Rattle.store.specs.Store.{held, Held, heldBy, Tallied}
-use Rattle.store.specs.Ingest.{filed}
 use Rattle.call_laws.specs.Calls.{IngestCall, ingest, already-held, done}
 use Rattle.call_laws.specs.Outcomes.{outcome}
 use Rattle.call_laws.proofs.Right.{held-done}
 use Rattle.convergence.specs.Demand.{ours, history, notRefused}
 use Rattle.convergence.specs.Examples.{atLimit, one, later, other-token}
-use Rattle.convergence.specs.WrongStores.{AStore, OpensRight, isOccupied, HoldsByPlace, ChangesUndone, ifHeld, makes, filesHeld, renewing, Refuted}
+use Rattle.convergence.specs.WrongStores.{AStore, OpensRight, isOccupied, HoldsByPlace, ChangesUndone, ifHeld, makes, renewed, filesHeld, renewing, Refuted}
 use Rattle.convergence.proofs.Examined.{verdictIn}
 use Rattle.convergence.proofs.Computing.{computing, reading}
 use Rattle.convergence.proofs.Lines.{lines-values, opens-fine, computed}
@@ -41,15 +40,15 @@ unfolding computing
 says-token = computed 2 refl (one ∷ other-token ∷ []) refl .says-all
 
 -- What is held is filed again: the token changes.
-renewing-next : renewing .call t0 (ingest one) .left ≡ next
+renewing-next : renewing .call t0 (ingest one) .left ≡ next one
 unfolding filesHeld ifHeld
 renewing-next = rw done-one ours-next
 
-renewing-held : (s : Tallied) (i : IngestCall) → outcome field s (ingest i) .verdict ≡ already-held → renewing .call s (ingest i) .left ≡ makes filed i s
+renewing-held : (s : Tallied) (i : IngestCall) → outcome field s (ingest i) .verdict ≡ already-held → renewing .call s (ingest i) .left ≡ makes renewed i s
 unfolding filesHeld ifHeld
 renewing-held s i v = rw v refl
 
-token-renewed : makes filed other-token next ≡ next → ⊥
+token-renewed : makes renewed other-token (next one) ≡ next one → ⊥
 unfolding computing reading heldBy
 token-renewed q =
     let z : _≡_ {A = ℕ} 1 0 = ap (λ (t : Tallied). getD (getD (map (λ (x : Stored). x .token) (held field Spt (t .store))) 0 []) 0 0) q in
@@ -60,7 +59,7 @@ unfolding history computing
 one-renews-held =
     let s : Tallied = renewing .call t0 (ingest one) .left in
     let v : outcome field s (ingest other-token) .verdict ≡ already-held = ap (λ (s : Tallied). outcome field s (ingest other-token) .verdict) renewing-next ∙ next-says other-token says-token in
-    let l : renewing .call s (ingest other-token) .left ≡ makes filed other-token next = renewing-held s other-token v ∙ ap (makes filed other-token) renewing-next in (
+    let l : renewing .call s (ingest other-token) .left ≡ makes renewed other-token (next one) = renewing-held s other-token v ∙ ap (makes renewed other-token) renewing-next in (
       record { opening = atLimit 2; accepted = opens-fine 2 ok-2; calls = map ingest (one ∷ other-token ∷ []); values = lines-values 2 (one ∷ other-token ∷ []) refl },
       record { before = s; call = ingest other-token; outcome = renewing .call s (ingest other-token) },
       there (here refl),

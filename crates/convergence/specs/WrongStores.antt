@@ -3,27 +3,28 @@
 use Prim.Native.Nat.{ℕ, suc, _<_}
 use mathlib.Core.Path.{_≡_}
 use mathlib.Core.List.{List, [], _∷_, map, _++_}
-use mathlib.Core.Bool.{Bool, true, false, cond, _&&_}
+use mathlib.Core.Bool.{Bool, true, false, cond, not, _&&_}
 use mathlib.Core.Option.{some}
 use lib.ListN.{length, replicate, take, drop}
 use lib.Dec.{eqb}
 use Rattle.laws.specs.Sorted.{_∈_, any, keep, insert, Ascends}
 use Rattle.layout.specs.Layout.{treeBytes, dirNumbers}
 use Rattle.data_model.specs.Path.{field, components}
-use Rattle.data_model.specs.Entry.{entryOf}
+use Rattle.data_model.specs.Entry.{entryOf, newer, covers}
 use Rattle.tree.specs.Stored.{Stored, recordOf, keyBelow}
-use Rattle.tree.specs.Matching.{standsAt, isForgotten}
+use Rattle.tree.specs.Matching.{repeats, standsAt, isForgotten}
 use Rattle.tree.specs.declared.stored.KeyOrder.{KeyOrder}
 use Rattle.tree.specs.declared.stored.KeyOrder.the-variants.{Spt, Tsp}
 use Rattle.tally.specs.Tally.{tallyHolding}
 use Rattle.store.specs.Store.{stateWith, Store, storeOf, treeRoom, dirRoom, treeOf, dirOf, held, Held, heldBy, Tallied, talliedHolding}
 use Rattle.store.specs.Open.{nothing}
+use Rattle.store.specs.Forget.{without}
 use Rattle.store.specs.Ingest.{filing, sptLess, tspLess, stays, filedIn, filed}
 use Rattle.call_laws.specs.Calls.{Opening, IngestCall, AreaForgetting, Call, ingest, forget-entry, forget-area, filedAs, forgets, Verdict, refused, obsolete, already-held, done}
 use Rattle.call_laws.specs.Checks.{OpeningVerdictRight}
 use Rattle.call_laws.specs.Outcomes.{Outcome, outcome, opens}
 use Rattle.convergence.specs.Demand.{Machine, Event, afterAll, receiptOf, notRefused, Run, throughout, events, end, receiptIn, Exactly, Demand3}
-use Rattle.convergence.specs.Examples.{atLimit, one, two, later, other-token}
+use Rattle.convergence.specs.Examples.{atLimit, one, two, later, lower, other-token}
 
 -- A store, right or wrong: whatever it answers, and leaves of a state, four buffers and a tally.
 abbrev pub AStore : Type 0
@@ -159,10 +160,14 @@ instead g s (forget-area a) o = o .left
 
 -- One thing wrong with what it leaves; all but the first two by what the trees are made to hold.
 pub data Flaw : Type 0 where
-  counts-only leaves-bytes loses-token available-1 prunes-nothing prunes-one-tree in-order-of-arrival : Flaw
+  counts-only leaves-bytes loses-token available-1 prunes-nothing prunes-ties prunes-one-tree in-order-of-arrival : Flaw
 
 abbrev pub makes : (Stored → Held → Held) → IngestCall → Tallied → Tallied
 makes g i s = talliedHolding field (g (filedAs i) (heldBy field (s .store))) s
+
+-- What is kept by the rule of 01: all but what stands at the path or an extension and is not newer. So what ties goes too.
+abbrev pub keptBy01 : Stored → List Stored → List Stored
+keptBy01 x = keep λ (y : Stored). not (covers (x .entry) (y .entry) && not (newer (y .entry) (x .entry)))
 
 unfoldable pub flawed : Flaw → IngestCall → Tallied → Tallied
 flawed counts-only i s = let t = s .store in record { store = storeOf (stateWith (t .state) (suc (t .state .count))) (t .spt) (t .sptDir) (t .tsp) (t .tspDir); tally = makes filed i s .tally }
@@ -170,12 +175,16 @@ flawed leaves-bytes i s = let t = makes filed i s .store in record { store = sto
 flawed loses-token i s = makes (λ x h. filed (filing (x .entry) (replicate 64 0)) h) i s
 flawed available-1 i s = makes (λ x h. filed (record { entry = x .entry; token = x .token; available = 1 }) h) i s
 flawed prunes-nothing i s = makes (λ x h. record { spt = insert sptLess x (h .spt); tsp = insert tspLess x (h .tsp) }) i s
+flawed prunes-ties i s = makes (λ x h. record { spt = insert sptLess x (keptBy01 x (h .spt)); tsp = insert tspLess x (keptBy01 x (h .tsp)) }) i s
 flawed prunes-one-tree i s = makes (λ x h. record { spt = filedIn Spt x (h .spt); tsp = insert tspLess x (h .tsp) }) i s
 flawed in-order-of-arrival i s = makes (λ x h. record { spt = filedIn Spt x (h .spt); tsp = keep (stays (x .entry)) (h .tsp) ++ x ∷ [] }) i s
 
--- As ours, but that an entry which is held is filed again, with the token that it now came with.
+-- An entry filed in place of the same one that is stored. A store that is as ours, but that it does so with what it holds already: the token is the new one.
+abbrev pub renewed : Stored → Held → Held
+renewed x h = let l = without (repeats (x .entry)) h in record { spt = insert sptLess x (l .spt); tsp = insert tspLess x (l .tsp) }
+
 unfoldable pub filesHeld : Tallied → Call → Outcome Tallied → Tallied
-filesHeld s (ingest i) o = ifHeld (o .verdict) (makes filed i s) (o .left)
+filesHeld s (ingest i) o = ifHeld (o .verdict) (makes renewed i s) (o .left)
 filesHeld s (forget-entry p) o = o .left
 filesHeld s (forget-area a) o = o .left
 
@@ -196,6 +205,7 @@ pub record Broken : Type 0 where
   pub loses-token : Exactly (held field Spt (leaves loses-token (other-token ∷ []))) (map receiptOf (other-token ∷ [])) → ⊥
   pub available-1 : ((x : Stored) → x ∈ held field Spt (leaves available-1 (one ∷ [])) → x .available ≡ 0) → ⊥
   pub prunes-nothing : Exactly (held field Spt (leaves prunes-nothing (one ∷ later ∷ []))) (map receiptOf (one ∷ later ∷ [])) → ⊥
+  pub prunes-ties : Exactly (held field Spt (leaves prunes-ties (lower ∷ one ∷ []))) (map receiptOf (lower ∷ one ∷ [])) → ⊥
   pub prunes-one-tree : let s = leaves prunes-one-tree (one ∷ later ∷ []) in dirOf Tsp s ≡ dirNumbers (dirRoom 2) (map (recordOf Tsp) (held field Tsp s)) → ⊥
   pub in-order-of-arrival : Ascends keyBelow (map (recordOf Tsp) (held field Tsp (leaves in-order-of-arrival (one ∷ two ∷ [])))) → ⊥
 

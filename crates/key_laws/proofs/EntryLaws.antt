@@ -16,7 +16,7 @@ use Rattle.data_model.specs.declared.answer.Recency.the-variants as recency
 use Rattle.data_model.proofs.Orders.{component-equality, subspace-equality, rank-linear}
 
 -- Newer: greater in rank, which is timestamp, digest and length.
-newer-below : (a b : Entry) → newer a b ≡ below byRank (b .rank) (a .rank)
+pub newer-below : (a b : Entry) → newer a b ≡ below byRank (b .rank) (a .rank)
 unfolding newer below
 newer-below a b = go (byRank (a .rank) (b .rank)) ∙ sym (ap isLess (rank-linear .flips (a .rank) (b .rank)))
   where

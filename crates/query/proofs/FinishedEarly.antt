@@ -2,7 +2,7 @@
 use Prim.Native.Nat.{ℕ, suc, _+_, _≤_, _<_}
 use mathlib.Core.Path.{_≡_, refl, sym, ap, _∙_}
 use mathlib.Core.Logic.{_↔_}
-use mathlib.Core.List.{List, [], _∷_, List·Memᴰ·not-nil as none-in, List·Memᴰ·eq-of-singleton as eq-of-singleton}
+use mathlib.Core.List.{List, [], _∷_, List·Memᴰ·eq-of-singleton as eq-of-singleton}
 use mathlib.Core.Bool.{Bool, true, false, _&&_}
 use mathlib.Core.Option.{Option, some, none}
 use native.Mathlib.Omega.{arith}
@@ -11,7 +11,7 @@ use lib.Dec.{leb, ltb, eqb}
 use borrow.Author.Tests.{leb-true, le-leb, ltb-true, ltb-false, eqb-true, eqb-false}
 use Rattle.laws.specs.Order.{isLess, byNumber}
 use Rattle.laws.specs.Prefix.{prefixOf}
-use Rattle.laws.specs.Sorted.{all, keep, insert}
+use Rattle.laws.specs.Sorted.{any, all, keep, insert}
 use Rattle.laws.proofs.Truth.{split, clash, and-true}
 use Rattle.layout.specs.Layout.{recordAt}
 use Rattle.data_model.specs.Ignore.{noFlags}
@@ -181,8 +181,8 @@ zeros-lawful = record {
 }
 
 sound : SoundHeld (replicate 16 0) holds-zeros
-unfolding filed filedIn insert keep
-sound = sound-filed zeros nothing (sound-nothing (replicate 16 0)) refl (λ y m. absurd (none-in m))
+unfolding filed filedIn insert keep any
+sound = sound-filed zeros nothing (sound-nothing (replicate 16 0)) refl (record { current = refl; absent = refl })
 
 fit : Fit field (replicate 16 0) 1 holds-zeros
 fit = record { sound = sound; proper = λ x m. rw (eq-of-singleton m) (record { lawful = zeros-lawful; available = omega arith }); few = omega arith }

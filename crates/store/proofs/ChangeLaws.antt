@@ -12,7 +12,7 @@ use Rattle.laws.specs.Order.{below, isLess, isSame}
 use Rattle.laws.specs.Sorted.{_∈_, any, keep, insert}
 use Rattle.laws.proofs.Truth.{split, refute, not-true}
 use Rattle.laws.proofs.Order.{is-same}
-use Rattle.laws.proofs.Sorted.{any-view, any-none, keep-view, keep-length}
+use Rattle.laws.proofs.Sorted.{any-view, keep-view, keep-length}
 use Rattle.layout.specs.Layout.{Editable, records, joined, treeBytes, dirNumbers, inserted}
 use Rattle.layout.specs.Marks.{marksOf, kept, unmarked}
 use Rattle.layout.proofs.MarkLaws.{kept-in, kept-ascends}
@@ -21,7 +21,7 @@ use Rattle.layout.specs.Buffers.{filled}
 use Rattle.layout.proofs.LaidLaws.{records-many, joined-append}
 use Rattle.data_model.specs.Path.{Figures, field, legal, components, byBytes}
 use Rattle.keys.specs.Encode.{be, subspaceKey, pathKey, sptKey, tspKey, Triple}
-use Rattle.data_model.specs.Entry.{entryOf, rankOf, prunes}
+use Rattle.data_model.specs.Entry.{entryOf, rankOf}
 use Rattle.data_model.proofs.Orders.{bytes-linear}
 use Rattle.key_laws.specs.Bytes.{Bytes}
 use Rattle.key_laws.specs.KeyOrder.{Sized}
@@ -32,7 +32,7 @@ use Rattle.tree.specs.Stored.{keyIn, orderIn, keyOf, keyBelow, Stored, stored, 
 use Rattle.tree.specs.Tree.{Searchable, Whole, keysBelow, hasKey}
 use Rattle.data_model.specs.Ignore.{noFlags}
 use Rattle.data_model.specs.declared.area.Area.{Area}
-use Rattle.tree.specs.Matching.{outdates, removes, inArea, isForgotten, listedInArea}
+use Rattle.tree.specs.Matching.{removes, inArea, isForgotten, listedInArea}
 use Rattle.data_model.specs.declared.«query_ignore_params».QueryIgnoreParams.{QueryIgnoreParams}
 use Rattle.tree.proofs.TestLaws.{unflagged-area}
 use Rattle.tree.specs.declared.stored.KeyOrder.{KeyOrder}
@@ -44,7 +44,7 @@ use Rattle.tree.proofs.WithinLaws.{Recorded, formed-recorded}
 use Rattle.tree.proofs.ContentLaws.{left-contents}
 use Rattle.tree.proofs.WellFormedLaws.{retain-editable, retain-searchable, retain-records, retain-dir, retain-tree, insert-place}
 use Rattle.store.specs.Store.{recordMost}
-use Rattle.store.specs.Ingest.{lessIn, stays, filedIn}
+use Rattle.store.specs.Ingest.{lessIn, stays, filedIn, NewTo}
 use Rattle.store.specs.Change.{inTree, Changed, FilesIn}
 use Rattle.store.proofs.Counted.{insert-length}
 use Rattle.store.proofs.Meaning.{elsewhere, triple-beside}
@@ -159,12 +159,12 @@ module _ (o : KeyOrder) (f : Figures) (ns : List ℕ) where
         (λ q. rw (q, e ∙ q) (ap₂ (λ (a : List ℕ) (b : List (List ℕ)). recordOf o x ∷ a ∷ b) (w .again) again))
         (λ q. rw (q, e ∙ q) (ap₂ _∷_ (w .again) (insert-again rs λ q m. each q (there m))))
 
-    -- The key of what nothing there outdates and what removes nothing there is not there.
-    key-absent : x .entry .namespace ≡ ns → (recs : List (List ℕ)) → Recorded o f recs
-        → ((y : Stored) → y ∈ contents o f ns recs → (prunes (y .entry) (x .entry) ≡ false) × (removes (x .entry) y ≡ false))
+    -- The key of an entry is not there, where all are of a list that it is new to, and it removes none of them.
+    key-absent : x .entry .namespace ≡ ns → (l : List Stored) → NewTo l (x .entry) → (recs : List (List ℕ)) → Recorded o f recs
+        → ((y : Stored) → y ∈ contents o f ns recs → y ∈ l × (removes (x .entry) y ≡ false))
         → hasKey (keyOf (recordOf o x)) recs ≡ false
     unfolding hasKey
-    key-absent name recs each apart = refute (any (λ (r : List ℕ). isSame (byBytes (keyOf r) (keyOf (recordOf o x)))) recs) λ e.
+    key-absent name l new recs each apart = refute (any (λ (r : List ℕ). isSame (byBytes (keyOf r) (keyOf (recordOf o x)))) recs) λ e.
         let k = any-view (λ (r : List ℕ). isSame (byBytes (keyOf r) (keyOf (recordOf o x)))) recs e in
         let w = record-forth o f ns (k .0) (each (k .0) (k .1) .0) (each (k .0) (k .1) .1) in
         let y = stored o f ns (k .0) in
@@ -173,7 +173,7 @@ module _ (o : KeyOrder) (f : Figures) (ns : List ℕ) where
         = sym (key-of-record f y (w .lawful) o) ∙ ap keyOf (w .again) ∙ q ∙ handed-key o x h in
         let g : tripleOf (y .entry) ≡ tripleOf (x .entry) = key-apart (tripleOf (y .entry)) (tripleOf (x .entry)) (w .lawful .sized) (h .sized) o t in
         let a = apart y (contents-in o f ns recs (k .1)) in
-        elsewhere x y (a .0) (a .1) (triple-beside x y (name ∙ sym (w .named)) (sym g))
+        elsewhere x y l new (a .0) (a .1) (triple-beside x y (name ∙ sym (w .named)) (sym g))
 
 -- What an area includes, without what a protected area does.
 and-all : (b : Bool) → (b && true) ≡ b
@@ -252,11 +252,10 @@ module _ {o : KeyOrder} {ns : List ℕ} {count : ℕ} {dir tree : List ℕ} {a :
   others-length : left ≡ length (keep (stays (entryOf (a .entry))) (inTree o ns count dir tree))
   others-length = el ∙ kept-length (v .whole) bytes ns (removes (entryOf (a .entry))) marks old em
 
-  others-apart : (y : Stored) → y ∈ contents o field ns (kept marks (records count dir tree)) → (prunes (y .entry) (entryOf (a .entry)) ≡ false) × (removes (entryOf (a .entry)) y ≡ false)
-  unfolding outdates
+  others-apart : (y : Stored) → y ∈ contents o field ns (kept marks (records count dir tree)) → y ∈ inTree o ns count dir tree × (removes (entryOf (a .entry)) y ≡ false)
   others-apart y m =
       let k = keep-view (stays (entryOf (a .entry))) (inTree o ns count dir tree) (subst (λ (l : List Stored). y ∈ l) others-contents m) in
-      (any-none (outdates (entryOf (a .entry))) (inTree o ns count dir tree) (v .current) (k .0), not-true _ (k .1))
+      (k .0, not-true _ (k .1))
 
   others-records : records left dir′ tree′ ≡ kept marks (records count dir tree)
   others-records = ap (λ (n : ℕ). records n dir′ tree′) el ∙ retain-records (v .whole) marks dir′ tree′ ed et
@@ -299,7 +298,7 @@ module _ {o : KeyOrder} {ns : List ℕ} {count : ℕ} {dir tree : List ℕ} {a :
           let R = recordOf o (storedOf a) in
           let e : at ≡ keysBelow (keyOf R) K = place ∙ ap₂ keysBelow ek others-records in
           (λ i. inserted (e i) (er i) (others-records i))
-          ∙ insert-place R K (kept-ascends keyBelow marks (records count dir tree) (v .ordered .ascends)) (key-absent o field ns (storedOf a) h (v .named) K others others-apart)
+          ∙ insert-place R K (kept-ascends keyBelow marks (records count dir tree) (v .ordered .ascends)) (key-absent o field ns (storedOf a) h (v .named) (inTree o ns count dir tree) (v .new) K others others-apart)
           ∙ sym (insert-again o field ns (storedOf a) h K others)
           ∙ ap (λ (l : List Stored). map (recordOf o) (insert (lessIn o) (storedOf a) l)) others-contents
 

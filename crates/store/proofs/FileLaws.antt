@@ -2,7 +2,7 @@
 -- leaves. Assumes nothing.
 use mathlib.Core.Path.{_≡_, refl, sym, ap, subst, _∙_}
 use mathlib.Core.List.{List, _++_}
-use mathlib.Core.Bool.{Bool, true, false, _&&_}
+use mathlib.Core.Bool.{Bool, false, _&&_}
 use Prim.Native.Nat.{ℕ, _+_, _*_, _≤_, _<_}
 use native.Mathlib.Omega.{arith}
 use lib.ListN.{length, take, drop}
@@ -12,11 +12,11 @@ use borrow.Author.Tests.{leb-true, leb-false, eqb-true}
 use Rattle.laws.specs.Lists.{put}
 use Rattle.laws.specs.Sorted.{any, keep}
 use Rattle.laws.proofs.Truth.{split, clash, refute}
-use Rattle.laws.proofs.Sorted.{any-view, any-make, any-none}
+use Rattle.laws.proofs.Sorted.{any-view, any-make}
 use Rattle.layout.specs.Marks.{countMarks, markedPairs}
 use Rattle.layout.proofs.MarkLaws.{count-most}
 use Rattle.data_model.specs.Said.{says}
-use Rattle.data_model.specs.Path.{field, legal}
+use Rattle.data_model.specs.Path.{field}
 use Rattle.data_model.specs.Entry.{Entry, entryOf}
 use Rattle.data_model.specs.declared.entry.Entry.{Entry as EntryValue}
 use Rattle.key_laws.specs.Bytes.{Bytes}
@@ -29,7 +29,7 @@ use Rattle.tree.specs.declared.stored.KeyOrder.the-variants.{Spt, Tsp}
 use Rattle.tree.specs.declared.stored.LengthyAuthorisedEntry.{LengthyAuthorisedEntry}
 use Rattle.tally.specs.Tally.{tallyRoom, tallyHolding}
 use Rattle.store.specs.Store.{Store, storeOf, limitMost, treeRoom, dirRoom, treeOf, dirOf, held, heldBy, holding, Tallied, talliedOf}
-use Rattle.store.specs.Ingest.{succeeds, IngestSaid, stays, filing, filedIn, filed, Decision, refuse, obsolete, already, take-it, decidedOf, decided, ingestRefusal, judged, MayFile, storeFiled, talliedFiled, ingestOutcome, prunedPairs, carried, ingested}
+use Rattle.store.specs.Ingest.{succeeds, IngestSaid, stays, filing, filedIn, filed, Decision, refuse, obsolete, already, take-it, decidedOf, decided, ingestRefusal, judged, NewTo, MayFile, storeFiled, talliedFiled, ingestOutcome, prunedPairs, carried, ingested}
 use Rattle.store.specs.Forget.{without}
 use Rattle.store.specs.Change.{inTree, Marked, Changed, FilesIn}
 use Rattle.store.specs.declared.state.State.{State}
@@ -99,7 +99,7 @@ module _ (s : Store) (prune : List ℕ) (e : EntryValue) (m : MayFile field s pr
     unfolding held treeOf dirOf
     marked-spt = subst (λ (ns : List ℕ). Marked (removes (entryOf e)) (inTree Spt ns (s .state .count) (sptDirIn s) (sptIn s)) removed) (sym (may-ready .namespace)) k
 
-  -- In bytes both trees hold the same: nothing outdates it in either, and as many stay.
+  -- In bytes both trees hold the same: it is new to either, and as many stay.
   module _ (spt-bytes : Bytes (s .spt)) (tsp-bytes : Bytes (s .tsp)) where
     room-bytes : (o : KeyOrder) → Bytes (treeOf field o s)
     unfolding treeOf
@@ -109,12 +109,13 @@ module _ (s : Store) (prune : List ℕ) (e : EntryValue) (m : MayFile field s pr
     sound : SoundHeld (s .state .«namespace_id») (heldBy field s)
     sound = held-fit field s (may-ready .passes .well) room-bytes .sound
 
-    current-in : (o : KeyOrder) → any (outdates (entryOf e)) (held field o s) ≡ false
+    none-in-tsp : (p : Stored → Bool) → any p (held field Spt s) ≡ false → any p (held field Tsp s) ≡ false
     unfolding heldBy
-    current-in Spt = m .current
-    current-in Tsp = refute (any (outdates (entryOf e)) (held field Tsp s)) λ q.
-        let k = any-view (outdates (entryOf e)) (held field Tsp s) q in
-        clash (any-make (outdates (entryOf e)) (held field Spt s) (sound .both (k .0) .1 (k .1)) (k .2)) (m .current)
+    none-in-tsp p n = refute (any p (held field Tsp s)) λ q. let k = any-view p (held field Tsp s) q in clash (any-make p (held field Spt s) (sound .both (k .0) .1 (k .1)) (k .2)) n
+
+    new-in : (o : KeyOrder) → NewTo (held field o s) (entryOf e)
+    new-in Spt = m .new
+    new-in Tsp = record { current = none-in-tsp (outdates (entryOf e)) (m .new .current); absent = none-in-tsp (repeats (entryOf e)) (m .new .absent) }
 
     left-in : (o : KeyOrder) → length (keep (stays (entryOf e)) (held field o s)) < s .state .limit
     unfolding heldBy without
@@ -140,7 +141,7 @@ module _ (s : Store) (prune : List ℕ) (e : EntryValue) (m : MayFile field s pr
           few = omega arith;
           path = v .legal-path;
           named = v .namespace;
-          current = current-in o;
+          new = new-in o;
           bytes = omega arith;
           numbers = omega arith;
         }
@@ -185,19 +186,17 @@ module _ {G : Type 0} where
 
 -- What is known of an entry that is taken.
 module _ (limit : ℕ) (l : List Stored) (e : Entry) (prevent : Bool) (d : decided limit l e prevent ≡ take-it) where
-  pub taken-current : any (outdates e) l ≡ false
+  taken-new : NewTo l e
   unfolding decided decidedOf
-  taken-current = refute (any (outdates e) l) λ q. obsolete-taken (rw (first-there (outdates e) l q .1) at d)
+  taken-new =
+      let n = refute (any (outdates e) l) λ q. obsolete-taken (rw (first-there (outdates e) l q .1) at d) in
+      record { current = n; absent = refute (any (repeats e) l) λ q. already-taken (rw (first-absent (outdates e) l n, q) at d) }
 
-  taken-new : any (repeats e) l ≡ false
-  unfolding decided decidedOf
-  taken-new = refute (any (repeats e) l) λ q. already-taken (rw (first-absent (outdates e) l taken-current, q) at d)
-
-  pub taken-room : leb limit (length (keep (stays e) l)) ≡ false
+  taken-room : leb limit (length (keep (stays e) l)) ≡ false
   unfolding decided decidedOf
   taken-room =
-      let n = first-absent (outdates e) l taken-current in
-      let a = taken-new in
+      let n = first-absent (outdates e) l (taken-new .current) in
+      let a = taken-new .absent in
       refute (leb limit (length (keep (stays e) l))) λ q. split (prevent && any (removes e) l)
       (λ r. refuse-taken (rw (n, a, r) at d))
       (λ r. refuse-taken (rw (n, a, r, q) at d))
@@ -216,7 +215,7 @@ module _ (w : Tallied) (prune : List ℕ) (i : Ingestion) (r : IngestSaid) (er :
         tested = passed-alone w (leb (dirRoom (s .state .limit)) (length prune)) (ready-first w prune (i .entry) (eqb-true (ingestRefusal field w prune (i .entry)) 0 q));
         lawful = ready w prune (i .entry) (eqb-true (ingestRefusal field w prune (i .entry)) 0 q) .legal-path;
         named = ready w prune (i .entry) (eqb-true (ingestRefusal field w prune (i .entry)) 0 q) .namespace;
-        current = taken-current (s .state .limit) (held field Spt s) (entryOf (i .entry)) (i .«prevent_pruning») d;
+        new = taken-new (s .state .limit) (held field Spt s) (entryOf (i .entry)) (i .«prevent_pruning») d;
         room = leb-false (s .state .limit) (length (keep (stays (entryOf (i .entry))) (held field Spt s))) (taken-room (s .state .limit) (held field Spt s) (entryOf (i .entry)) (i .«prevent_pruning») d);
       })
       (λ q. refuse-taken (rw q at j))
@@ -251,8 +250,7 @@ module _ (w : Tallied) (prune : List ℕ) (i : Ingestion) (r : IngestSaid) (er :
   unfolding heldBy entryOf
   success-fit n q l b c =
       let m = success-may n q in
-      fit-filed field (passed-fit s (success-tallied n q .passes) b c) (filing (entryOf (i .entry)) (i .token)) (record { lawful = l; available = omega arith }) (m .named)
-      (λ y k. any-none (outdates (entryOf (i .entry))) (held field Spt s) (m .current) k) (m .room)
+      fit-filed field (passed-fit s (success-tallied n q .passes) b c) (filing (entryOf (i .entry)) (i .token)) (record { lawful = l; available = omega arith }) (m .named) (m .new) (m .room)
 
   -- The tally of what is left with it: what writing it asks, and that it is then the definition's.
   module _ (n : ℕ) (q : r .verdict ≡ says (succeeds n)) (l : Lawful field (filing (entryOf (i .entry)) (i .token))) (spt-bytes : Bytes (s .spt)) (tsp-bytes : Bytes (s .tsp)) (a b c d : List ℕ)

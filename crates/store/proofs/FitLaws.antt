@@ -2,17 +2,16 @@
 use Prim.Native.Nat.{ℕ, _<_}
 use mathlib.Core.Path.{_≡_}
 use mathlib.Core.Logic.{⊎-elim}
-use mathlib.Core.Bool.{Bool, false, not}
+use mathlib.Core.Bool.{Bool, not}
 use mathlib.Core.List.{List}
 use native.Mathlib.Omega.{arith}
 use lib.ListN.{length}
-use Rattle.laws.specs.Sorted.{_∈_, keep}
+use Rattle.laws.specs.Sorted.{keep}
 use Rattle.laws.proofs.Sorted.{keep-view, keep-length, insert-view}
 use Rattle.data_model.specs.Path.{Figures}
 use Rattle.tree.specs.Stored.{Stored}
-use Rattle.tree.specs.Matching.{outdates}
 use Rattle.store.specs.Store.{Held}
-use Rattle.store.specs.Ingest.{sptLess, stays, filedIn, filed}
+use Rattle.store.specs.Ingest.{sptLess, stays, filedIn, filed, NewTo}
 use Rattle.store.specs.Forget.{without}
 use Rattle.store.proofs.Counted.{insert-length}
 use Rattle.store.proofs.Meaning.{sound-without, sound-filed}
@@ -28,11 +27,11 @@ module _ (f : Figures) {namespace : List ℕ} {limit : ℕ} {h : Held} (v : Fit 
     few = let l = v .few in omega (arith, keep-length (λ (y : Stored). not (p y)) (h .spt));
   }
 
-  pub fit-filed : (x : Stored) → Proper f x → x .entry .namespace ≡ namespace → ((y : Stored) → y ∈ h .spt → outdates (x .entry) y ≡ false)
+  pub fit-filed : (x : Stored) → Proper f x → x .entry .namespace ≡ namespace → NewTo (h .spt) (x .entry)
       → length (keep (stays (x .entry)) (h .spt)) < limit → Fit f namespace limit (filed x h)
-  unfolding filed filedIn outdates
-  fit-filed x p name current room = record {
-    sound = sound-filed x h (v .sound) name current;
+  unfolding filed filedIn
+  fit-filed x p name new room = record {
+    sound = sound-filed x h (v .sound) name new;
     proper = λ y m. ⊎-elim (λ e. rw e p) (λ n. v .proper y (keep-view (stays (x .entry)) (h .spt) n .0)) (insert-view sptLess x (keep (stays (x .entry)) (h .spt)) m);
     few = omega (arith, insert-length sptLess x (keep (stays (x .entry)) (h .spt)));
   }

@@ -8,11 +8,11 @@ use mathlib.Core.List.{List, [], _∷_, List·Memᴰ·head as here, List·Memᴰ
 use lib.ListN.{length}
 use Rattle.laws.specs.Order.{Order, less, same, isLess, isGreater, byNumber, byPair, below, on, Linear}
 use Rattle.laws.specs.Sorted.{_∈_, keep, Ascends}
-use Rattle.laws.proofs.Truth.{split, clash, refute, and-true, not-true}
+use Rattle.laws.proofs.Truth.{split, clash, refute, not-true}
 use Rattle.laws.proofs.Order.{number-linear, pair-linear, on-linear, below-strict, below-total, then-same, is-less, less-is-greater}
 use Rattle.laws.proofs.Prefix.{prefix-refl}
 use Rattle.laws.proofs.Sorted.{keep-view, insert-view, insert-new, insert-old, keep-ascends, insert-ascends, members}
-use Rattle.laws.proofs.Sorted.{all-make}
+use Rattle.laws.proofs.Sorted.{all-make, any-none}
 use Rattle.data_model.specs.Path.{Components, byComponents, sameComponent}
 use Rattle.data_model.specs.Subspace.{bySubspace}
 use Rattle.data_model.specs.Entry.{Entry, byRank, newer, covers, prunes}
@@ -20,13 +20,14 @@ use Rattle.keys.specs.Encode.{Triple}
 use Rattle.data_model.specs.declared.parameters.Subspace.{Subspace}
 use Rattle.data_model.proofs.Orders.{path-linear, subspace-linear, component-equality}
 use Rattle.key_laws.specs.KeyOrder.{sptOrder, tspOrder}
-use Rattle.key_laws.proofs.EntryLaws.{covers-make, prunes-make, prunes-irrefl, entries}
-use Rattle.tree.specs.Stored.{Stored, tripleOf}
+use Rattle.key_laws.proofs.EntryLaws.{covers-make, newer-total, prunes-view, prunes-make, prunes-irrefl, entries}
+use Rattle.tree.specs.Stored.{Stored, tripleOf, sameEntry}
 use Rattle.tree.specs.Apart.{sameAddress, noAddressTwice, nonePrunes}
-use Rattle.tree.specs.Matching.{removes}
+use Rattle.tree.specs.Matching.{outdates, removes, repeats}
+use Rattle.tree.proofs.RecordLaws.{entry-equality}
 use Rattle.tree.proofs.WalkLaws.{place-view}
 use Rattle.store.specs.Store.{Held}
-use Rattle.store.specs.Ingest.{sptLess, tspLess, stays, filedIn, filed}
+use Rattle.store.specs.Ingest.{sptLess, tspLess, stays, filedIn, filed, NewTo}
 use Rattle.store.specs.Forget.{without}
 use Rattle.store.specs.Open.{nothing}
 use Rattle.store.proofs.Counted.{same-length}
@@ -92,22 +93,23 @@ unfolding tripleOf
 triple-beside a b n e = record { namespace = n; subspace = ap (λ t. t .subspace) e; path = ap (λ t. t .path) e }
 
 -- `removes`, a conclusion at a time.
-pub removes-view : (e : Entry) (x : Stored) → removes e x ≡ true → (covers e (x .entry) ≡ true) × (newer (x .entry) e ≡ false)
+pub removes-view : (e : Entry) (x : Stored) → removes e x ≡ true → (covers e (x .entry) ≡ true) × (newer e (x .entry) ≡ true)
 unfolding removes
-removes-view e x h = let k = and-true (covers e (x .entry)) (not (newer (x .entry) e)) h in (k .0, not-true _ (k .1))
+removes-view e x = prunes-view e (x .entry)
 
-pub removes-make : (e : Entry) (x : Stored) → covers e (x .entry) ≡ true → newer (x .entry) e ≡ false → removes e x ≡ true
+pub removes-make : (e : Entry) (x : Stored) → covers e (x .entry) ≡ true → newer e (x .entry) ≡ true → removes e x ≡ true
 unfolding removes
-removes-make e x c n = cc
+removes-make e x = prunes-make e (x .entry)
 
--- What neither makes x obsolete nor is removed by it stands elsewhere.
-pub elsewhere : (x y : Stored) → prunes (y .entry) (x .entry) ≡ false → removes (x .entry) y ≡ false → Beside x y → ⊥
-elsewhere x y e f k =
-    let c = beside-covers x y k in
-    let d = beside-covers y x (beside-flip k) in
-    split (newer (y .entry) (x .entry))
-    (λ g. clash (prunes-make (y .entry) (x .entry) d g) e)
-    (λ g. clash (removes-make (x .entry) y c g) f)
+-- What x is new to and does not remove stands elsewhere.
+pub elsewhere : (x y : Stored) (l : List Stored) → NewTo l (x .entry) → y ∈ l → removes (x .entry) y ≡ false → Beside x y → ⊥
+unfolding outdates repeats
+elsewhere x y l new m f k =
+    let r = newer-total (x .entry) (y .entry)
+    (refute _ λ q. clash (removes-make (x .entry) y (beside-covers x y k) q) f)
+    (refute _ λ q. clash (prunes-make (y .entry) (x .entry) (beside-covers y x (beside-flip k)) q) (any-none (outdates (x .entry)) l (new .current) m)) in
+    let z : x .entry ≡ y .entry = λ i. record { namespace = k .namespace i; subspace = k .subspace i; path = k .path i; rank = r i } in
+    clash (ap (sameEntry (x .entry)) (sym z) ∙ entry-equality .self (x .entry)) (any-none (repeats (x .entry)) l (new .absent) m)
 
 pub record SoundHeld (namespace : List ℕ) (h : Held) : Type 0 where
   pub spt-ascends : Ascends sptLess (h .spt)
@@ -137,9 +139,8 @@ pub sound-without : {namespace : List ℕ} (p : Stored → Bool) (h : Held) → 
 unfolding without
 sound-without p h v = sound-left (λ (x : Stored). not (p x)) h v
 
--- Filed: nothing there makes it obsolete.
-module _ {namespace : List ℕ} (x : Stored) (h : Held) (v : SoundHeld namespace h) (name : x .entry .namespace ≡ namespace)
-    (current : (y : Stored) → y ∈ h .spt → prunes (y .entry) (x .entry) ≡ false) where
+-- Filed, being new there.
+module _ {namespace : List ℕ} (x : Stored) (h : Held) (v : SoundHeld namespace h) (name : x .entry .namespace ≡ namespace) (new : NewTo (h .spt) (x .entry)) where
   others : SoundHeld namespace (left (stays (x .entry)) h)
   others = sound-left (stays (x .entry)) h v
 
@@ -149,14 +150,15 @@ module _ {namespace : List ℕ} (x : Stored) (h : Held) (v : SoundHeld namespace
   away : (y : Stored) → y ∈ keep (stays (x .entry)) (h .spt) → tripleOf (x .entry) ≡ tripleOf (y .entry) → ⊥
   away y m e =
       let k = stayed y m in
-      elsewhere x y (current y (k .0)) (k .1) (triple-beside x y (name ∙ sym (v .named y (k .0))) e)
+      elsewhere x y (h .spt) new (k .0) (k .1) (triple-beside x y (name ∙ sym (v .named y (k .0))) e)
 
   files-apart : (y z : Stored) → (y ≡ x) ⊎ y ∈ keep (stays (x .entry)) (h .spt) → (z ≡ x) ⊎ z ∈ keep (stays (x .entry)) (h .spt) → prunes (y .entry) (z .entry) ≡ false
+  unfolding outdates
   files-apart y z (inl p) (inl q) = rw (p, q) (prunes-irrefl (x .entry))
   files-apart y z (inl p) (inr q) = rw p (refute _ λ e.
       let k = stayed z q in
       clash (removes-make (x .entry) z (search entries) (search entries)) (k .1))
-  files-apart y z (inr p) (inl q) = rw q (current y (stayed y p .0))
+  files-apart y z (inr p) (inl q) = rw q (any-none (outdates (x .entry)) (h .spt) (new .current) (stayed y p .0))
   files-apart y z (inr p) (inr q) = v .apart y z (stayed y p .0) (stayed z q .0)
 
   pub sound-filed : SoundHeld namespace (filed x h)

@@ -2,21 +2,20 @@
 use Prim.Native.Nat.{ℕ, _+_, _*_, _≤_}
 use mathlib.Core.Path.{_≡_}
 use mathlib.Core.List.{List, map}
-use mathlib.Core.Bool.{Bool, true, false}
+use mathlib.Core.Bool.{Bool, true}
 use lib.ListN.{length}
 use Rattle.laws.specs.Lists.{put}
-use Rattle.laws.specs.Sorted.{any, keep}
+use Rattle.laws.specs.Sorted.{keep}
 use Rattle.layout.specs.Layout.{records, treeBytes, dirNumbers}
 use Rattle.layout.specs.Marks.{marksOf}
 use Rattle.data_model.specs.Path.{field, legal}
 use Rattle.data_model.specs.Entry.{entryOf}
 use Rattle.tree.specs.Stored.{Stored, contents, recordOf}
 use Rattle.tree.specs.Tree.{Ordered, Whole}
-use Rattle.tree.specs.Matching.{outdates}
 use Rattle.tree.specs.declared.stored.KeyOrder.{KeyOrder}
 use Rattle.tree.specs.declared.stored.LengthyAuthorisedEntry.{LengthyAuthorisedEntry}
 use Rattle.store.specs.Store.{limitMost, recordMost}
-use Rattle.store.specs.Ingest.{stays}
+use Rattle.store.specs.Ingest.{stays, NewTo}
 
 -- What one tree in its room says.
 abbrev pub inTree : KeyOrder → (namespace : List ℕ) → (count : ℕ) → (dir tree : List ℕ) → List Stored
@@ -32,13 +31,13 @@ pub record Changed (o : KeyOrder) (l : List Stored) (dir tree dirAfter treeAfter
   pub numbers : dirAfter ≡ dirNumbers (length dir) (map (recordOf o) l)
   pub count : n ≡ length l
 
--- An entry may be filed in a tree: of its namespace, outdated by nothing there, with room for one more than stay.
+-- An entry may be filed in a tree: of its namespace, new there, with room for one more than stay.
 pub record FilesIn (o : KeyOrder) (namespace : List ℕ) (count : ℕ) (dir tree : List ℕ) (a : LengthyAuthorisedEntry) : Type 0 where
   pub ordered : Ordered o count dir tree
   pub whole : Whole o count dir tree
   pub few : count ≤ limitMost
   pub path : legal field (a .entry .path) ≡ true
   pub named : a .entry .«namespace_id» ≡ namespace
-  pub current : any (outdates (entryOf (a .entry))) (inTree o namespace count dir tree) ≡ false
+  pub new : NewTo (inTree o namespace count dir tree) (entryOf (a .entry))
   pub bytes : recordMost field * (length (keep (stays (entryOf (a .entry))) (inTree o namespace count dir tree)) + 1) ≤ length tree
   pub numbers : 2 * (length (keep (stays (entryOf (a .entry))) (inTree o namespace count dir tree)) + 1) ≤ length dir

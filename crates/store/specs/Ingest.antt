@@ -127,12 +127,17 @@ unfoldable pub judged : Figures → Tallied → (prune : List ℕ) → EntryValu
 judged f w prune e prevent =
     cond (eqb (ingestRefusal f w prune e) 0) (decided (w .store .state .limit) (held f Spt (w .store)) (entryOf e) prevent) (refuse (ingestRefusal f w prune e))
 
--- What is known of an entry that may be filed: it is not refused with 1, 2, 3, 4 or 6, whatever the tally, nothing outdates it, and fewer than the limit are left.
+-- An entry is new to these: none of them outdates it, and it is none of them.
+pub record NewTo (l : List Stored) (e : Entry) : Type 0 where
+  pub current : any (outdates e) l ≡ false
+  pub absent : any (repeats e) l ≡ false
+
+-- What is known of an entry that may be filed: it is not refused with 1, 2, 3, 4 or 6, whatever the tally, it is new to what is held, and fewer than the limit are left.
 pub record MayFile (f : Figures) (s : Store) (prune : List ℕ) (e : EntryValue) : Type 0 where
   pub tested : storeRefusal f s (leb (dirRoom (s .state .limit)) (length prune)) ≡ 0
   pub lawful : legal f (e .path) ≡ true
   pub named : e .«namespace_id» ≡ s .state .«namespace_id»
-  pub current : any (outdates (entryOf e)) (held f Spt s) ≡ false
+  pub new : NewTo (held f Spt s) (entryOf e)
   pub room : length (keep (stays (entryOf e)) (held f Spt s)) < s .state .limit
 
 -- The answers.

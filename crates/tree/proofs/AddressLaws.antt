@@ -14,12 +14,11 @@ use Rattle.laws.specs.Prefix.{sameNumber, sameList, prefixOf}
 use Rattle.laws.proofs.Truth.{and-true, not-true, clash, refute}
 use Rattle.laws.proofs.Prefix.{number-equality, prefix-cons, prefix-take}
 use Rattle.layout.specs.Layout.{recordAt}
-use Rattle.data_model.specs.Path.{field, Components, components, legal, samePath, sameComponent, isPrefix}
-use Rattle.data_model.specs.Subspace.{sameSubspace}
+use Rattle.data_model.specs.Path.{field, Components, components, legal, sameComponent, isPrefix}
 use Rattle.data_model.specs.Entry.{Entry, covers, prunes}
 use Rattle.data_model.specs.declared.parameters.Subspace.{Subspace}
 use Rattle.data_model.specs.declared.path.Path.{Path}
-use Rattle.data_model.proofs.Orders.{component-equality, path-equality, subspace-equality}
+use Rattle.data_model.proofs.Orders.{component-equality}
 use Rattle.keys.specs.Encode.{be, escaped, componentKey, pathKey, pathEnd, subspaceKey, triple, sptKey, tspKey, keyMost}
 use Rattle.keys.specs.Decode.{number, subspaceAt}
 use Rattle.keys.proofs.Encoding.{be-length, subspace-length}
@@ -32,7 +31,7 @@ use Rattle.key_laws.proofs.Fits.{bytes-take}
 use Rattle.tree.specs.Value.{valueLength, readValue, isValue}
 use Rattle.tree.specs.Stored.{keyIn, keyOf, valuePart, isKey, isRecord, storedFrom, stored}
 use Rattle.tree.specs.Tree.{Readable}
-use Rattle.tree.specs.Matching.{outdates, removes, standsAt}
+use Rattle.tree.specs.Matching.{outdates, removes}
 use Rattle.tree.specs.Address.{addressKey, openPath, openKey, tripleAt, addressAt, openAt}
 use Rattle.tree.specs.declared.stored.KeyOrder.{KeyOrder}
 use Rattle.tree.specs.declared.stored.KeyOrder.the-variants.{Spt, Tsp}
@@ -211,7 +210,7 @@ address-wrote s p old out n m l en eo h =
 module _ (o : KeyOrder) (ns r : List ℕ) where
   pub removes-not : (e : Entry) (front address : List ℕ) → front ≡ openKey (e .subspace) (e .path) → address ≡ addressAt o r → (t : Bool) → t ≡ prefixOf sameNumber front address → not t ≡ true
       → false ≡ removes e (stored o field ns r)
-  unfolding removes stored storedFrom
+  unfolding removes prunes stored storedFrom
   removes-not e front address eo ep t h n = rw (covers-not e (stored o field ns r .entry) front address eo ep t h n)
 
   pub outdates-not : (e : Entry) (front address : List ℕ) → front ≡ openAt o r → address ≡ addressKey (e .subspace) (e .path) → (t : Bool) → t ≡ prefixOf sameNumber front address → not t ≡ true

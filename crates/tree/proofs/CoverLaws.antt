@@ -5,7 +5,7 @@ use mathlib.Core.List.{List, [], _∷_, _++_, append-assoc}
 use mathlib.Core.Bool.{Bool, true, false, not, _&&_}
 use native.Mathlib.Omega.{arith}
 use lib.ListN.{length}
-use Rattle.laws.specs.Order.{isGreater}
+use Rattle.laws.specs.Order.{isLess, isGreater, below}
 use Rattle.laws.specs.Prefix.{sameNumber, sameList, prefixOf}
 use Rattle.laws.proofs.Truth.{and-true, not-false, alike}
 use Rattle.laws.proofs.Prefix.{number-equality, prefix-tail}
@@ -22,7 +22,7 @@ use Rattle.keys.proofs.Encoding.{subspace-length}
 use Rattle.key_laws.specs.Bytes.{Bytes}
 use Rattle.key_laws.specs.KeyOrder.{Sized}
 use Rattle.key_laws.proofs.BigEndian.{subspace-back}
-use Rattle.key_laws.proofs.EntryLaws.{covers-make}
+use Rattle.key_laws.proofs.EntryLaws.{newer-below, covers-make}
 use Rattle.tree.specs.Stored.{keyIn, storedFrom, stored, tripleOf}
 use Rattle.tree.specs.Tree.{Readable}
 use Rattle.tree.specs.Apart.{sameAddress}
@@ -83,28 +83,28 @@ pub sized-at : {o : KeyOrder} {k : ℕ} {dir tree : List ℕ} → Readable o k d
 unfolding tripleOf stored storedFrom
 sized-at {o} {k} {dir} {tree} v b ns = key-says o (recordAt k dir tree) (at-bytes k dir tree b) (v .is) .1
 
+-- Where the open address of an entry begins the address of another of its namespace, it prunes the other exactly if it is newer.
+prunes-rank : (a b : Entry) → a .namespace ≡ b .namespace → Sized (tripleOf a) → Sized (tripleOf b) → (front address : List ℕ) → front ≡ openKey (a .subspace) (a .path) → address ≡ addressKey (b .subspace) (b .path)
+    → (t : Bool) → t ≡ prefixOf sameNumber front address → not t ≡ false → newer a b ≡ prunes a b
+unfolding prunes
+prunes-rank a b n h k front address ef ea t et y =
+    let c : covers a b ≡ true = sym (covers-bytes a b n h k) ∙ sym (ap₂ (prefixOf sameNumber) ef ea) ∙ sym et ∙ not-false t y in
+    ap (_&& newer a b) (sym c)
+
 -- The tests of record k against an entry, by its address and its rank.
-module _ {o : KeyOrder} {k : ℕ} {dir tree : List ℕ} (v : Readable o k dir tree) (b : Bytes tree) (e : EntryValue) (sized : Sized (tripleOf (entryOf e))) (t : Bool) where
-  module _ (g : Bool) (eg : isGreater (byRank (rankAt o (recordAt k dir tree)) (rankOf e)) ≡ g) where
-    greater-is : g ≡ newer (stored o field (e .«namespace_id») (recordAt k dir tree) .entry) (entryOf e)
-    unfolding newer entryOf stored storedFrom
-    greater-is = sym eg
+module _ {o : KeyOrder} {k : ℕ} {dir tree : List ℕ} (v : Readable o k dir tree) (b : Bytes tree) (e : EntryValue) (sized : Sized (tripleOf (entryOf e))) (t g : Bool) where
+  pub outdates-rank : isGreater (byRank (rankAt o (recordAt k dir tree)) (rankOf e)) ≡ g → (front address : List ℕ) → front ≡ openAt o (recordAt k dir tree) → address ≡ addressKey (e .«subspace_id») (entryOf e .path)
+      → t ≡ prefixOf sameNumber front address → not t ≡ false → g ≡ outdates (entryOf e) (stored o field (e .«namespace_id») (recordAt k dir tree))
+  unfolding outdates newer entryOf stored storedFrom
+  outdates-rank eg front address ef ea et y =
+      sym eg ∙ prunes-rank (stored o field (e .«namespace_id») (recordAt k dir tree) .entry) (entryOf e) refl (sized-at v b (e .«namespace_id»)) sized front address ef ea t et y
 
-    pub outdates-rank : (front address : List ℕ) → front ≡ openAt o (recordAt k dir tree) → address ≡ addressKey (e .«subspace_id») (entryOf e .path)
-        → t ≡ prefixOf sameNumber front address → not t ≡ false → g ≡ outdates (entryOf e) (stored o field (e .«namespace_id») (recordAt k dir tree))
-    unfolding outdates prunes entryOf stored storedFrom
-    outdates-rank front address ef ep et y =
-        let s = stored o field (e .«namespace_id») (recordAt k dir tree) .entry in
-        let c : covers s (entryOf e) ≡ true = sym (covers-bytes s (entryOf e) refl (sized-at v b (e .«namespace_id»)) sized) ∙ sym (ap₂ (prefixOf sameNumber) ef ep) ∙ sym et ∙ not-false t y in
-        greater-is ∙ ap (λ (q : Bool). q && newer s (entryOf e)) (sym c)
-
-    pub removes-rank : (front address : List ℕ) → front ≡ openKey (e .«subspace_id») (entryOf e .path) → address ≡ addressAt o (recordAt k dir tree)
-        → t ≡ prefixOf sameNumber front address → not t ≡ false → not g ≡ removes (entryOf e) (stored o field (e .«namespace_id») (recordAt k dir tree))
-    unfolding removes entryOf stored storedFrom
-    removes-rank front address ef ep et y =
-        let s = stored o field (e .«namespace_id») (recordAt k dir tree) .entry in
-        let c : covers (entryOf e) s ≡ true = sym (covers-bytes (entryOf e) s refl sized (sized-at v b (e .«namespace_id»))) ∙ sym (ap₂ (prefixOf sameNumber) ef ep) ∙ sym et ∙ not-false t y in
-        ap not greater-is ∙ ap (λ (q : Bool). q && not (newer s (entryOf e))) (sym c)
+  pub removes-rank : isLess (byRank (rankAt o (recordAt k dir tree)) (rankOf e)) ≡ g → (front address : List ℕ) → front ≡ openKey (e .«subspace_id») (entryOf e .path) → address ≡ addressAt o (recordAt k dir tree)
+      → t ≡ prefixOf sameNumber front address → not t ≡ false → g ≡ removes (entryOf e) (stored o field (e .«namespace_id») (recordAt k dir tree))
+  unfolding removes below entryOf stored storedFrom
+  removes-rank eg front address ef ea et y =
+      let s = stored o field (e .«namespace_id») (recordAt k dir tree) .entry in
+      sym eg ∙ sym (newer-below (entryOf e) s) ∙ prunes-rank (entryOf e) s refl sized (sized-at v b (e .«namespace_id»)) front address ef ea t et y
 
 -- Whether record k stands at an address.
 pub stands-bytes : {o : KeyOrder} {k : ℕ} {dir tree : List ℕ} → Readable o k dir tree → Bytes tree → (mine address : List ℕ) → mine ≡ addressAt o (recordAt k dir tree)

@@ -5,7 +5,7 @@ use lib.Dec.{ltb}
 use Rattle.laws.specs.Prefix.{sameNumber}
 use Rattle.data_model.specs.Path.{Components, samePath}
 use Rattle.data_model.specs.Subspace.{sameSubspace}
-use Rattle.data_model.specs.Entry.{Entry, newer, covers, prunes}
+use Rattle.data_model.specs.Entry.{Entry, prunes}
 use Rattle.data_model.specs.Area.{areaIncludes}
 use Rattle.data_model.specs.Range3d.{rangeIncludes}
 use Rattle.data_model.specs.declared.parameters.Subspace.{Subspace}
@@ -18,9 +18,9 @@ use Rattle.data_model.specs.declared.«query_ignore_params».QueryIgnoreParams.
 unfoldable pub outdates : Entry → Stored → Bool
 outdates e s = prunes (s .entry) e
 
--- An entry removes it: it stands at the entry's path or an extension, and is not newer. Ties are removed too.
+-- An entry removes it, as the Willow Data Model says: it stands at the entry's path or an extension, and is strictly older. An entry that ties stays.
 unfoldable pub removes : Entry → Stored → Bool
-removes e s = covers e (s .entry) && not (newer (s .entry) e)
+removes e s = prunes e (s .entry)
 
 -- An entry repeats it: the same subspace, path, timestamp, digest and length, whatever the token and the available length.
 unfoldable pub repeats : Entry → Stored → Bool

@@ -56,7 +56,7 @@ fn outdates_at(
     }
 }
 
-// Whether the entry removes record k. `front`: the entry's address without its end.
+// Whether the entry removes record k: where it covers it, and record k is older. `front`: the entry's address without its end.
 fn removes_at(order: KeyOrder, dir: &[u32], tree: &[u8], k: usize, e: Entry, front: &[u8]) -> bool
     requires { ⌜ (Readable order k (now dir) (now tree)) × (now front ≡ openKey (e .«subspace_id») (components (e .path))) ⌝ }
     ensures { λ r. ⌜ r ≡ removes (entryOf e) (stored order field (e .«namespace_id») (recordAt k (now (dir .entry)) (now (tree .entry)))) ⌝ }
@@ -68,7 +68,7 @@ fn removes_at(order: KeyOrder, dir: &[u32], tree: &[u8], k: usize, e: Entry, fro
     match r {
         Recency::Newer => false,
         Recency::Older => true,
-        Recency::Same => true,
+        Recency::Same => false,
     }
 }
 

@@ -129,7 +129,7 @@ extern "C" {
 }
 const RECORD: usize = 410;
 const ITEM: usize = 28;
-const EDITION: u32 = 3;
+const EDITION: u32 = 4;
 
 /// A record's key and value, read: what a call is handed.
 #[derive(Clone, Copy)]

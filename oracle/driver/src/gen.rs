@@ -1,15 +1,21 @@
 //! Random calls from a seed, for stores: short paths over few bytes, few subspaces, times, lengths and digests, so that
-//! prefixes, ties and resends are common; now and then a path at or over a bound, and a number at the end of its range.
+//! prefixes and resends are common; now and then a path at or over a bound, and a number at the end of its range.
 //! KIND: `in` the listing program's lines;
 //! `shared` calls on which document 01 wants the Rust's own answer (or, with a name that ends in 01, the Rust's with the
 //! area's range ending as 01 says); `hall` the same at 16/4/32; `wide` the same with many paths and times, so that the
 //! store grows to its limit of 64, 256 or 1,024; `refusals` the same with many openings, of limits and namespaces that
 //! refuse much, for the model; `calls` also those where document 01 differs (qarea, aoi, arange);
 //! `keys` and `raw`, which need no store, are in gen_keys.rs.
+//! In `in`, `shared`, `hall` and `wide` no two entries that are handed in since an opening tie (02, U3: the Rust stays the
+//! comparison for such sequences); in `refusals` and `calls` ties are common.
+use crate::call::{call, Call};
 use crate::rng::Rng;
+use model::Entry;
 use std::io::Write;
 
 pub const KINDS: [&str; 8] = ["in", "shared", "hall", "wide", "refusals", "calls", "keys", "raw"];
+/// Without ties: the Rust's answers are compared as they are, but for what is held.
+pub const UNTIED: [&str; 4] = ["in", "shared", "hall", "wide"];
 
 pub struct Gen {
     pub r: Rng,
@@ -18,9 +24,30 @@ pub struct Gen {
     pub max: (u64, u64, u64),
     pub sent: Vec<String>,
     pub paths: Vec<String>,
+    /// Handed in since the opening, whatever became of it.
+    handed: Vec<Entry>,
 }
 
 impl Gen {
+    /// The next line. Where the Rust is the comparison, one whose entry ties with one that was handed in before is left out,
+    /// and another made in its place.
+    fn next(&mut self) -> String {
+        let untied = UNTIED.contains(&&self.kind[..]);
+        loop {
+            let sent = self.sent.len();
+            let line = self.line();
+            match call(&line) {
+                Some(Call::Ingest(e, ..)) if untied && self.handed.iter().any(|x| x.ties(&e)) => {
+                    self.sent.truncate(sent);
+                    continue;
+                }
+                Some(Call::Ingest(e, ..)) => self.handed.push(e),
+                Some(Call::Open(..)) => self.handed.clear(),
+                _ => {}
+            }
+            return line;
+        }
+    }
     fn line(&mut self) -> String {
         if self.kind == "refusals" && self.r.one_in(25) {
             let n = self.r.pick(&["00", "00", "00", "01"]);
@@ -139,13 +166,13 @@ pub fn write(seed: u64, n: u64, kind: &str, out: &mut impl Write) {
         return crate::gen_keys::write(seed, n, kind == "raw", out);
     }
     let max = if kind == "hall" { (16, 4, 32) } else { (64, 8, 128) };
-    let mut g = Gen { r: Rng(seed), kind: kind.into(), max, sent: vec![], paths: vec![] };
+    let mut g = Gen { r: Rng(seed), kind: kind.into(), max, sent: vec![], paths: vec![], handed: vec![] };
     if kind != "in" {
         let limits: &[&str] = if kind == "wide" { &["64", "256", "1024"] } else { &["4", "16", "64", "1024", "*"] };
         writeln!(out, "open 00 {}", g.r.pick(limits)).unwrap();
     }
     for _ in 0..n {
-        let l = g.line();
+        let l = g.next();
         writeln!(out, "{l}").unwrap();
     }
     if kind != "in" {

@@ -1,6 +1,6 @@
 //! Random sequences of steps over all values (gen_any.rs). The generator keeps a model of its own, so that it can ask for
-//! what is stored. KIND: `untied`, without ties among the entries that are handed in, so that the Rust stays a judge when
-//! ties change; `tied`, with many; `held`, mostly what is stored once more, or nearly; `full`, stores of up to 1,024 entries,
+//! what is stored. KIND: `untied`, without ties among the entries that are handed in, so that the Rust stays the comparison
+//! (02, U3); `tied`, with many; `held`, mostly what is stored once more, or nearly; `full`, stores of up to 1,024 entries,
 //! filled and kept full; `values`, calls that need no store. The same seed gives the same steps.
 use crate::answer::Answer;
 use crate::call::Call;
@@ -61,19 +61,22 @@ impl Gen {
         let (n, token) = (self.namespace(), self.a.token());
         let stored = self.stored();
         let mut e = match (self.a.r.below(10), stored) {
+            (1 | 4..=7, Some(x)) if self.kind == "tied" => self.tied(x.entry),
             // A resend, often with the token that it came with.
             (0..=1, Some(x)) => {
                 let token = if self.a.r.one_in(3) { token } else { x.token };
                 return (Entry { namespace: n, ..x.entry }, token);
             }
             (2..=3, Some(x)) => self.a.close(&x.entry),
-            (4..=6, Some(x)) if self.kind == "tied" => self.tied(x.entry),
             _ => self.a.entry(n),
         };
         e.namespace = n;
-        for _ in 0..64 {
-            if self.kind != "untied" || !self.sent.iter().any(|x| x.ties(&e)) {
-                break;
+        // Until it ties with nothing that was handed in: with another digest, and in the end at another time. What is sent again above was looked at when it came.
+        let mut tries = 0;
+        while self.kind == "untied" && self.sent.iter().any(|x| x.ties(&e)) {
+            tries += 1;
+            if tries > 64 {
+                e.timestamp = self.a.r.next();
             }
             e.payload_digest[self.a.r.at(32)] = self.a.r.next() as u8;
         }

@@ -1,7 +1,8 @@
 //! oracle calls [hall]       the call language (README.md) from standard input, answered by the Rust
 //! oracle list               document 01's listing program, likewise
 //! oracle calls held [hall]  the calls with the model beside the Rust: where the model says held, `held` and the Rust's own answer, and its trees
-//!                           are put back if that changed them (`held back` and the answer)
+//!                           are put back if that changed them (`held back` and the answer); above a stored extension that ties, `tied`, the
+//!                           answer with that put back, and the Rust's own in brackets
 //! oracle list held          the listing program, likewise
 //! oracle model [hall]       the call language, answered by the model of the papers; not the Rust
 //! oracle list model         the listing program over the model; not the Rust

@@ -1,13 +1,13 @@
 //! ORACLE: the customer's Rust, called. Every answer below comes out of the unchanged files, but for what this driver
 //! does itself: the limit (refusal 8: the call is made, and taken back if the count then exceeds the limit), the names
 //! of the outcomes, `unlike` (README.md), `spt01` and `tsp01`, which are the model's and say so in their names, and
-//! `resend`, which puts the trees back where 02's U2 wants nothing changed.
+//! `resend` and `beside_ties`, which put back what 02's U2 and U3 want unchanged.
 use crate::answer::Answer;
 use crate::call::*;
 use crate::convert::*;
 use crate::params::*;
 use crate::tally::counted;
-use model::{Bounds, Ignore, Recency, Stored, Token};
+use model::{Bounds, Ignore, Pair, Recency, Stored, Token};
 use std::panic::{catch_unwind, AssertUnwindSafe};
 use std::rc::Rc;
 use ufotofu_codec::block_on;
@@ -21,12 +21,42 @@ const ALL: Ignore = Ignore { incomplete: false, empty: false };
 pub type St<const MCL: usize, const MCC: usize, const MPL: usize> =
     StoreSimpleSled<MCL, MCC, MPL, Ns, Sub, Dig, Tok>;
 
+/// A tree's records.
+type Raw = Vec<(sled::IVec, sled::IVec)>;
+
 pub struct Oracle<const MCL: usize, const MCC: usize, const MPL: usize> {
     pub store: Rc<St<MCL, MCC, MPL>>,
     pub db: sled::Db,
     limit: Option<u64>,
     bend: bool,
 }
+
+/// In what way the Rust's answer was come by, with the model's beside it.
+pub enum Way {
+    Plain,
+    /// The very entry is stored (02, U2): whether the trees were put back.
+    Held(bool),
+    /// Stored extensions tie (02, U3): what the answer is with these put back.
+    Tied(Answer),
+}
+
+/// A record that goes by 01's rule.
+struct Outdated {
+    /// Subspace-first, and where it stands in that tree.
+    key: sled::IVec,
+    pair: Pair,
+    /// It is at the very subspace, path and time of the entry that comes.
+    own: bool,
+    /// It has the timestamp, digest and length of the entry that comes.
+    same: bool,
+}
+
+/// A subspace-first key; or the time-first one of the same triple, which has the last 8 bytes in front.
+fn turned(k: &[u8], time_first: bool) -> Vec<u8> {
+    let (rest, time) = k.split_at(k.len() - 8);
+    if time_first { [time, rest].concat() } else { k.to_vec() }
+}
+
 impl<const MCL: usize, const MCC: usize, const MPL: usize> Oracle<MCL, MCC, MPL> {
     pub fn open(n: Ns, limit: Option<u64>) -> Self {
         let db = sled::Db::default();
@@ -36,19 +66,24 @@ impl<const MCL: usize, const MCC: usize, const MPL: usize> Oracle<MCL, MCC, MPL>
     pub fn tree(&self, tsp: bool) -> sled::Tree {
         self.db.open_tree([tsp as u8]).unwrap()
     }
-    pub fn raw(&self, tsp: bool) -> Vec<(sled::IVec, sled::IVec)> {
+    pub fn raw(&self, tsp: bool) -> Raw {
         self.tree(tsp).iter().flatten().collect()
+    }
+    fn both(&self) -> [Raw; 2] {
+        [self.raw(false), self.raw(true)]
     }
     /// The tally, counted in both trees; none if they do not give the same.
     pub fn tally(&self) -> Option<Vec<model::Item>> {
         let [a, b] = [false, true].map(|time_first| counted(self.raw(time_first).iter().map(|(k, _)| &k[..]), time_first));
         if a == b { a } else { None }
     }
-    fn restore(&self, tsp: bool, old: Vec<(sled::IVec, sled::IVec)>) {
-        let t = self.tree(tsp);
-        t.clear().unwrap();
-        for (k, v) in old {
-            t.insert(k, v).unwrap();
+    fn restore(&self, old: [Raw; 2]) {
+        for (tsp, old) in [false, true].into_iter().zip(old) {
+            let t = self.tree(tsp);
+            t.clear().unwrap();
+            for (k, v) in old {
+                t.insert(k, v).unwrap();
+            }
         }
     }
     pub fn list(&self) -> Vec<Stored> {
@@ -72,7 +107,7 @@ impl<const MCL: usize, const MCC: usize, const MPL: usize> Oracle<MCL, MCC, MPL>
 
     pub fn ingest(&self, e: &model::Entry, k: &Token, prevent: bool) -> Out<Answer> {
         let authed = AuthorisedEntry::new(entry(e)?, Tok(*k)).unwrap();
-        let (spt, tsp) = (self.raw(false), self.raw(true));
+        let before = self.both();
         self.tree(false).take_journal();
         match block_on(self.store.ingest_entry(authed, prevent, EntryOrigin::Local)) {
             Ok(EntryIngestionSuccess::Success) => {}
@@ -84,13 +119,12 @@ impl<const MCL: usize, const MCC: usize, const MPL: usize> Oracle<MCL, MCC, MPL>
             Err(e) => return Ok(Answer::Said(format!("error {e:?}"))),
         }
         if self.limit.is_some_and(|l| self.tree(false).len() as u64 > l) {
-            self.restore(false, spt);
-            self.restore(true, tsp);
+            self.restore(before);
             return Ok(Answer::Refused(8));
         }
         // keys_to_prune, as the batch had them, as offset and length in the tree before the call.
         let (mut at, mut places) = (0, std::collections::BTreeMap::new());
-        for (k, v) in &spt {
+        for (k, v) in &before[0] {
             places.insert(k.clone(), (at as u32, (k.len() + v.len()) as u32));
             at += k.len() + v.len();
         }
@@ -98,48 +132,106 @@ impl<const MCL: usize, const MCC: usize, const MPL: usize> Oracle<MCL, MCC, MPL>
         Ok(Answer::Taken(pruned.map(|(k, _)| places[&k]).collect()))
     }
 
-    /// An ingestion that the model answers with held: the very entry is stored. The Rust files it anew, and removes with the
-    /// stored one the extensions that tie; with pruning prevented it refuses with 7. Exactly that is asserted, by the Rust's
-    /// own records. Its trees are then put back, if they are not as they were by themselves: if the token is another, the
-    /// available length was not 0, or an extension went. The Rust's own answer, and whether anything was put back.
-    pub fn resend(&mut self, e: &model::Entry, token: &Token, prevent: bool) -> Result<(Answer, bool), String> {
-        let before = [self.raw(false), self.raw(true)];
+    /// What goes by 01's rule when an entry comes, ties included: of the Rust's own records those of its subspace, at its path or below, that are not newer.
+    fn outdated(&self, e: &model::Entry) -> Vec<Outdated> {
+        let (key, length) = (model::key(e, false), e.payload_length.to_be_bytes());
+        // The subspace and the components, each with its end: the keys at the path and below begin so, and no other.
+        let (stem, time) = (&key[..key.len() - 10], &key[key.len() - 8..]);
+        let (mut at, mut out) = (0, vec![]);
+        for (k, v) in self.raw(false) {
+            let pair = (at, (k.len() + v.len()) as u32);
+            at += pair.1;
+            if k.starts_with(stem) {
+                let rank = (&k[k.len() - 8..], &v[8..40], &v[..8]).cmp(&(time, &e.payload_digest, &length));
+                if rank.is_le() {
+                    out.push(Outdated { own: k[..] == key[..], key: k, pair, same: rank.is_eq() });
+                }
+            }
+        }
+        out
+    }
+
+    /// An ingestion of an entry that no stored one outdates, where something is to go by 01's rule. The Rust must answer and file just that: with
+    /// pruning prevented it refuses with 7 and changes nothing, else it names all that goes, and files the entry with its token and available length 0.
+    fn by_01(&mut self, e: &model::Entry, token: &Token, prevent: bool) -> Result<(Answer, Vec<Outdated>), String> {
+        let (before, gone) = (self.both(), self.outdated(e));
         let answer = self.exec(&Call::Ingest(e.clone(), *token, prevent));
-        let after = [self.raw(false), self.raw(true)];
-        let told = |what: &str| Err(format!("a resend of {e:?}, {what}: the Rust says {answer:?}"));
-        if prevent {
-            return if answer == Answer::Refused(7) && after == before { Ok((answer, false)) } else { told("pruning prevented") };
+        let wanted = if prevent { Answer::Refused(7) } else { Answer::Taken(gone.iter().map(|g| g.pair).collect()) };
+        if gone.is_empty() || answer != wanted {
+            return Err(format!("an ingestion of {e:?}, prevented {prevent}: the Rust says {answer:?}, by 01's rule it is {wanted:?}"));
         }
-        // What the Rust does, by 01: of its subspace, at its path or below, whatever has its time, digest and length goes.
-        let new = [&e.payload_length.to_be_bytes()[..], &e.payload_digest, token, &[0; 8]].concat();
-        let (mut at, mut pairs, mut gone) = (0, vec![], vec![]);
-        for (k, v) in &before[0] {
-            let Some((s, p, t)) = model::FIELD.decode(false, k) else { return told("beside a key that no encoder writes") };
-            if s == e.subspace && p.starts_with(&e.path) && t == e.timestamp && v[..40] == new[..40] {
-                pairs.push((at, (k.len() + v.len()) as u32));
-                gone.push(p);
+        let value = [&e.payload_length.to_be_bytes()[..], &e.payload_digest, token, &[0; 8]].concat();
+        for (time_first, mut wanted) in [false, true].into_iter().zip(before) {
+            if !prevent {
+                wanted.retain(|(k, _)| !gone.iter().any(|g| k[..] == turned(&g.key, time_first)[..]));
+                wanted.push((model::key(e, time_first).into(), value.clone().into()));
+                wanted.sort();
             }
-            at += (k.len() + v.len()) as u32;
-        }
-        if gone.first() != Some(&e.path) || answer != Answer::Taken(pairs) {
-            return told("that is stored");
-        }
-        for (time_first, was) in before.iter().enumerate() {
-            let key = |p: &model::Path| model::key(&model::Entry { path: p.clone(), ..e.clone() }, time_first == 1);
-            let (own, gone): (_, Vec<_>) = (key(&e.path), gone.iter().map(key).collect());
-            let now = was.iter().filter(|(k, _)| k[..] == own[..] || !gone.iter().any(|g| k[..] == g[..]));
-            let now: Vec<(Vec<u8>, Vec<u8>)> = now.map(|(k, v)| (k.to_vec(), if k[..] == own[..] { new.clone() } else { v.to_vec() })).collect();
-            if after[time_first].len() != now.len() || after[time_first].iter().zip(&now).any(|((k, v), (l, w))| k[..] != l[..] || v[..] != w[..]) {
-                return told("and files something else");
+            if self.raw(time_first) != wanted {
+                return Err(format!("an ingestion of {e:?}, prevented {prevent}: the Rust files something else than 01's rule, time-first {time_first}"));
             }
         }
-        let changed = after != before;
+        Ok((answer, gone))
+    }
+
+    /// An ingestion that the model answers with held: the very entry is stored. The Rust files it anew, and removes with the
+    /// stored one the extensions that tie; with pruning prevented it refuses with 7 (`by_01`). Its trees are then put back, if they
+    /// are not as they were by themselves: if the token is another, the available length was not 0, or an extension went. The Rust's
+    /// own answer, and whether anything was put back.
+    fn resend(&mut self, e: &model::Entry, token: &Token, prevent: bool) -> Result<(Answer, bool), String> {
+        let before = self.both();
+        let (answer, gone) = self.by_01(e, token, prevent)?;
+        if !gone[0].own || !gone.iter().all(|g| g.same) {
+            return Err(format!("{e:?} is held, and the Rust has it not, or something older below it"));
+        }
+        let changed = before != self.both();
         if changed {
-            let [spt, tsp] = before;
-            self.restore(false, spt);
-            self.restore(true, tsp);
+            self.restore(before);
         }
         Ok((answer, changed))
+    }
+
+    /// An ingestion above stored extensions that tie with its entry, which is not stored and not outdated. The Rust removes them with what is older, and with
+    /// pruning prevented it refuses on their account too (`by_01`); by 02's U3 they stay, and nobody asks whether they may go. So, unless something older is
+    /// there to be protected, the Rust is asked once more without the flag; then what ties is put back into both trees, and they are put back as they were if
+    /// they hold more than the limit. The Rust's own answer, and what it is then.
+    fn beside_ties(&mut self, e: &model::Entry, token: &Token, prevent: bool) -> Result<(Answer, Answer), String> {
+        let before = self.both();
+        let (answer, gone) = self.by_01(e, token, prevent)?;
+        let (ties, older): (Vec<_>, Vec<_>) = gone.into_iter().partition(|g| g.same);
+        if prevent {
+            if !older.is_empty() {
+                return Ok((answer, Answer::Refused(7)));
+            }
+            self.by_01(e, token, false)?;
+        }
+        for (time_first, was) in [false, true].into_iter().zip(&before) {
+            for (k, v) in was.iter().filter(|(k, _)| ties.iter().any(|g| k[..] == turned(&g.key, time_first)[..])) {
+                self.tree(time_first).insert(k, v).unwrap();
+            }
+        }
+        if self.limit.is_some_and(|l| self.tree(false).len() as u64 > l) {
+            self.restore(before);
+            return Ok((answer, Answer::Refused(8)));
+        }
+        Ok((answer, Answer::Taken(older.iter().map(|g| g.pair).collect())))
+    }
+
+    /// Whether an extension of the entry is stored that ties with it, and the entry itself is not.
+    fn ties(&self, e: &model::Entry) -> bool {
+        let same: Vec<bool> = self.outdated(e).into_iter().filter(|g| g.same).map(|g| g.own).collect();
+        same.first() == Some(&false)
+    }
+
+    /// A call with the model's answer to it beside: where the two part by 02's U2 or U3, as above. The Rust's own answer, and in what way it was come by.
+    pub fn beside(&mut self, call: &Call, model: &Answer) -> Result<(Answer, Way), String> {
+        match (call, model) {
+            (Call::Ingest(e, token, prevent), Answer::Held) => self.resend(e, token, *prevent).map(|(answer, back)| (answer, Way::Held(back))),
+            (Call::Ingest(e, token, prevent), Answer::Taken(_) | Answer::Refused(7 | 8)) if self.ties(e) => {
+                self.beside_ties(e, token, *prevent).map(|(answer, then)| (answer, Way::Tied(then)))
+            }
+            _ => Ok((self.exec(call), Way::Plain)),
+        }
     }
 
     pub fn exec(&mut self, call: &Call) -> Answer {

@@ -1,5 +1,6 @@
 //! A call, and how it is made.
 use crate::call::Call;
+use model::Entry;
 
 #[derive(Clone, Debug)]
 pub struct Step {
@@ -22,6 +23,24 @@ pub enum Front {
     Short(usize, usize),
     /// A byte of a tree (0, 2) or of the tally (4), or a number of a directory (1, 3), at a place modulo its room, is changed by so much.
     Changed(usize, u64, u32),
+}
+
+/// How many entries are handed in, and how many of them tie with one that was handed in before since the opening, whatever became of it. An opening that is
+/// refused is none.
+pub fn ties<'a>(calls: impl IntoIterator<Item = &'a Call>) -> (u64, u64) {
+    let (mut handed, mut ingests, mut ties): (Vec<&Entry>, u64, u64) = (vec![], 0, 0);
+    for call in calls {
+        match call {
+            Call::Open(_, None | Some(1..=1024)) => handed.clear(),
+            Call::Ingest(e, ..) => {
+                ingests += 1;
+                ties += handed.iter().any(|x| x.ties(e)) as u64;
+                handed.push(e);
+            }
+            _ => {}
+        }
+    }
+    (ingests, ties)
 }
 
 /// Whether the call changes a store that is handed in, and so is lent its tally.

@@ -1,6 +1,9 @@
 //! Walks over everything small: the path laws over all paths of tiny instances, the Rust beside the model over all short
 //! sequences of ingests.
+use crate::answer::Answer;
 use crate::call::{call, Call};
+use crate::oracle::Way;
+use crate::step;
 use crate::with_model::WithModel;
 use willow_data_model::Path;
 
@@ -85,37 +88,41 @@ pub fn paths() {
     walk::<2, 4, 2>();
 }
 
-/// Every sequence of up to three ingests over a small set of entries, the Rust beside the model.
+/// The ingests of the short sequences: at each of eight paths four, of which the first three differ in the digest or the length alone.
+pub fn ingests() -> Vec<Call> {
+    let of = |p| ["1 0 0a", "1 0 0b", "1 1 0a", "2 0 0a"].map(|rest| call(&format!("in 01 {p} {rest}")).unwrap());
+    ["-", ".", "00", "61", "6162", "61/.", "61/62", "61/62/00"].into_iter().flat_map(of).collect()
+}
+
+/// The sequences of one to three of them that begin with a given one.
+pub fn beginning_with<'a>(first: &'a Call, all: &'a [Call]) -> Vec<Vec<&'a Call>> {
+    let two = all.iter().map(|b| vec![first, b]);
+    let three = all.iter().flat_map(|b| all.iter().map(move |c| vec![first, b, c]));
+    [vec![first]].into_iter().chain(two).chain(three).collect()
+}
+
+/// Every sequence of up to three of these, the Rust beside the model. Where no two entries of a sequence tie, the Rust's answers are compared as they are, but for
+/// what is held; where two do, what it removes is asserted and put back.
 pub fn exhaust() {
-    let mut set = vec![];
-    for p in ["-", ".", "00", "61", "6162", "61/.", "61/62", "61/62/00"] {
-        for rest in ["1 0 0a", "1 0 0b", "1 1 0a", "2 0 0a"] {
-            set.push(call(&format!("in 01 {p} {rest}")).unwrap());
-        }
-    }
-    let dump = call("dump").unwrap();
-    let (mut n, mut bad, mut held, mut back) = (0, 0, 0, 0);
-    let mut run = |calls: &[&Call]| {
+    let (set, dump) = (ingests(), call("dump").unwrap());
+    let (mut n, mut with_tie, mut bad, mut held, mut back, mut removed, mut room) = (0, 0, 0, 0, 0, 0, 0);
+    for calls in set.iter().flat_map(|first| beginning_with(first, &set)) {
         let mut both = WithModel::<64, 8, 128>::open(Some(2));
+        let ties = step::ties(calls.iter().copied()).1 > 0;
         n += 1;
+        with_tie += ties as u64;
         for c in calls.iter().copied().chain([&dump]) {
             let a = both.exec(c);
-            held += a.back.is_some() as u64;
-            back += (a.back == Some(true)) as u64;
-            if a.back.is_none() && a.rust != a.model {
+            held += matches!(a.way, Way::Held(_)) as u64;
+            back += matches!(a.way, Way::Held(true)) as u64;
+            removed += matches!(a.way, Way::Tied(Answer::Taken(_))) as u64;
+            room += matches!(a.way, Way::Tied(Answer::Refused(8))) as u64;
+            if !a.alike() || !ties && matches!(a.way, Way::Tied(_) | Way::Held(true)) {
                 bad += 1;
-                println!("{calls:?}\n  Rust {:?}\n  01   {:?}", a.rust, a.model);
-            }
-        }
-    };
-    for a in &set {
-        run(&[a]);
-        for b in &set {
-            run(&[a, b]);
-            for c in &set {
-                run(&[a, b, c]);
+                println!("{calls:?}\n  Rust  {:?}\n  model {:?}", a.rust, a.model);
             }
         }
     }
-    println!("{n} sequences of up to 3 of {} ingests (limit 2), {bad} answers differ; {held} resends, held, {back} of them put back in the Rust", set.len());
+    println!("{n} sequences of up to 3 of {} ingests (limit 2), {} without a tie and {with_tie} with one, {bad} answers differ", set.len(), n - with_tie);
+    println!("{held} resends, held, {back} of them put back in the Rust; what ties put back in the Rust after {removed} that are taken, and {room} that are refused with 8");
 }

@@ -1,9 +1,9 @@
-//! The Rust with the model beside it, call by call. An ingestion that the model answers with held (02, U2) is made in the Rust all the same, and
-//! its trees are put back where it changes them, so that both go on with the same entries.
+//! The Rust with the model beside it, call by call. An ingestion that the model answers with held (02, U2), and one above a stored extension that ties
+//! (02, U3), is made in the Rust all the same, and its trees are put right where it changes them otherwise, so that both go on with the same entries.
 use crate::answer::Answer;
 use crate::call::Call;
 use crate::judge::Judge;
-use crate::oracle::Oracle;
+use crate::oracle::{Oracle, Way};
 use crate::show::show;
 use model::Bounds;
 
@@ -16,8 +16,18 @@ pub struct WithModel<const MCL: usize, const MCC: usize, const MPL: usize> {
 pub struct Answers {
     pub rust: Answer,
     pub model: Answer,
-    /// Of a resend: whether the Rust's trees were put back.
-    pub back: Option<bool>,
+    pub way: Way,
+}
+impl Answers {
+    /// Whether the two are alike: of a resend that the Rust does what it must is asserted already, and beside ties what its answer is with these put back
+    /// is the model's.
+    pub fn alike(&self) -> bool {
+        match &self.way {
+            Way::Plain => self.rust == self.model,
+            Way::Held(_) => true,
+            Way::Tied(then) => *then == self.model,
+        }
+    }
 }
 
 impl<const MCL: usize, const MCC: usize, const MPL: usize> WithModel<MCL, MCC, MPL> {
@@ -29,21 +39,21 @@ impl<const MCL: usize, const MCC: usize, const MPL: usize> WithModel<MCL, MCC, M
     }
     pub fn exec(&mut self, call: &Call) -> Answers {
         let model = self.judge.exec(call);
-        let (rust, back) = match (call, &model) {
-            (Call::Ingest(e, token, prevent), Answer::Held) => {
-                let (rust, back) = self.rust.resend(e, token, *prevent).unwrap_or_else(|words| panic!("{words}"));
-                (rust, Some(back))
-            }
-            _ => (self.rust.exec(call), None),
-        };
-        Answers { rust, model, back }
+        let (rust, way) = self.rust.beside(call, &model).unwrap_or_else(|words| panic!("{words}"));
+        Answers { rust, model, way }
     }
-    /// The Rust's answer; of a resend `held`, then ` back` if its trees were put back, then the Rust's own answer.
+    /// The Rust's answer; of a resend `held`, then ` back` if its trees were put back, then the Rust's own answer; beside ties, if they alter the answer, `tied`,
+    /// then what it is with these put back, then the Rust's own in brackets.
     pub fn told(&mut self, call: &Call) -> Answer {
         let a = self.exec(call);
-        match a.back {
-            None => a.rust,
-            Some(back) => Answer::Said(format!("held{} {}", if back { " back" } else { "" }, show(&a.rust))),
+        if let Way::Tied(then) = &a.way {
+            assert!(*then == a.model, "beside ties the Rust, with these put back, says {then:?}, the model {:?}", a.model);
+        }
+        match a.way {
+            Way::Plain => a.rust,
+            Way::Held(back) => Answer::Said(format!("held{} {}", if back { " back" } else { "" }, show(&a.rust))),
+            Way::Tied(then) if then == a.rust => then,
+            Way::Tied(then) => Answer::Said(format!("tied {} ({})", show(&then), show(&a.rust))),
         }
     }
 }

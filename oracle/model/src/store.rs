@@ -1,5 +1,5 @@
-//! A store as a list of entries in order of subspace, path and time, and document 01's calls on it. A call that is refused
-//! answers its number.
+//! A store as a list of entries in order of subspace, path and time, and document 01's calls on it, with 02's U1, U2 and U3. A call that is
+//! refused answers its number.
 use crate::*;
 
 pub type Refusal = u8;
@@ -8,7 +8,7 @@ pub type Pair = (u32, u32);
 
 #[derive(Clone, Debug, PartialEq, Eq)]
 pub enum Verdict {
-    /// The pairs of the records that were removed, as they stood before the call.
+    /// The pairs of the records that were removed, as they stood before the call: those of strictly older entries (02, U3).
     Taken(Vec<Pair>),
     /// A stored entry that is newer, with its token.
     Obsolete(Entry, Token),
@@ -81,7 +81,8 @@ impl Store {
         if self.list.iter().any(|x| x.entry == *e) {
             return Ok(Verdict::Held);
         }
-        let outdated = |x: &Stored| e.covers(&x.entry) && x.entry.compare(e) != Recency::Newer;
+        // Strictly older ones only: one that ties stays, and no more is said of it (02, U3).
+        let outdated = |x: &Stored| e.covers(&x.entry) && x.entry.compare(e) == Recency::Older;
         let (mut at, mut pruned) = (0, vec![]);
         for x in &self.list {
             let length = record(x, false).len() as u32;

@@ -1,4 +1,4 @@
-//! Document 01's examples, with answers as it states them, and 02's U1 and U2.
+//! Document 01's examples, with answers as it states them, but for that of a tie, which is 02's U3; and 02's U1 and U2.
 use model::*;
 
 fn p(comps: &[&[u8]]) -> Path {
@@ -75,16 +75,64 @@ fn newer_and_times() {
     assert!(Range { start: 0, end: None }.includes(&u64::MAX));
 }
 
+/// Document 02's U3: of 01's case of [61][62] and [61], two are left, in either order, and pruning has nothing to prevent.
 #[test]
-fn ties_and_limit() {
+fn ties() {
     let (short, long) = (entry(p(&[&[0x61]]), 5, 3, 10), entry(p(&[&[0x61], &[0x62]]), 5, 3, 10));
-    let mut s = Store::open([0; 16], 64, FIELD).unwrap();
-    s.ingest(&long, &TOKEN, false).unwrap();
-    assert_eq!(s.ingest(&short, &TOKEN, true), Err(7));
-    assert_eq!(s.ingest(&short, &TOKEN, false), Ok(Verdict::Taken(vec![(0, 144)])));
-    assert_eq!(s.entries().len(), 1);
-    assert_eq!(s.ingest(&long, &TOKEN, false), Ok(Verdict::Taken(vec![])));
-    assert_eq!(s.entries().len(), 2);
+    let of = |s: &Store| s.entries().iter().map(|x| x.entry.clone()).collect::<Vec<_>>();
+    for (order, prevent) in [([&long, &short], false), ([&short, &long], false), ([&long, &short], true), ([&short, &long], true)] {
+        let mut s = Store::open([0; 16], 2, FIELD).unwrap();
+        for e in order {
+            assert_eq!(s.ingest(e, &TOKEN, prevent), Ok(Verdict::Taken(vec![])));
+        }
+        assert_eq!(of(&s), [short.clone(), long.clone()]);
+        assert_eq!(items(s.entries()), [(sub(1), 2, 5)]);
+        // Held, though the store is full and neither is gone.
+        assert_eq!((s.ingest(&short, &TOKEN, prevent), s.ingest(&long, &TOKEN, prevent)), (Ok(Verdict::Held), Ok(Verdict::Held)));
+    }
+    // It is not gone, so there is no room for a second.
+    for (order, prevent) in [([&long, &short], false), ([&long, &short], true), ([&short, &long], false)] {
+        let mut s = Store::open([0; 16], 1, FIELD).unwrap();
+        s.ingest(order[0], &TOKEN, prevent).unwrap();
+        let before = s.clone();
+        assert_eq!(s.ingest(order[1], &TOKEN, prevent), Err(8));
+        assert_eq!(s, before);
+    }
+    // Three on one line.
+    let longest = entry(p(&[&[0x61], &[0x62], &[]]), 5, 3, 10);
+    let three = [&short, &long, &longest];
+    for [a, b, c] in [[0, 1, 2], [0, 2, 1], [1, 0, 2], [1, 2, 0], [2, 0, 1], [2, 1, 0]] {
+        let mut s = Store::open([0; 16], 3, FIELD).unwrap();
+        for e in [three[a], three[b], three[c]] {
+            assert_eq!(s.ingest(e, &TOKEN, true), Ok(Verdict::Taken(vec![])));
+        }
+        assert_eq!(of(&s), [short.clone(), long.clone(), longest.clone()]);
+        assert_eq!(items(s.entries()), [(sub(1), 3, 5)]);
+        // A later one above removes all three; a later one at the second place removes the second and the third.
+        let mut t = s.clone();
+        assert_eq!(t.ingest(&entry(p(&[]), 5, 4, 10), &TOKEN, true), Err(7));
+        assert_eq!(t.ingest(&entry(p(&[]), 5, 4, 10), &TOKEN, false), Ok(Verdict::Taken(vec![(0, 141), (141, 144), (285, 146)])));
+        assert_eq!((t.entries().len(), items(t.entries())), (1, vec![(sub(1), 1, 5)]));
+        assert_eq!(s.ingest(&entry(long.path.clone(), 6, 0, 0), &TOKEN, false), Ok(Verdict::Taken(vec![(141, 144), (285, 146)])));
+        assert_eq!(of(&s), [short.clone(), entry(long.path.clone(), 6, 0, 0)]);
+        assert_eq!(items(s.entries()), [(sub(1), 2, 6)]);
+    }
+    // One that ties and one that is older below: the second alone goes, and it alone is what 7 speaks of.
+    let older = entry(p(&[&[0x61], &[0x63]]), 5, 2, 10);
+    for limit in [2, 3] {
+        let mut s = Store::open([0; 16], limit, FIELD).unwrap();
+        s.ingest(&long, &TOKEN, false).unwrap();
+        s.ingest(&older, &TOKEN, false).unwrap();
+        assert_eq!(s.ingest(&short, &TOKEN, true), Err(7));
+        assert_eq!(s.ingest(&short, &TOKEN, false), Ok(Verdict::Taken(vec![(144, 144)])));
+        assert_eq!(of(&s), [short.clone(), long.clone()]);
+        assert!(matches!(s.ingest(&older, &TOKEN, false), Ok(Verdict::Obsolete(e, _)) if e == short));
+    }
+}
+
+#[test]
+fn limit() {
+    let short = entry(p(&[&[0x61]]), 5, 3, 10);
     let mut s = Store::open([0; 16], 1, FIELD).unwrap();
     s.ingest(&short, &TOKEN, false).unwrap();
     assert_eq!(s.ingest(&entry(p(&[&[0x62]]), 9, 0, 0), &TOKEN, false), Err(8));

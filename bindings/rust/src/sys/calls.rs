@@ -77,9 +77,9 @@ into_store! {
 
     /// Files an entry with its token and available length 0. It is obsolete, and nothing changes, if a stored entry of the subspace, at a prefix of its
     /// path or the path itself, is newer. It is held, and nothing changes, if an entry of the same subspace, path, timestamp, digest and length is stored: the
-    /// stored one keeps its token and available length, whatever token comes now. Else what it outdates is removed: entries at its path or below that are not
-    /// newer. The pairs of these, as they stood before the call, in key order, go to the front of `prune`, which has at least `limit` pairs; `pruned` says how
-    /// many, and what lies behind stays.
+    /// stored one keeps its token and available length, whatever token comes now. Else the entries of the subspace at its path or below that are older, by
+    /// timestamp, then digest, then payload length, are removed; an entry of equal rank stays. The pairs of those removed, as they stood before the call, in key
+    /// order, go to the front of `prune`, which has at least `limit` pairs; `pruned` says how many, and what lies behind stays.
     /// Refused: 1, 2, 3, 10, 4, 6, then obsolete, held, then 7 (with `prevent_pruning`), 8.
     ingest_entry = vb_ingest_entry(state: State; prune: [Pair]; entry: Entry, token: &[u8; 64], prevent_pruning: u8) -> Ingested;
 

@@ -6,7 +6,7 @@ pub mod table;
 use crate::answer::{Answer, Records};
 use crate::call::Call;
 use crate::judge::Judge;
-use crate::oracle::Oracle;
+use crate::oracle::{Oracle, Way};
 use crate::params::Ns;
 use crate::port::{Buffers, Handed, Port};
 use crate::rng::Rng;
@@ -32,6 +32,11 @@ pub enum Judged {
     Held,
     HeldPrevented,
     HeldBack,
+    /// docs/DIFFERENCES.md 4: above a stored extension that ties, which stays in the model and the port. The Rust removes it; refuses, pruning being
+    /// prevented; or has room by removing it, where the store is full. It is put back.
+    TieRemoved,
+    TiePrevented,
+    TieRoom,
 }
 
 pub struct Three {
@@ -200,7 +205,7 @@ impl Three {
         }
         let changed = undo.map_or(0, |(which, at, _)| self.port.buffers.at(which, at));
         let port = self.port.exec(call, h, step.salt);
-        if let Some((which, at, old)) = undo {
+        if let Some((which, at, _)) = undo {
             // The change must stand as it was made; it is then taken back.
             let now = self.port.buffers.at(which, at);
             if now != changed {
@@ -251,21 +256,21 @@ impl Three {
         if alone {
             return Ok(Judged::ByModel);
         }
-        if let (Call::Ingest(e, token, prevent), Answer::Held) = (call, model) {
-            let (_, back) = self.rust.resend(e, token, *prevent)?;
-            return Ok(if *prevent { Judged::HeldPrevented } else if back { Judged::HeldBack } else { Judged::Held });
-        }
-        let rust = self.rust.exec(call);
-        if rust == *model {
-            return Ok(Judged::ByBoth);
-        }
-        match (call, &rust, model) {
-            (Call::Bent(_), Answer::Unlike, _) => Ok(Judged::SkippedArea),
-            (Call::Decode(..), Answer::Triple(..), Answer::Refused(5)) => Ok(Judged::SkippedRead),
-            (Call::Decode(true, _), Answer::Said(w), Answer::Refused(5)) if w == "unreached" => Ok(Judged::SkippedUnreached),
-            (Call::Decode(..), Answer::Said(w), Answer::Refused(5)) if w.starts_with("panic") && !w.contains("stand-in") => Ok(Judged::SkippedPanic),
-            _ => Err(format!("answers:\n  Rust  {rust:?}\n  model {model:?} (and the port)")),
-        }
+        let (rust, way) = self.rust.beside(call, model)?;
+        Ok(match (way, call, &rust, model) {
+            (Way::Tied(then), ..) if then != *model => return Err(format!("answers beside ties:\n  Rust  {rust:?}, with these put back {then:?}\n  model {model:?} (and the port)")),
+            (_, _, rust, model) if rust == model => Judged::ByBoth,
+            (Way::Held(_), _, Answer::Refused(_), _) => Judged::HeldPrevented,
+            (Way::Held(back), ..) => if back { Judged::HeldBack } else { Judged::Held },
+            (Way::Tied(_), _, Answer::Refused(_), _) => Judged::TiePrevented,
+            (Way::Tied(_), _, _, Answer::Refused(_)) => Judged::TieRoom,
+            (Way::Tied(_), ..) => Judged::TieRemoved,
+            (_, Call::Bent(_), Answer::Unlike, _) => Judged::SkippedArea,
+            (_, Call::Decode(..), Answer::Triple(..), Answer::Refused(5)) => Judged::SkippedRead,
+            (_, Call::Decode(true, _), Answer::Said(w), Answer::Refused(5)) if w == "unreached" => Judged::SkippedUnreached,
+            (_, Call::Decode(..), Answer::Said(w), Answer::Refused(5)) if w.starts_with("panic") && !w.contains("stand-in") => Judged::SkippedPanic,
+            _ => return Err(format!("answers:\n  Rust  {rust:?}\n  model {model:?} (and the port)")),
+        })
     }
     /// Everything that is kept between calls.
     fn same(&mut self) -> Result<(), String> {

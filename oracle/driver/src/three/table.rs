@@ -13,13 +13,15 @@ const CALLS: [&str; 19] = [
     "open", "ingest", "forget", "farea", "entry", "qarea", "qrange", "narea", "nrange", "count", "size", "aoi", "arange",
     "above", "order", "newer", "inarea", "inrange", "key",
 ];
-const ROWS: [&str; 83] = [
+const ROWS: [&str; 89] = [
     "taken", "taken, nothing pruned", "taken, one pruned", "taken, several pruned", "obsolete", "obsolete by its own path",
     "obsolete by a prefix", "done", "done, an entry forgotten", "done, nothing there", "refused 1", "refused 2", "refused 3",
     "refused 4", "refused 5", "refused 6", "refused 7", "refused 8", "refused 9", "refused 10", "tie: the longer is stored",
-    "tie: the shorter is stored", "held", "held, pruning prevented", "held by a full store", "held with another token",
-    "held beside a longer path that ties", "held beside a shorter path that ties", "held with an available length",
-    "resend with a wrong tally", "resend of another namespace", "stored but for its timestamp", "stored but for its digest",
+    "tie: the shorter is stored", "tied extension kept, nothing pruned", "tied extension kept, an older one pruned",
+    "taken with pruning prevented beside a tied extension", "refused 7 for an older one beside a tied extension",
+    "refused 8 beside a tied extension", "a later entry prunes two that tie", "held", "held, pruning prevented",
+    "held by a full store", "held with another token", "held beside a longer path that ties", "held beside a shorter path that ties",
+    "held with an available length", "resend with a wrong tally", "resend of another namespace", "stored but for its timestamp", "stored but for its digest",
     "stored but for its length", "stored but for its path, a tie", "prevented, nothing to prune", "ingestion into a full store",
     "ingestion into a full store of 1,024", "taken by a full store", "protected area", "protected area that saves",
     "both flags", "incomplete alone hides", "empty alone hides", "available length strictly between, in a query",
@@ -105,9 +107,6 @@ impl Table {
     }
     fn get(&self, row: &str) -> u64 {
         self.rows.iter().find(|r| r.0 == row).map_or(0, |r| r.1)
-    }
-    pub fn ties(&self) -> u64 {
-        self.get("tie: the longer is stored") + self.get("tie: the shorter is stored")
     }
     /// Every row, with those that never occurred.
     pub fn all(&self) -> Vec<(String, u64)> {
@@ -227,6 +226,17 @@ impl Table {
         let ties = |longer: bool| store.entries().iter().any(|x| x.entry.ties(e) && (x.entry.path.len() > e.path.len()) == longer);
         self.add("tie: the longer is stored", ties(true));
         self.add("tie: the shorter is stored", ties(false));
+        match answer {
+            Answer::Taken(pairs) if ties(true) => {
+                self.add(if pairs.is_empty() { "tied extension kept, nothing pruned" } else { "tied extension kept, an older one pruned" }, true);
+                self.add("taken with pruning prevented beside a tied extension", prevent);
+            }
+            Answer::Refused(7) => self.add("refused 7 for an older one beside a tied extension", ties(true)),
+            Answer::Refused(8) => self.add("refused 8 beside a tied extension", ties(true)),
+            _ => {}
+        }
+        let gone: Vec<&Entry> = store.entries().iter().map(|x| &x.entry).filter(|x| e.prunes(x)).collect();
+        self.add("a later entry prunes two that tie", matches!(answer, Answer::Taken(_)) && gone.iter().any(|x| gone.iter().any(|y| x.ties(y))));
         if let (Some(x), Answer::Held) = (store.entries().iter().find(|x| x.entry == *e), answer) {
             self.add("held", true);
             self.add("held, pruning prevented", prevent);

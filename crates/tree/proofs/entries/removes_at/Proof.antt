@@ -1,7 +1,7 @@
 -- `removes_at` meets its contract: by the address, then by the rank. Assumes nothing.
 use mathlib.Core.Path.{_≡_, ap}
-use mathlib.Core.Bool.{Bool, true, false, not}
-use Rattle.laws.specs.Order.{isGreater}
+use mathlib.Core.Bool.{Bool, true, false}
+use Rattle.laws.specs.Order.{isLess}
 use Rattle.layout.specs.Layout.{recordAt}
 use Rattle.data_model.specs.Path.{field}
 use Rattle.data_model.specs.Entry.{entryOf, rankOf, byRank}
@@ -46,22 +46,22 @@ enum-told-3 c = search needs
 abbrev start : tie.After-compare-with → tie.Start
 start c = c .before .before .before .before .before .before .before
 
-by-rank : (c : tie.After-compare-with) (g : Bool) → isGreater (byRank (rankAt (start c .args .order) (recordAt (start c .args .k) (start c .args .dir .now) (start c .args .tree .now))) (rankOf (start c .args .e))) ≡ g
-    → not g ≡ removes (entryOf (start c .args .e)) (stored (start c .args .order) field (start c .args .e .«namespace_id») (recordAt (start c .args .k) (start c .args .dir .now) (start c .args .tree .now)))
+by-rank : (c : tie.After-compare-with) (g : Bool) → isLess (byRank (rankAt (start c .args .order) (recordAt (start c .args .k) (start c .args .dir .now) (start c .args .tree .now))) (rankOf (start c .args .e))) ≡ g
+    → g ≡ removes (entryOf (start c .args .e)) (stored (start c .args .order) field (start c .args .e .«namespace_id») (recordAt (start c .args .k) (start c .args .dir .now) (start c .args .tree .now)))
 unfolding entryOf
 by-rank c g q = let p = start c in removes-rank (p .pre .0) (λ i. c .before .before .before .before .before .shared-slice-known2 .given i .fits) (p .args .e) (sized p) _ g q _ _ (p .pre .1) (c .before .before .before .address-at .ensures) (c .before .before .begins .ensures) (c .before .if1 .left)
 
 returns-2 : tie.Need-returns-2
-unfolding isGreater
-returns-2 c = by-rank (c .before .before) true (ap isGreater (ranked-newer _ _ (c .before .before .compare-with .ensures) (c .enum-told .given .1)))
+unfolding isLess
+returns-2 c = by-rank (c .before .before) false (ap isLess (ranked-newer _ _ (c .before .before .compare-with .ensures) (c .enum-told .given .1)))
 
 returns-3 : tie.Need-returns-3
-unfolding isGreater
-returns-3 c = by-rank (c .before .before) false (ap isGreater (ranked-older _ _ (c .before .before .compare-with .ensures) (c .enum-told2 .given .1)))
+unfolding isLess
+returns-3 c = by-rank (c .before .before) true (ap isLess (ranked-older _ _ (c .before .before .compare-with .ensures) (c .enum-told2 .given .1)))
 
 returns-4 : tie.Need-returns-4
-unfolding isGreater
-returns-4 c = by-rank (c .before .before) false (ap isGreater (ranked-same _ _ (c .before .before .compare-with .ensures) (c .enum-told3 .given .1)))
+unfolding isLess
+returns-4 c = by-rank (c .before .before) false (ap isLess (ranked-same _ _ (c .before .before .compare-with .ensures) (c .enum-told3 .given .1)))
 
 pub removes-at-spec : {M : Type 1} → statement M
 removes-at-spec =
