@@ -125,4 +125,7 @@ pub fn exhaust() {
     }
     println!("{n} sequences of up to 3 of {} ingests (limit 2), {} without a tie and {with_tie} with one, {bad} answers differ", set.len(), n - with_tie);
     println!("{held} resends, held, {back} of them put back in the Rust; what ties put back in the Rust after {removed} that are taken, and {room} that are refused with 8");
+    if bad > 0 {
+        std::process::exit(1)
+    }
 }
