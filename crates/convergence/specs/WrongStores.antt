@@ -179,15 +179,17 @@ flawed prunes-ties i s = makes (λ x h. record { spt = insert sptLess x (keptBy0
 flawed prunes-one-tree i s = makes (λ x h. record { spt = filedIn Spt x (h .spt); tsp = insert tspLess x (h .tsp) }) i s
 flawed in-order-of-arrival i s = makes (λ x h. record { spt = filedIn Spt x (h .spt); tsp = keep (stays (x .entry)) (h .tsp) ++ x ∷ [] }) i s
 
--- An entry filed in place of the same one that is stored. A store that is as ours, but that it does so with what it holds already: the token is the new one.
+-- An entry filed in place of the same entry that is stored, so that its token is the new one.
 abbrev pub renewed : Stored → Held → Held
 renewed x h = let l = without (repeats (x .entry)) h in record { spt = insert sptLess x (l .spt); tsp = insert tspLess x (l .tsp) }
 
+-- What is left where an entry that is held is filed so.
 unfoldable pub filesHeld : Tallied → Call → Outcome Tallied → Tallied
 filesHeld s (ingest i) o = ifHeld (o .verdict) (makes renewed i s) (o .left)
 filesHeld s (forget-entry p) o = o .left
 filesHeld s (forget-area a) o = o .left
 
+-- As ours, but that it files anew, with the token that now came, what it holds already.
 abbrev pub renewing : AStore
 renewing = leaving filesHeld
 
