@@ -1,6 +1,7 @@
 /* One call of the door, for a count of its instructions: `calls CALL ENTRIES MORE SUBSPACES` builds a store of so many entries, their paths with so
    many components of 16 bytes more, in so many subspaces by turns, and makes the call once in `measured`. `calls` alone names the calls. With one subspace the entries are
-   those of times.c. The call `again` files a stored entry once more: from edition 3 on it must be held. With VB_NO_TALLY it is for an archive of edition 1, whose calls take no tally. */
+   those of times.c. The call `again` files a stored entry once more: from edition 3 on it must be held. With VB_NO_TALLY it is for an archive of edition 1, whose calls take no tally;
+   with VB_NO_ARRIVALS for one up to edition 4, which has no call about available lengths: the last two are then left out. */
 #ifdef VB_NO_TALLY /* the header's declarations of these go to other names */
 #define vb_open tallied_open
 #define vb_ingest_entry tallied_ingest_entry
@@ -60,8 +61,12 @@ static vb_area area(void) {
     return a;
 }
 
-static const char *const calls[] = {"validation", "ingest_entry_numbers", "ingest_entry", "again", "newer", "forget_entry", "forget_area", "count_area of all", "count_area of one path", "entry", "query_area_place", "area_of_interest_to_range"};
-enum { CALLS = sizeof calls / sizeof *calls };
+static const char *const calls[] = {"validation", "ingest_entry_numbers", "ingest_entry", "again", "newer", "forget_entry", "forget_area", "count_area of all", "count_area of one path", "entry", "query_area_place", "area_of_interest_to_range",
+#ifndef VB_NO_ARRIVALS
+                                    "record_available_length", "forget_payload",
+#endif
+};
+enum { CALLS = sizeof calls / sizeof *calls, RECORD_LENGTH = 12, FORGET_PAYLOAD };
 
 /* Each call answers what `wanted` says, or the program ends with 1. */
 __attribute__((noinline)) static size_t measured(int call) {
@@ -82,8 +87,19 @@ __attribute__((noinline)) static size_t measured(int call) {
     case 8: return vb_count_area(state, READ, one).count;
     case 9: return vb_find_entry(state, READ, mid.subspace_id, mid.path, nothing).found;
     case 10: return vb_query_area_place(state, READ, all, nothing, entries / 2).place;
+#ifndef VB_NO_ARRIVALS
+    case RECORD_LENGTH: return vb_record_available_length(state, READ, mid.subspace_id, mid.path, 1, mid.payload_digest, 2).refusal;
+    case FORGET_PAYLOAD: return vb_forget_payload(state, READ, mid.subspace_id, mid.path, 1, mid.payload_digest).refusal;
+#endif
     default: return vb_area_of_interest_to_range(state, READ, quarter).range.times.start;
     }
+}
+
+/* How much of the payload of the entry in the middle is there. */
+static uint64_t available(void) {
+    vb_entry mid = entry(entries / 2);
+    vb_ignore nothing = {0, 0};
+    return vb_find_entry(state, READ, mid.subspace_id, mid.path, nothing).lengthy.available;
 }
 
 int main(int argc, char **argv) {
@@ -105,7 +121,13 @@ int main(int argc, char **argv) {
     }
     vb_entry first = entry(0);
     if (call == 1 || call == 2) state = vb_forget_entry(state, STORE, first.subspace_id, first.path, 0, first.payload_digest).state;
-    const size_t wanted[CALLS] = {4, entries, entries, entries, 1, entries - 1, entries / 2, entries, 1, 1, entries / 2, 101};
+#ifndef VB_NO_ARRIVALS
+    vb_entry mid = entry(entries / 2);
+    if (call == FORGET_PAYLOAD && vb_record_available_length(state, READ, mid.subspace_id, mid.path, 0, token, 3).refusal) return 1;
+    if (available() != (call == FORGET_PAYLOAD ? 3 : 0)) return 1;
+#endif
+    const size_t wanted[] = {4, entries, entries, entries, 1, entries - 1, entries / 2, entries, 1, 1, entries / 2, 101, 0, 0};
     if (measured(call) != wanted[call]) return 1;
+    if (call >= RECORD_LENGTH && available() != (call == FORGET_PAYLOAD ? 0 : 2)) return 1;
     return call == 3 && vb_edition() > 2 && !vb_ingest_entry(state, STORE, prune, entries, entry(entries / 2), token, 0).held;
 }

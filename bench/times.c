@@ -1,6 +1,6 @@
 /* Times the store's calls through the door, beside memcmp and memmove of the same bytes. The validation of a store is vb_count_area with an illegal path:
    it is refused with 4 once 1, 2 and 3 have been ruled out. Microseconds, the best of 200 rounds: the noise of a shared machine only adds. With an
-   argument, so many rounds. */
+   argument, so many rounds. With VB_NO_ARRIVALS for an archive up to edition 4, which has no call about available lengths: these are then 0. */
 #define _POSIX_C_SOURCE 199309L
 #include "virebony.h"
 #include <stdbool.h>
@@ -28,14 +28,16 @@ static double now(void) {
     return t.tv_sec * 1e6 + t.tv_nsec / 1e3;
 }
 
-/* Entry n: a component of 4 bytes that ascend with n, `more` components of 16, one of two times. */
+static size_t subspaces;
+
+/* Entry n: a component of 4 bytes that ascend with n, `more` components of 16, one of two times, in one of so many subspaces. */
 static vb_entry entry(uint64_t n, int more) {
     vb_entry e;
     memset(&e, 0, sizeof e);
     for (int i = 0; i < 4; i++) e.path.bytes[i] = 1 + (n >> (7 * (3 - i)) & 127);
     memset(e.path.bytes + 4, 0xaa, 16 * more);
     for (int i = 0; i <= more; i++) e.path.ends[i] = 4 + 16 * i;
-    e.path.count = more + 1, e.timestamp = 100 + n % 2, e.payload_length = 3;
+    e.path.count = more + 1, e.timestamp = 100 + n % 2, e.payload_length = 3, e.subspace_id.low = n % subspaces;
     memset(e.payload_digest, 10, 32);
     return e;
 }
@@ -114,17 +116,32 @@ static void times(size_t n, int more) {
     must("a step", sink, n / 2);
     BEST(interest, , sink = vb_area_of_interest_to_range(store.state, READ, quarter).range.times.start)
     must("an interest", sink, 101);
+    double record = 0, unrecord = 0;
+#ifndef VB_NO_ARRIVALS
+    BEST(recording, , sink = vb_record_available_length(store.state, READ, mid.subspace_id, mid.path, 1, mid.payload_digest, 2).refusal)
+    must("a recording", sink, 0);
+    must("what was recorded", vb_find_entry(store.state, READ, mid.subspace_id, mid.path, nothing).lengthy.available, 2);
+    BEST(unrecording, sink = vb_record_available_length(store.state, READ, mid.subspace_id, mid.path, 1, mid.payload_digest, 3).refusal,
+         sink |= vb_forget_payload(store.state, READ, mid.subspace_id, mid.path, 1, mid.payload_digest).refusal)
+    must("a payload's forgetting", sink, 0);
+    must("what is left", vb_find_entry(store.state, READ, mid.subspace_id, mid.path, nothing).lengthy.available, 0);
+    record = recording, unrecord = unrecording;
+#endif
     BEST(move, , memmove(store.tree[0], store.tree[0] + 144, used))
-    printf("| %zu | %u | %.1f | %.1f | %.1f | %.1f | %.1f | %.1f | %.1f | %.1f | %.1f | %.1f | %.1f |\n", n, full.dir[0][1], check, cmp, in, again, forget, area, count, small, step, interest, move);
+    printf("| %zu | %zu | %u | %.1f | %.1f | %.1f | %.1f | %.1f | %.1f | %.1f | %.1f | %.1f | %.1f | %.1f | %.1f | %.1f |\n", n, subspaces, full.dir[0][1], check, cmp, in, again, forget, area, count, small,
+           step, interest, record, unrecord, move);
 }
 
 int main(int argc, char **argv) {
     static const size_t sizes[] = {64, 256, 1024};
     if (argc > 1) rounds = atoi(argv[1]);
     says_held = vb_edition() > 2;
-    puts("| entries | bytes a record | validation | memcmp | ingest | again | forget entry | forget half | count all | count one | step | interest | memmove of a tree |");
-    puts("|---|---|---|---|---|---|---|---|---|---|---|---|---|");
-    for (int more = 0; more <= 7; more += 7)
-        for (int i = 0; i < 3; i++) times(sizes[i], more);
+    puts("| entries | subspaces | bytes a record | validation | memcmp | ingest | again | forget entry | forget half | count all | count one | step | interest | record | forget payload | memmove of a tree |");
+    puts("|---|---|---|---|---|---|---|---|---|---|---|---|---|---|---|---|");
+    static const struct { int more; size_t subspaces; } kinds[] = {{0, 1}, {7, 1}, {0, 16}};
+    for (int kind = 0; kind < 3; kind++) {
+        subspaces = kinds[kind].subspaces;
+        for (int i = 0; i < 3; i++) times(sizes[i], kinds[kind].more);
+    }
     return 0;
 }

@@ -1,4 +1,5 @@
-/* Opens a store, files five readings and the last of them again, lists what it then holds, asks the tally for a recorder's, and drops an area. Build: cc example.c libvirebony.a */
+/* Opens a store, files five readings and the last of them again, records how much of two photographs has arrived, lists what the store then holds and what of it
+   is all there, asks the tally for a recorder's, and drops an area. Build: cc example.c libvirebony.a */
 #include "virebony.h"
 #include <stdio.h>
 #include <string.h>
@@ -55,6 +56,21 @@ static void print_recorder(uint64_t low, size_t count) {
     else printf("recorder %llu has %u, the newest at %llu\n", (unsigned long long)low, (unsigned)number(item + 16, 4), (unsigned long long)number(item + 20, 8));
 }
 
+/* The entries of an area, but for those that `ignore` passes over: where each record lies, and how much of the payload is there (the value's last 8 bytes). */
+static void list(vb_state state, vb_area area, vb_ignore ignore) {
+    for (size_t place = 0;; place++) {
+        vb_listed l = vb_query_area_place(state, READ, area, ignore, place);
+        if (l.refusal || !l.found) break;
+        place = l.place;
+        vb_part r = vb_query_area(state, READ, area, ignore, place);
+        vb_decoded d = vb_decode_spt_entry_key(spt + r.offset, r.length - VB_VALUE);
+        printf("%zu: ", place);
+        print_path(d.path);
+        printf(" at %llu, %zu bytes from %zu on, %llu of the payload's\n", (unsigned long long)d.timestamp, r.length, r.offset,
+               (unsigned long long)number(spt + r.offset + r.length - 8, 8));
+    }
+}
+
 int main(void) {
     static const char *const paths[] = {"ward/3/ann", "ward/3/bob", "ward/4", "ward/3", "ward/3/ann", "ward/3/ann"};
     const uint8_t namespace_id[16] = {1}, token[64] = {7};
@@ -68,24 +84,26 @@ int main(void) {
         e.path = path_of(paths[i]);
         e.timestamp = 100 + (i < 5 ? i : 4);
         e.subspace_id.low = 9; /* the recorder */
+        e.payload_length = 5000;
         vb_ingested r = vb_ingest_entry(state, STORE, pruned, LIMIT, e, token, 0);
         printf("%s: %s, %zu pruned\n", paths[i], r.refusal ? vb_refusal_text(r.refusal) : r.obsolete ? "obsolete" : r.held ? "held already" : "taken", r.pruned);
+        state = r.state;
+    }
+    static const struct { const char *path; uint64_t bytes; } arrived[] = {{"ward/3", 1200}, {"ward/4", 5000}, {"ward", 5000}, {"ward/4", 5001}};
+    const vb_subspace recorder = {0, 9};
+    const uint8_t digest[32] = {0};
+    for (int i = 0; i < 4; i++) { /* no entry stands at the third, and the last is too much; the tally is not lent */
+        vb_available_recorded r = vb_record_available_length(state, READ, recorder, path_of(arrived[i].path), 1, digest, arrived[i].bytes);
+        printf("%s, %llu bytes: %s\n", arrived[i].path, (unsigned long long)arrived[i].bytes, r.refusal ? vb_refusal_text(r.refusal) : "recorded");
         state = r.state;
     }
     vb_area all;
     memset(&all, 0, sizeof all); /* the empty path prefixes every path */
     all.any_subspace = all.times.open = 1;
-    const vb_ignore none = {0, 0};
-    for (size_t place = 0;; place++) {
-        vb_listed l = vb_query_area_place(state, READ, all, none, place);
-        if (l.refusal || !l.found) break;
-        place = l.place;
-        vb_part r = vb_query_area(state, READ, all, none, place);
-        vb_decoded d = vb_decode_spt_entry_key(spt + r.offset, r.length - VB_VALUE);
-        printf("%zu: ", place);
-        print_path(d.path);
-        printf(" at %llu, %zu bytes from %zu on\n", (unsigned long long)d.timestamp, r.length, r.offset);
-    }
+    const vb_ignore none = {0, 0}, incomplete = {1, 0};
+    list(state, all, none);
+    puts("all there:");
+    list(state, all, incomplete);
     print_recorder(8, state.count);
     print_recorder(9, state.count);
     all.path = path_of("ward/3");

@@ -1,6 +1,6 @@
 /* Values that no line of text can say, and refusal 4 of every call of the keys' layer that takes a path, with answers written by hand from document 01:
    garbage behind a path's count and total, ends that make no path, open ends with a path that is none, ranges that end before they start, key
-   buffers one byte short. It prints how many answers were compared; the first wrong one is shown and ends it. */
+   buffers one byte short; and such values where an available length is recorded or forgotten, from document 02's U4. It prints how many answers were compared; the first wrong one is shown and ends it. */
 #include "virebony.h"
 #include <stdio.h>
 #include <stdlib.h>
@@ -207,12 +207,85 @@ static void written(size_t bytes, vb_path p, int refusal, size_t length) {
     }
 }
 
+/* One entry, at the empty path, of payload length 3, in a store of one: its record has 26 + 112 bytes. */
+static uint8_t spt[VB_RECORD_MOST], tsp[VB_RECORD_MOST], tally[VB_ITEM];
+static uint32_t spt_dir[2], tsp_dir[2];
+#define TREES spt, sizeof spt, spt_dir, 2, tsp, sizeof tsp, tsp_dir, 2
+
+/* Both calls: what they answer, that the state is the one handed in, and the available length in either tree afterwards. */
+static void recorded(vb_state s, vb_path p, uint8_t expects, const uint8_t *digest, uint64_t available, uint8_t refusal, uint8_t after) {
+    vb_available_recorded r = vb_record_available_length(s, TREES, subspace(0, 5), p, expects, digest, available);
+    IS(r.refusal, refusal);
+    IS(memcmp(r.state.namespace_id, s.namespace_id, 16), 0);
+    IS(r.state.count, s.count);
+    IS(r.state.limit, s.limit);
+    IS(spt[137], after);
+    IS(tsp[137], after);
+}
+
+static void forgotten(vb_state s, vb_path p, uint8_t expects, const uint8_t *digest, uint8_t refusal, uint8_t after) {
+    vb_available_recorded r = vb_forget_payload(s, TREES, subspace(0, 5), p, expects, digest);
+    IS(r.refusal, refusal);
+    IS(memcmp(r.state.namespace_id, s.namespace_id, 16), 0);
+    IS(r.state.count, s.count);
+    IS(r.state.limit, s.limit);
+    IS(spt[137], after);
+    IS(tsp[137], after);
+}
+
+/* Garbage behind the path, digests that play no part, every byte but 0 as yes, paths that are none, lengths up to the greatest. */
+static void arrivals(void) {
+    const uint8_t namespace_id[16] = {9, 8}, token[64] = {7};
+    uint8_t right[32], wrong[32];
+    vb_pair pruned[1];
+    vb_entry e;
+    memset(right, 3, 32), memset(wrong, 3, 32), wrong[31] = 2;
+    memset(&e, 0, sizeof e), memcpy(e.namespace_id, namespace_id, 16), memcpy(e.payload_digest, right, 32);
+    e.subspace_id = subspace(0, 5), e.path = garbage(), e.timestamp = 6, e.payload_length = 3;
+    vb_state s = vb_open(namespace_id, 1, TREES, tally, sizeof tally).state;
+    vb_ingested r = vb_ingest_entry(s, TREES, tally, sizeof tally, pruned, 1, e, token, 0);
+    IS(r.refusal | r.obsolete | r.held, 0);
+    s = r.state;
+    IS(spt_dir[1], 138);
+    for (int yes = 1; yes < 256; yes++) {
+        recorded(s, garbage(), (uint8_t)yes, right, 2, 0, 2);
+        recorded(s, garbage(), (uint8_t)yes, wrong, 1, 9, 2);
+        recorded(s, empty(), (uint8_t)yes, wrong, UINT64_MAX, 9, 2);
+        forgotten(s, garbage(), (uint8_t)yes, wrong, 9, 2);
+        forgotten(s, garbage(), (uint8_t)yes, right, 0, 0);
+    }
+    recorded(s, garbage(), 0, wrong, 3, 0, 3);
+    static const uint64_t too_much[] = {4, 255, 256, UINT64_C(1) << 32, UINT64_C(1) << 63, UINT64_MAX - 1, UINT64_MAX};
+    for (int i = 0; i < 7; i++) recorded(s, empty(), 0, wrong, too_much[i], 12, 3), recorded(s, garbage(), 1, right, too_much[i], 12, 3);
+    for (int i = 0; i < ILLEGAL; i++) {
+        recorded(s, illegal(i), 1, wrong, UINT64_MAX, 4, 3);
+        forgotten(s, illegal(i), 0, right, 4, 3);
+    }
+    recorded(s, odd(1, 0, 255, 255), 1, wrong, UINT64_MAX, 11, 3); /* a path of one empty component is not the empty path */
+    forgotten(s, odd(1, 0, 255, 255), 0, right, 11, 3);
+    vb_state other = s;
+    other.namespace_id[0] = 1; /* neither call looks at the namespace, and both answer it */
+    recorded(other, empty(), 1, right, 1, 0, 1);
+    other.limit = 0;
+    recorded(other, illegal(0), 1, wrong, UINT64_MAX, 1, 1), forgotten(other, illegal(0), 1, wrong, 1, 1);
+    other.limit = SIZE_MAX;
+    recorded(other, empty(), 0, right, 0, 1, 1), forgotten(other, empty(), 0, right, 1, 1);
+    other.limit = 2;
+    recorded(other, illegal(0), 1, wrong, UINT64_MAX, 2, 1), forgotten(other, illegal(0), 1, wrong, 2, 1);
+    other.limit = 1, other.count = 0;
+    recorded(other, illegal(0), 1, wrong, UINT64_MAX, 3, 1), forgotten(other, illegal(0), 1, wrong, 3, 1);
+    other.count = SIZE_MAX;
+    recorded(other, empty(), 0, right, 0, 3, 1), forgotten(other, empty(), 0, right, 3, 1);
+    forgotten(s, garbage(), 0, wrong, 0, 0), forgotten(s, empty(), 255, right, 0, 0);
+}
+
 int main(void) {
     legality();
     relations();
     for (int i = 0; i < ILLEGAL; i++) refusal_four(illegal(i));
     ranges();
     areas();
+    arrivals();
     written(1, empty(), 2, 0);
     written(297, empty(), 2, 0);
     written(298, empty(), 0, 26);

@@ -1,4 +1,4 @@
-/* Every call of the door with answers written by hand from document 01, on buffers that are as long as asked and no longer. It prints how many values
+/* Every call of the door with answers written by hand from documents 01 and 02, on buffers that are as long as asked and no longer. It prints how many values
    were compared; the first wrong one is shown and ends it. */
 #include "virebony.h"
 #include <stdio.h>
@@ -479,6 +479,10 @@ static void openings(void) {
     IS(vb_open(namespace_id, 4, STORE(&k)).refusal, 2);
     IS(vb_open(namespace_id, 1, NULL, 0, NULL, 0, NULL, 0, NULL, 0, NULL, 0).refusal, 2);
     IS(vb_open(namespace_id, 3, READ(&k), k.tally, VB_ITEM * 3 - 1).refusal, 2);
+    vb_state none;
+    memset(&none, 0, sizeof none), none.limit = 1;
+    IS(vb_record_available_length(none, NULL, 0, NULL, 0, NULL, 0, NULL, 0, subspace(1), path("61"), 0, token, 0).refusal, 2);
+    IS(vb_forget_payload(none, NULL, 0, NULL, 0, NULL, 0, NULL, 0, subspace(1), path("61"), 0, token).refusal, 2);
     k.spt[VB_RECORD_MOST * 2] = k.tally[VB_ITEM * 2] = 9;
     vb_opened o = vb_open(namespace_id, 2, STORE(&k)); /* what lies beyond the limit's room stays */
     IS(o.refusal, 0);
@@ -506,6 +510,10 @@ static void openings(void) {
         IS(vb_ingest_entry_by_value(s, STORE(&k), by_value, e, token, 0).ingested.refusal, want);
         IS(vb_forget_entry(s, STORE(&k), subspace(1), path("61"), 0, digest).refusal, want);
         IS(vb_forget_area(s, STORE(&k), all, 0, all).refusal, want);
+        IS(vb_record_available_length(s, READ(&k), subspace(1), illegal(0), 1, digest, UINT64_MAX).refusal, want);
+        IS(vb_record_available_length(s, READ(&k), subspace(1), illegal(0), 1, digest, UINT64_MAX).state.count, s.count);
+        IS(vb_forget_payload(s, READ(&k), subspace(1), illegal(0), 1, digest).refusal, want);
+        IS(vb_forget_payload(s, READ(&k), subspace(1), illegal(0), 1, digest).state.limit, s.limit);
         IS(vb_find_entry(s, READ(&k), subspace(1), path("61"), ignore(0, 0)).refusal, want);
         IS(vb_query_area_place(s, READ(&k), all, ignore(0, 0), 0).refusal, want);
         IS(vb_query_area(s, READ(&k), all, ignore(0, 0), 0).length, 0);
@@ -531,6 +539,10 @@ static void openings(void) {
     IS(vb_forget_area(o.state, STORE(&k), all, 1, bad).refusal, 4);
     IS(vb_forget_area(o.state, STORE(&k), bad, 0, all).refusal, 4);
     IS(vb_forget_area(o.state, STORE(&k), all, 0, bad).refusal, 0);
+    IS(vb_record_available_length(o.state, READ(&k), subspace(1), illegal(4), 1, digest, UINT64_MAX).refusal, 4);
+    IS(vb_forget_payload(o.state, READ(&k), subspace(1), illegal(4), 1, digest).refusal, 4);
+    IS(vb_record_available_length(o.state, READ(&k), subspace(1), path("61"), 1, digest, UINT64_MAX).refusal, 11); /* of a store without entries */
+    IS(vb_forget_payload(o.state, READ(&k), subspace(1), path("61"), 1, digest).refusal, 11);
     IS(vb_find_entry(o.state, READ(&k), subspace(1), illegal(3), ignore(0, 0)).refusal, 4);
     IS(vb_query_area_place(o.state, READ(&k), bad, ignore(0, 0), SIZE_MAX).refusal, 4);
     IS(vb_query_range_place(o.state, READ(&k), descends, ignore(0, 0), 0).refusal, 4);
@@ -978,11 +990,138 @@ static void wrong_tallies(void) {
     drop(&k);
 }
 
+/* A recording, or with `forgets` a forgetting of what was recorded: its refusal, and that the state is the one handed in. Without a digest none is expected. */
+static uint8_t arrived(kept *k, int forgets, uint64_t in, vb_path p, int digest, uint64_t available) {
+    uint8_t expected[32];
+    memset(expected, digest < 0 ? 0xab : digest, 32);
+    const uint8_t expects = digest < 0 ? 0 : 200;
+    vb_available_recorded r = forgets ? vb_forget_payload(k->state, READ(k), subspace(in), p, expects, expected)
+                                      : vb_record_available_length(k->state, READ(k), subspace(in), p, expects, expected, available);
+    IS(memcmp(r.state.namespace_id, k->state.namespace_id, 16), 0);
+    IS(r.state.count, k->state.count);
+    IS(r.state.limit, k->state.limit);
+    return r.refusal;
+}
+
+static uint64_t available(const kept *k, uint64_t in, const char *hex) {
+    vb_entry_found f = vb_find_entry(k->state, READ(k), subspace(in), path(hex), ignore(0, 0));
+    IS(f.refusal, 0);
+    IS(f.found, 1);
+    return f.lengthy.available;
+}
+
+/* How much has arrived. [61] at 5 and [61][62] at 6 in subspace 1, [61] in subspace 2, of payload lengths 3, 0 and the greatest: records of 141, 144 and 141 bytes,
+   in the subspace-first tree from 0, 141 and 285 on, in the time-first tree by their times 5, 6 and 4 from 141, 282 and 0 on. */
+static void arrivals(void) {
+    kept k = store_of(4);
+    IS(ingest(&k, entry(1, "61", 5, 3, 9), 0).refusal, 0);
+    IS(ingest(&k, entry(1, "61/62", 6, 0, 9), 0).refusal, 0);
+    IS(ingest(&k, entry(2, "61", 4, UINT64_MAX, 9), 0).refusal, 0);
+    IS(k.state.count, 3);
+    kept filed = copy_of(&k);
+
+    static const struct { int digest; uint8_t available; } asks[] = {{-1, 3}, {9, 1}, {-1, 1}, {9, 0}, {9, 2}};
+    for (int i = 0; i < 5; i++) { /* the last byte of the record in either tree, and no other */
+        IS(arrived(&k, 0, 1, path("61"), asks[i].digest, asks[i].available), 0);
+        IS(k.spt[140], asks[i].available);
+        IS(k.tsp[281], asks[i].available);
+        IS(available(&k, 1, "61"), asks[i].available);
+        kept want = copy_of(&filed);
+        want.spt[140] = want.tsp[281] = asks[i].available;
+        unchanged(&k, &want);
+        drop(&want);
+    }
+    IS(arrived(&k, 1, 1, path("61"), 9, 0), 0);
+    unchanged(&k, &filed);
+    IS(arrived(&k, 1, 1, path("61"), -1, 0), 0); /* nothing has arrived: done all the same */
+    unchanged(&k, &filed);
+    IS(arrived(&k, 0, 2, path("61"), -1, UINT64_C(0x0102030405060708)), 0);
+    for (int i = 0; i < 8; i++) {
+        IS(k.spt[285 + 141 - 8 + i], i + 1);
+        IS(k.tsp[141 - 8 + i], i + 1);
+    }
+    IS(arrived(&k, 0, 2, path("61"), 9, UINT64_MAX), 0);
+    IS(available(&k, 2, "61"), UINT64_MAX);
+    IS(arrived(&k, 0, 1, path("61/62"), 9, 0), 0); /* 0 of 0 */
+
+    IS(arrived(&k, 0, 1, path("61"), -1, 2), 0);
+    kept before = copy_of(&k); /* refusals, in checking order: 4, 11, 9, 12 */
+    static const struct { uint64_t in; const char *path; } absent[] = {{1, ""}, {1, "61/62/63"}, {1, "6162"}, {1, "61/."}, {2, "61/62"}, {3, "61"}, {0, "61"}};
+    for (int digest = -1; digest < 10; digest += digest < 0 ? 9 : 1)
+        for (int forgets = 0; forgets < 2; forgets++) {
+            for (int i = 0; i < 7; i++) {
+                IS(arrived(&k, forgets, absent[i].in, path(absent[i].path), digest, 0), VB_ABSENT_ENTRY);
+                IS(arrived(&k, forgets, absent[i].in, path(absent[i].path), digest, UINT64_MAX), VB_ABSENT_ENTRY);
+            }
+            for (int i = 0; i < 5; i++) IS(arrived(&k, forgets, 1 + 8 * (i % 2), illegal(i), digest, UINT64_MAX), VB_ILLEGAL_PATH);
+        }
+    static const uint64_t lengths[] = {0, 3, 4, UINT64_MAX};
+    for (int i = 0; i < 4; i++) {
+        IS(arrived(&k, 0, 1, path("61"), 8, lengths[i]), VB_OTHER_DIGEST);
+        IS(arrived(&k, 1, 1, path("61"), 8, lengths[i]), VB_OTHER_DIGEST);
+        IS(arrived(&k, 0, 1, path("61/62"), 8, lengths[i]), VB_OTHER_DIGEST);
+        if (i >= 2) IS(arrived(&k, 0, 1, path("61"), 9, lengths[i]), VB_TOO_MUCH_AVAILABLE);
+        if (i >= 2) IS(arrived(&k, 0, 1, path("61"), -1, lengths[i]), VB_TOO_MUCH_AVAILABLE);
+        if (i >= 1) IS(arrived(&k, 0, 1, path("61/62"), 9, lengths[i]), VB_TOO_MUCH_AVAILABLE);
+    }
+    IS(arrived(&k, 0, 1, path("61/62"), -1, 1), VB_TOO_MUCH_AVAILABLE);
+    unchanged(&k, &before);
+    drop(&before);
+    uint8_t digest[32];
+    memset(digest, 8, 32);
+    IS(vb_forget_entry(k.state, STORE(&k), subspace(3), path("61"), 1, digest).refusal, 0); /* forgetting an absent entry is done, as before */
+
+    const vb_area all = area(1, 0, path(""), times(0, 0, 1)); /* the flag goes by what was recorded */
+    IS(vb_query_area_place(k.state, READ(&k), all, ignore(1, 0), 0).place, 1);
+    IS(arrived(&k, 0, 1, path("61"), -1, 3), 0);
+    IS(vb_query_area_place(k.state, READ(&k), all, ignore(1, 0), 0).place, 0);
+    IS(vb_query_range_place(k.state, READ(&k), range(path(""), path(""), 1), ignore(1, 0), 0).found, 1);
+    IS(vb_query_area_place(k.state, READ(&k), all, ignore(1, 0), 2).place, 2);
+    IS(vb_find_entry(k.state, READ(&k), subspace(1), path("61"), ignore(1, 0)).found, 1);
+    IS(arrived(&k, 0, 1, path("61"), -1, 2), 0);
+    IS(vb_find_entry(k.state, READ(&k), subspace(1), path("61"), ignore(1, 0)).found, 0);
+    IS(vb_count_area(k.state, READ(&k), all).count, 3);
+
+    k.tally[27] ^= 1; /* the tally is not lent, right or wrong */
+    IS(arrived(&k, 0, 1, path("61"), 9, 1), 0);
+    IS(arrived(&k, 1, 1, path("61"), 9, 0), 0);
+    k.tally[27] ^= 1;
+    IS(arrived(&k, 0, 1, path("61"), 9, 2), 0);
+    IS(ingest(&k, entry(1, "61", 5, 3, 9), 0).held, 1); /* a resend keeps what there is */
+    IS(available(&k, 1, "61"), 2);
+    IS(ingest(&k, entry(1, "61", 5, 4, 9), 0).pruned, 1); /* another entry at the place starts at 0 */
+    IS(available(&k, 1, "61"), 0);
+    IS(arrived(&k, 0, 1, path("61"), 9, 4), 0);
+    k.state = vb_forget_entry(k.state, STORE(&k), subspace(1), path("61"), 0, digest).state;
+    IS(arrived(&k, 0, 1, path("61"), -1, 4), VB_ABSENT_ENTRY);
+    IS(ingest(&k, entry(1, "61", 5, 4, 9), 0).refusal, 0); /* forgotten and filed again: 0 */
+    IS(available(&k, 1, "61"), 0);
+
+    const uint32_t record = k.spt_dir[0] + k.spt_dir[1] - 1;
+    k.spt[record] = 1; /* in one tree only: no store */
+    IS(arrived(&k, 0, 9, illegal(0), 8, UINT64_MAX), VB_NOT_WELL_FORMED);
+    IS(arrived(&k, 1, 1, path("61"), 9, 0), VB_NOT_WELL_FORMED);
+    IS(k.spt[record], 1);
+    k.spt[record] = 0;
+    for (int which = 0; which < 4; which++) /* a tree a byte too short, or a directory a number */
+        for (int forgets = 0; forgets < 2; forgets++) {
+            const size_t tree[2] = {VB_RECORD_MOST * k.limit - (which == 0), VB_RECORD_MOST * k.limit - (which == 2)};
+            const size_t dir[2] = {2 * k.limit - (which == 1), 2 * k.limit - (which == 3)};
+            vb_available_recorded r = forgets ? vb_forget_payload(k.state, k.spt, tree[0], k.spt_dir, dir[0], k.tsp, tree[1], k.tsp_dir, dir[1], subspace(1), illegal(0), 1, digest)
+                : vb_record_available_length(k.state, k.spt, tree[0], k.spt_dir, dir[0], k.tsp, tree[1], k.tsp_dir, dir[1], subspace(1), illegal(0), 1, digest, UINT64_MAX);
+            IS(r.refusal, VB_SHORT_BUFFER);
+            IS(r.state.count, k.state.count);
+        }
+    IS(arrived(&k, 0, 1, path("61"), 9, 4), 0);
+    drop(&filed);
+    drop(&k);
+}
+
 int main(void) {
     memset(token, 0x42, sizeof token);
     IS(vb_edition(), VB_EDITION);
-    for (unsigned n = 0; n < 11; n++) IS(strcmp(vb_refusal_text(n), "unknown") != 0, 1);
-    IS(strcmp(vb_refusal_text(11), "unknown"), 0);
+    for (unsigned n = 0; n < 13; n++) IS(strcmp(vb_refusal_text(n), "unknown") != 0, 1);
+    IS(strcmp(vb_refusal_text(13), "unknown"), 0);
     paths();
     entries();
     areas_and_ranges();
@@ -995,6 +1134,7 @@ int main(void) {
     ties();
     resends();
     wrong_tallies();
+    arrivals();
     printf("%u comparisons with answers written by hand\n", compared);
     return 0;
 }

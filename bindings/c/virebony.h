@@ -28,8 +28,9 @@ extern "C" {
 
 /* The edition of this header. 2 brought the tally; 3 brought `held`, and vb_entry_compare in place of vb_entry_is_newer_than; with 4 an ingestion removes
    older entries only, and no longer those of equal rank. A program of edition 2 would take an entry that is held for one that was taken; one of edition 3
-   would take it that an entry of equal rank below a new one is gone. */
-#define VB_EDITION 4
+   would take it that an entry of equal rank below a new one is gone. 5 brought how much of a payload has arrived: vb_record_available_length and
+   vb_forget_payload, with the refusals 11 and 12; no call of edition 4 answers otherwise. */
+#define VB_EDITION 5
 
 enum {
     VB_LIMIT_MOST = 1024, /* entries that a store may be opened for */
@@ -44,17 +45,19 @@ enum {
 
 /* Why a call was refused. */
 enum {
-    VB_DONE = 0,              /* It was not. An entry that is handed in may still be obsolete, or held: see vb_ingested. */
-    VB_BAD_LIMIT = 1,         /* The limit is not 1 to 1024. */
-    VB_SHORT_BUFFER = 2,      /* A lent buffer is shorter than the limit asks, or a key's buffer than 298 bytes. */
-    VB_NOT_WELL_FORMED = 3,   /* The state and the buffers are not a well-formed store. */
-    VB_ILLEGAL_PATH = 4,      /* A path has over 8 components, a component over 64 bytes, over 128 bytes in all, or ends that descend. */
-    VB_NO_KEY = 5,            /* The bytes are a key that no encoder writes. */
-    VB_OTHER_NAMESPACE = 6,   /* The entry names another namespace than the store's. */
-    VB_PRUNING_PREVENTED = 7, /* Pruning is prevented, and an entry would be removed. */
-    VB_FULL = 8,              /* The entries that would be left already number the limit. */
-    VB_OTHER_DIGEST = 9,      /* The stored entry's digest is not the one expected. */
-    VB_WRONG_TALLY = 10       /* The tally is not the one that the store gives. */
+    VB_DONE = 0,               /* It was not. An entry that is handed in may still be obsolete, or held: see vb_ingested. */
+    VB_BAD_LIMIT = 1,          /* The limit is not 1 to 1024. */
+    VB_SHORT_BUFFER = 2,       /* A lent buffer is shorter than the limit asks, or a key's buffer than 298 bytes. */
+    VB_NOT_WELL_FORMED = 3,    /* The state and the buffers are not a well-formed store. */
+    VB_ILLEGAL_PATH = 4,       /* A path has over 8 components, a component over 64 bytes, over 128 bytes in all, or ends that descend. */
+    VB_NO_KEY = 5,             /* The bytes are a key that no encoder writes. */
+    VB_OTHER_NAMESPACE = 6,    /* The entry names another namespace than the store's. */
+    VB_PRUNING_PREVENTED = 7,  /* Pruning is prevented, and an entry would be removed. */
+    VB_FULL = 8,               /* The entries that would be left already number the limit. */
+    VB_OTHER_DIGEST = 9,       /* The stored entry's digest is not the one expected. */
+    VB_WRONG_TALLY = 10,       /* The tally is not the one that the store gives. */
+    VB_ABSENT_ENTRY = 11,      /* No entry stands at the subspace and path. */
+    VB_TOO_MUCH_AVAILABLE = 12 /* The available length is above the payload length. */
 };
 
 /* What a refusal means, in a sentence; for a number that is none of them, "unknown". */
@@ -71,6 +74,8 @@ static inline const char *vb_refusal_text(unsigned refusal) {
     case VB_FULL: return "the store is full";
     case VB_OTHER_DIGEST: return "the stored entry's digest is not the one expected";
     case VB_WRONG_TALLY: return "the tally is not the one that the store gives";
+    case VB_ABSENT_ENTRY: return "no entry stands at the subspace and path";
+    case VB_TOO_MUCH_AVAILABLE: return "the available length is above the payload length";
     default: return "unknown";
     }
 }
@@ -104,7 +109,8 @@ typedef struct { vb_subspaces subspaces; vb_paths paths; vb_times times; } vb_ra
 /* What is asked for of an area: its newest entries, at most so many, and so many bytes of payload; UINT64_MAX means no limit. */
 typedef struct { vb_area area; uint64_t max_count, max_size; } vb_interest;
 
-/* Which entries a query passes over: those whose payload is not all there, those of an empty payload. */
+/* Which entries a query passes over: those whose payload is not all there, their available length being another than their payload length; those of an
+   empty payload, whose length is 0. */
 typedef struct { uint8_t incomplete_payloads, empty_payloads; } vb_ignore;
 
 /* Kept by you from one call to the next, beside the buffers; hand in the one that the last call answered. */
@@ -123,7 +129,9 @@ typedef struct { uint8_t refusal, obsolete, held; size_t pruned; vb_state state;
 typedef struct { vb_ingested ingested; vb_pair pairs[VB_LIMIT_MOST]; } vb_pairs_ingested;
 typedef struct { uint8_t refusal; vb_state state; } vb_entry_forgotten;
 typedef struct { uint8_t refusal; vb_state state; size_t forgotten; } vb_area_forgotten;
-/* An entry as it is stored: with its token and how much of its payload is available. */
+typedef struct { uint8_t refusal; vb_state state; } vb_available_recorded;
+/* An entry as it is stored: with its token and how much of its payload is available, as vb_record_available_length and vb_forget_payload left it since the
+   entry was filed, and 0 if neither did. */
 typedef struct { vb_entry entry; uint8_t token[64]; uint64_t available; } vb_lengthy_entry;
 typedef struct { uint8_t refusal, found; vb_lengthy_entry lengthy; } vb_entry_found;
 typedef struct { uint8_t refusal, found; size_t place; } vb_listed;
@@ -146,11 +154,11 @@ typedef struct { uint8_t refusal, component; size_t length; uint8_t bytes[VB_MCL
 
 /* The buffers of a store: the subspace-first tree and its directory, the time-first tree and its directory, and the tally. A tree has at least
    410 * limit bytes, a directory at least 2 * limit numbers, a tally at least 28 * limit bytes; what lies beyond is neither read nor written. Calls that
-   read a store are not lent the tally.
+   read a store are not lent the tally; nor are the two that write how much of a payload has arrived, which changes neither a tally nor a directory.
 
    The tally: for each subspace with entries, in ascending order, an item of 28 bytes, and zeros behind the last item up to 28 * limit. In an item bytes
    0 to 15 are the subspace, 16 to 19 the number of its entries, 20 to 27 the newest of their timestamps, each big-endian. Opening clears it. A call that
-   changes a store is refused with 10 if the tally is not the one that the store gives, and leaves the right one.
+   files or drops entries is refused with 10 if the tally is not the one that the store gives, and leaves the right one.
 
    No call answers what an item says: read the bytes. No item has count 0, and a place behind the last item has; so a walk until a count of 0 finds a
    subspace's item, and so does halving over as many places as the state counts entries, where a place of count 0 stands above every subspace.
@@ -158,6 +166,8 @@ typedef struct { uint8_t refusal, component; size_t length; uint8_t bytes[VB_MCL
    the subspace, and the 8 bytes before its last 112 the timestamp; records of one subspace stand together. */
 #define VB_BUFFERS uint8_t *spt, size_t spt_len, uint32_t *spt_dir, size_t spt_dir_len, uint8_t *tsp, size_t tsp_len, uint32_t *tsp_dir, size_t tsp_dir_len, \
     uint8_t *tally, size_t tally_len
+/* The same four buffers for the two calls about available lengths: the trees are written, the directories are only read. */
+#define VB_TREES uint8_t *spt, size_t spt_len, const uint32_t *spt_dir, size_t spt_dir_len, uint8_t *tsp, size_t tsp_len, const uint32_t *tsp_dir, size_t tsp_dir_len
 #define VB_CONST_BUFFERS const uint8_t *spt, size_t spt_len, const uint32_t *spt_dir, size_t spt_dir_len, const uint8_t *tsp, size_t tsp_len, const uint32_t *tsp_dir, size_t tsp_dir_len
 
 /* The edition that the archive was made with. */
@@ -187,6 +197,16 @@ vb_entry_forgotten vb_forget_entry(vb_state state, VB_BUFFERS, vb_subspace subsp
 /* Drops every entry that `area` includes and, with `protects`, `protected_area` does not; answers how many. Without `protects` the second area is not
    looked at. Refused: 1, 2, 3, 10, 4. */
 vb_area_forgotten vb_forget_area(vb_state state, VB_BUFFERS, vb_area area, uint8_t protects, vb_area protected_area);
+
+/* Records how much of a payload has arrived: `available` becomes the available length of the entry at exactly this subspace and path, in both trees. Any
+   number up to the payload length will do, a smaller one than before too. With `expects`, only if the entry's digest is the one expected; without, the 32
+   bytes play no part, but must be there. Of each tree the last 8 bytes of the entry's record are written, and nothing else; the state in the answer is the
+   one handed in. An absent entry is refused, unlike in vb_forget_entry, and so is a path that is only a prefix or an extension of a stored entry's.
+   Refused: 1, 2, 3, 4, 11, 9, 12. */
+vb_available_recorded vb_record_available_length(vb_state state, VB_TREES, vb_subspace subspace, vb_path path, uint8_t expects, const uint8_t expected_digest[32], uint64_t available);
+
+/* Forgets how much of a payload has arrived: vb_record_available_length of 0. An entry of which nothing has arrived answers done. Refused: 1, 2, 3, 4, 11, 9. */
+vb_available_recorded vb_forget_payload(vb_state state, VB_TREES, vb_subspace subspace, vb_path path, uint8_t expects, const uint8_t expected_digest[32]);
 
 /* The entry at a subspace and path, unless `ignore` passes over it. Refused: 1, 2, 3, 4. Writes nothing. */
 vb_entry_found vb_find_entry(vb_state state, VB_CONST_BUFFERS, vb_subspace subspace, vb_path path, vb_ignore ignore);
@@ -297,6 +317,7 @@ VB_ASSERT(sizeof(vb_ingested) == 392 && offsetof(vb_ingested, obsolete) == 1 && 
 VB_ASSERT(sizeof(vb_pairs_ingested) == 8584 && offsetof(vb_pairs_ingested, pairs) == 392, "vb_pairs_ingested");
 VB_ASSERT(sizeof(vb_entry_forgotten) == 40, "vb_entry_forgotten");
 VB_ASSERT(sizeof(vb_area_forgotten) == 48 && offsetof(vb_area_forgotten, forgotten) == 40, "vb_area_forgotten");
+VB_ASSERT(sizeof(vb_available_recorded) == 40 && offsetof(vb_available_recorded, state) == 8, "vb_available_recorded");
 VB_ASSERT(sizeof(vb_lengthy_entry) == 352 && offsetof(vb_lengthy_entry, token) == 280 &&
               offsetof(vb_lengthy_entry, available) == 344, "vb_lengthy_entry");
 VB_ASSERT(sizeof(vb_entry_found) == 360 && offsetof(vb_entry_found, lengthy) == 8, "vb_entry_found");

@@ -24,7 +24,7 @@ static size_t write_key(int t, const item *e, uint8_t *out) {
 static const item *left[LIMIT_LAST + 1];
 
 /* "ascending by that tree's keys; zeros follow up to 410 × limit" */
-static void lay(lent *after, size_t n) {
+static void lay_trees(lent *after, size_t n) {
     for (int t = 0; t < 2; t++) {
         size_t at = 0;
         memset(after->tree[t], 0, RECORD_BYTES * after->state.limit), memset(after->dir[t], 0, 8 * after->state.limit);
@@ -36,6 +36,10 @@ static void lay(lent *after, size_t n) {
             at += key + VALUE_BYTES;
         }
     }
+}
+
+static void lay(lent *after, size_t n) {
+    lay_trees(after, n);
     lay_tally(left, n, after->state.limit, after->tally);
     after->state.count = n;
 }
@@ -146,6 +150,54 @@ static answer area_forgotten(const call *c, lent *after, answer a) {
     return a;
 }
 
+/* U4: "records the available length of a stored entry, and one that forgets it, setting it to 0 in both trees". "Ours uses the exact path". "11, no entry at that path,
+   before 9; 12, an available length above the payload length, after 9". The tally is not lent, and the state answered is the one handed in. */
+static answer recorded(const call *c, lent *after, answer a) {
+    static uint8_t value[VALUE_BYTES];
+    item at;
+    const item *stored = NULL;
+    size_t place = 0;
+    uint64_t available = c->kind == FORGET_PAYLOAD ? 0 : c->available;
+    if (!judge_is_legal(&c->entry.path)) return refused(a, 4);
+    take_subspace(c->entry.subspace_id, at.subspace), take_path(&c->entry.path, &at);
+    for (size_t k = 0; k < after->state.count; k++) {
+        const item *e = judged_items + k;
+        left[k] = e;
+        if (same_subspace(e, &at) && same_path(e, &at)) stored = e, place = k;
+    }
+    if (!stored) return refused(a, 11);
+    if (c->expects && memcmp(stored->value + DIGEST_AT, c->entry.payload_digest, 32)) return refused(a, 9);
+    if (available > be64(stored->value)) return refused(a, 12);
+    at = *stored, at.value = value;
+    memcpy(value, stored->value, VALUE_BYTES), put64(value + AVAILABLE_AT, available);
+    left[place] = &at;
+    lay_trees(after, after->state.count);
+    return a;
+}
+
+recorded_how judge_recorded_how(const call *c) {
+    recorded_how how = {false, false, false, false, 0, 0};
+    item at;
+    take_subspace(c->entry.subspace_id, at.subspace), take_path(&c->entry.path, &at);
+    for (size_t k = 0; k < judged_store->state.count; k++) {
+        const item *e = judged_items + k;
+        if (!same_subspace(e, &at)) continue;
+        if (same_path(e, &at)) {
+            how.stored = true, how.other_digest = memcmp(e->value + DIGEST_AT, c->entry.payload_digest, 32);
+            how.before = be64(e->value + AVAILABLE_AT), how.length = be64(e->value);
+        } else {
+            how.extension |= prefixes(&at, e), how.prefix |= prefixes(e, &at);
+        }
+    }
+    return how;
+}
+
+vb_entry judge_entry(size_t place) {
+    vb_lengthy_entry e;
+    give_entry(judged_items + place, &e);
+    return e.entry;
+}
+
 /* Calls that read */
 
 static answer found(const call *c, const lent *s, answer a) {
@@ -232,6 +284,7 @@ answer judge_answers(const call *c, lent *after) {
     case INGEST: case INGEST_NUMBERS: case INGEST_BY_VALUE: return ingested(c, after, a);
     case FORGET_ENTRY: return forgotten(c, after, a);
     case FORGET_AREA: return area_forgotten(c, after, a);
+    case RECORD_AVAILABLE: case FORGET_PAYLOAD: return recorded(c, after, a);
     case FIND_ENTRY: return found(c, after, a);
     case COUNT_AREA: case SUMMARISE: return counted(c, after, a);
     case INTEREST: return interest(c, after, a);

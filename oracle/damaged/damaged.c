@@ -1,5 +1,5 @@
 /* damaged SEED STORES: random stores reached through the port's own calls are damaged, and every call is made on each, through the door. The judge
-   (judge.h, document 01 in C, not the port's code) says of each call what it answers and what every byte of the buffers is afterwards: a store that is
+   (judge.h, documents 01 and 02 in C, not the port's code) says of each call what it answers and what every byte of the buffers is afterwards: a store that is
    no longer well-formed is refused with the number that 01 says, and of one that still is the answer is judged, field by field. One in four of the calls
    that reach a store is judged too. Ends with 1 at the first fault, or where a kind of answer never came. */
 #include "damages.h"
@@ -80,6 +80,16 @@ static answer make(const call *c, lent *s) {
         a.refusal = r.refusal, a.state = r.state, a.number = r.forgotten;
         break;
     }
+    case RECORD_AVAILABLE: {
+        vb_available_recorded r = vb_record_available_length(s->state, READ, c->entry.subspace_id, c->entry.path, c->expects, c->entry.payload_digest, c->available);
+        a.refusal = r.refusal, a.state = r.state;
+        break;
+    }
+    case FORGET_PAYLOAD: {
+        vb_available_recorded r = vb_forget_payload(s->state, READ, c->entry.subspace_id, c->entry.path, c->expects, c->entry.payload_digest);
+        a.refusal = r.refusal, a.state = r.state;
+        break;
+    }
     case FIND_ENTRY: {
         vb_entry_found r = vb_find_entry(s->state, READ, c->entry.subspace_id, c->entry.path, c->ignore);
         a.refusal = r.refusal, a.yes = r.found, a.lengthy = r.lengthy;
@@ -100,16 +110,37 @@ static answer make(const call *c, lent *s) {
     return a;
 }
 
-static const char *const names[] = {"open", "ingest", "ingest, numbers", "ingest, by value", "forget entry", "forget area", "find entry", "area place",
+static const char *const names[] = {"open", "ingest", "ingest, numbers", "ingest, by value", "forget entry", "forget area", "record available", "forget payload", "find entry", "area place",
                                     "area part", "range place", "range part", "count area", "summarise", "area of interest"};
 
 /* What came, by kind: each number of a refusal; answers of yes (obsolete, found); those of held; those that name something (pruned, forgotten, counted, a part,
    times that start elsewhere than the area's). */
-static long came[CALL_KINDS][11], yeses[CALL_KINDS], held_verdicts[CALL_KINDS], named[CALL_KINDS], calls;
+static long came[CALL_KINDS][13], yeses[CALL_KINDS], held_verdicts[CALL_KINDS], named[CALL_KINDS], calls;
 /* How an entry was held: with pruning prevented, by a full store, with another token, beside a tie, with an available length. */
 static long held_ways[5];
 /* What became of an entry above one that ties with it: taken; with pruning prevented; while something older went; refused with 7, for something older; with 8. */
 static long tied_ways[5];
+/* What became of an available length: recorded, another than before; the same; a smaller one; the whole payload's; 0 of 0; though the digest, which was not expected, is
+   another; beside a tally that is wrong or short. Refused with 11 where an extension of the path is stored; where a prefix is; where neither. Refused with 9, and too great
+   as well; refused with 12, being one too great; 12, being the greatest. */
+enum { ANOTHER, THE_SAME, SMALLER, WHOLE, NONE_OF_NONE, DIGEST_NOT_EXPECTED, BESIDE_WRONG_TALLY, BELOW_IS_STORED, ABOVE_IS_STORED, NEITHER_IS, NINE_AND_TOO_GREAT, ONE_TOO_GREAT, GREATEST, RECORD_WAYS };
+static long record_ways[2][RECORD_WAYS];
+
+/* Counts the ways of a recording, or of a forgetting of one, on the store that the judge has read. */
+static void count_record_ways(const call *c, const answer *want) {
+    bool forgets = c->kind == FORGET_PAYLOAD, done = !want->refusal;
+    long *ways = record_ways[forgets];
+    uint64_t available = forgets ? 0 : c->available;
+    if (want->refusal == 1 || want->refusal == 2 || want->refusal == 3 || want->refusal == 4) return;
+    recorded_how how = judge_recorded_how(c);
+    ways[ANOTHER] += done && available != how.before, ways[THE_SAME] += done && available == how.before, ways[SMALLER] += done && available < how.before;
+    ways[WHOLE] += done && available && available == how.length, ways[NONE_OF_NONE] += done && !how.length;
+    ways[DIGEST_NOT_EXPECTED] += done && how.other_digest, ways[BESIDE_WRONG_TALLY] += done && judge_refuses(FORGET_AREA, &store) != 0;
+    ways[BELOW_IS_STORED] += want->refusal == 11 && how.extension, ways[ABOVE_IS_STORED] += want->refusal == 11 && how.prefix;
+    ways[NEITHER_IS] += want->refusal == 11 && !how.extension && !how.prefix;
+    ways[NINE_AND_TOO_GREAT] += want->refusal == 9 && available > how.length;
+    ways[ONE_TOO_GREAT] += want->refusal == 12 && available - how.length == 1, ways[GREATEST] += want->refusal == 12 && available == UINT64_MAX;
+}
 
 static void fault(const char *what, const call *c, const answer *want, const answer *got, int damage) {
     printf("fault: %s, call '%s', damage %d, refusal %d, verdict %d, held %d, number %llu; by the papers %d, %d, %d, %llu; seed %llx\n", what, names[c->kind], damage,
@@ -140,6 +171,7 @@ static answer judged_call(const call *c, int damage) {
         tied_ways[0] += taken, tied_ways[1] += taken && c->prevent_pruning, tied_ways[2] += taken && want.number;
         tied_ways[3] += want.refusal == 7, tied_ways[4] += want.refusal == 8;
     }
+    if (c->kind == RECORD_AVAILABLE || c->kind == FORGET_PAYLOAD) count_record_ways(c, &want);
     named[c->kind] += want.number || want.part.length || (c->kind == INTEREST && !want.refusal && want.range.times.start != c->area.times.start);
     return got;
 }
@@ -161,13 +193,27 @@ static void fresh_store(void) {
     memset(now.tally, 0xa5, lent_tally), memset(now.prune, 0xa5, sizeof now.prune);
 }
 
-/* A store reached by ingestions and forgettings; bytes beyond the bounds are not 0. */
+/* Available lengths up to the payload's, of half of the entries, by the port's own call: none is refused. */
+static void arrive(void) {
+    judge_reads(&store);
+    for (size_t k = 0; k < store.state.count; k++) {
+        call c = random_call(RECORD_AVAILABLE, store.state.namespace_id);
+        c.entry = judge_entry(k), c.entry.path = path_again(&c.entry.path);
+        uint64_t length = c.entry.payload_length;
+        c.available = one_in(3) ? length : one_in(2) ? length > 0 : length - below(length < 4 ? length + 1 : 4);
+        if (one_in(2)) continue;
+        answer got = make(&c, &store);
+        if (got.refusal) fault("a length that is not recorded", &c, &got, &got, -1);
+    }
+}
+
+/* A store reached by ingestions, forgettings and recordings; bytes beyond the bounds are not 0. */
 static void reach(void) {
     fresh_store();
     memories = 0, filled = one_in(store.state.limit < VB_LIMIT_MOST ? 4 : 2);
     uint64_t steps = filled ? store.state.limit + below(store.state.limit + 3) : below(3 * store.state.limit + 3);
     for (uint64_t i = 0; i <= steps; i++) {
-        enum call_kind kind = i == 0 ? OPEN : one_in(8) ? FORGET_ENTRY : !filled && one_in(30) ? FORGET_AREA : INGEST + below(3);
+        enum call_kind kind = i == 0 ? OPEN : one_in(8) ? FORGET_ENTRY : !filled && one_in(30) ? FORGET_AREA : one_in(filled ? 40 : 12) ? RECORD_AVAILABLE + below(2) : INGEST + below(3);
         call c = random_call(kind, store.state.namespace_id);
         answer got;
         if (store.state.limit > 64 ? one_in(100) : one_in(4)) {
@@ -185,7 +231,7 @@ static void reach(void) {
         }
     }
     filled = 0;
-    if (one_in(2)) poke_available();
+    if (one_in(2)) arrive();
     int refusal = judge_reads(&store);
     if (!refusal) refusal = judge_refuses(FORGET_AREA, &store);
     if (refusal) printf("fault: a reached store is refused with %d, seed %llx\n", refusal, (unsigned long long)seed), exit(1);
@@ -209,7 +255,7 @@ static void every_call(int damage) {
         if (!got.refusal && one_in(8)) { /* what the judge laid is itself a well-formed store */
             lent left = in_buffers(&after);
             left.state = got.state;
-            if (judge_reads(&left) || judge_refuses(FORGET_AREA, &left)) fault("not well-formed afterwards", &c, &got, &got, damage);
+            if (judge_reads(&left) || judge_refuses(kind < RECORD_AVAILABLE ? FORGET_AREA : kind, &left)) fault("not well-formed afterwards", &c, &got, &got, damage);
             judge_reads(&was);
         }
         copy(&now, &before);
@@ -218,22 +264,30 @@ static void every_call(int damage) {
 
 /* What came, by kind. A branch of the papers that was never reached is a fault of this program. */
 static int table(bool enough) {
-    static const char *const can[] = {"012", "yh+01234678t", "yh+01234678t", "yh+01234678t", "012349t", "+01234t", "y01234", "y+01234", "+0", "y+01234", "+0", "+01234", "+01234", "+01234"};
+    static const char *const can[] = {"012", "yh+01234678t", "yh+01234678t", "yh+01234678t", "012349t", "+01234t", "012349ew", "012349e", "y01234", "y+01234", "+0", "y+01234", "+0", "+01234", "+01234", "+01234"};
     int missing = 0;
     printf("%-17s %9s %9s %9s %9s", "call", "answered", "of yes", "held", "naming");
-    for (int n = 1; n < 11; n++) printf(" %8d", n);
+    for (int n = 1; n < 13; n++) printf(" %8d", n);
     puts("");
     for (int k = 0; k < CALL_KINDS; k++) {
         printf("%-17s %9ld %9ld %9ld %9ld", names[k], came[k][0], yeses[k], held_verdicts[k], named[k]);
-        for (int n = 1; n < 11; n++) printf(" %8ld", came[k][n]);
+        for (int n = 1; n < 13; n++) printf(" %8ld", came[k][n]);
         puts("");
-        for (const char *p = can[k]; *p; p++) missing += !(*p == 'y' ? yeses[k] : *p == 'h' ? held_verdicts[k] : *p == '+' ? named[k] : came[k][*p == 't' ? 10 : *p - '0']);
+        for (const char *p = can[k]; *p; p++) missing += !(*p == 'y' ? yeses[k] : *p == 'h' ? held_verdicts[k] : *p == '+' ? named[k] : came[k][*p == 't' ? 10 : *p == 'e' ? 11 : *p == 'w' ? 12 : *p - '0']);
     }
     printf("held: with pruning prevented %ld, by a full store %ld, with another token %ld, beside a tie %ld, with an available length %ld\n", held_ways[0], held_ways[1],
            held_ways[2], held_ways[3], held_ways[4]);
     printf("above a tie: taken %ld, with pruning prevented %ld, while something older went %ld; refused with 7 %ld, with 8 %ld\n", tied_ways[0], tied_ways[1], tied_ways[2],
            tied_ways[3], tied_ways[4]);
     for (int i = 0; i < 5; i++) missing += !held_ways[i], missing += !tied_ways[i];
+    for (int forgets = 0; forgets < 2; forgets++) {
+        const long *w = record_ways[forgets];
+        printf("%s: another length than before %ld, the same %ld, smaller %ld, the whole %ld, 0 of 0 %ld, with another digest that was not expected %ld, beside a wrong or short tally %ld; "
+               "refused with 11 with an extension stored %ld, with a prefix %ld, with neither %ld; with 9 and too great %ld; with 12 by one %ld, by the greatest %ld\n",
+               names[RECORD_AVAILABLE + forgets], w[ANOTHER], w[THE_SAME], w[SMALLER], w[WHOLE], w[NONE_OF_NONE], w[DIGEST_NOT_EXPECTED], w[BESIDE_WRONG_TALLY], w[BELOW_IS_STORED],
+               w[ABOVE_IS_STORED], w[NEITHER_IS], w[NINE_AND_TOO_GREAT], w[ONE_TOO_GREAT], w[GREATEST]);
+        for (int i = 0; i < (forgets ? NINE_AND_TOO_GREAT : RECORD_WAYS); i++) missing += !w[i] && !(forgets && i == WHOLE); /* 0 is never too great, nor a whole payload */
+    }
     if (missing && enough) printf("fault: %d kinds of answers never came\n", missing);
     return missing && enough;
 }

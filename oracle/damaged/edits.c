@@ -1,7 +1,7 @@
 /* Random edits of a store through the door, each beside a plain copy in C: two lists of records, sorted by key, into which a record is put, or out of which
-   some are taken, by plain memmove. After each edit both trees, both directories and the tally are compared byte for byte, and the pairs of what was
-   pruned; then a byte behind the last record, an offset and a byte of a key's end are damaged in turn, and each must be refused with 3, and a byte of the
-   tally, which must be refused with 10. Ends with 1 at the first difference. */
+   some are taken, by plain memmove, or in which the last 8 bytes of one are written. After each edit both trees, both directories and the tally are compared byte for byte, and the pairs of what was
+   pruned; then a byte behind the last record, an offset, a byte of a key's end and an available length in one tree are damaged in turn, and each must be refused with 3, and a
+   byte of the tally, which must be refused with 10. Ends with 1 at the first difference. */
 #include "virebony.h"
 #include <stdbool.h>
 #include <stdio.h>
@@ -104,6 +104,25 @@ static int put_in(const Copy *c, size_t *pruned) {
     return 0;
 }
 
+/* The refusal of a recording, or with no length (NULL) of a forgetting of one; what it leaves in both lists. */
+static int record(const Copy *at, bool other_digest, const uint64_t *length, long *kinds) {
+    bool extension = false, prefix = false;
+    Copy *c = NULL;
+    for (size_t k = 0; k < copied; k++) {
+        if (covers(copies + k, at) && copies[k].more == at->more) c = copies + k;
+        else extension |= covers(at, copies + k), prefix |= covers(copies + k, at);
+    }
+    if (!c) return kinds[12] += extension, kinds[13] += prefix, 11;
+    if (other_digest) return kinds[14] += length && *length > 7, 9;
+    if (length && *length > 7) return kinds[15]++, 12;
+    for (int t = 0; t < 2; t++) {
+        uint8_t *last = c->record[t] + c->len[t] - 1; /* lengths are at most 7, so that seven of the 8 bytes are 0 */
+        if (t) kinds[length ? *length > *last ? 9 : *length < *last ? 10 : 11 : *last ? 16 : 17]++;
+        *last = (uint8_t)(length ? *length : 0);
+    }
+    return 0;
+}
+
 static vb_area area(const Copy *c, uint64_t start, uint64_t end) {
     vb_area a;
     memset(&a, 0, sizeof a);
@@ -168,6 +187,12 @@ static const char *damaged(void) {
     tree[t][last] = 3;
     if (vb_count_area(state, READ, all).refusal != 3) return "a byte of a key's end";
     tree[t][last] = 0;
+    vb_entry e = entry(copies + rand() % copied);
+    last = dir[t][2 * k] + dir[t][2 * k + 1] - 1;
+    tree[t][last] ^= 1;
+    if (vb_record_available_length(state, READ, e.subspace_id, e.path, 0, e.payload_digest, 8).refusal != 3) return "a recording, an available length in one tree";
+    if (vb_forget_payload(state, READ, e.subspace_id, e.path, 0, e.payload_digest).refusal != 3) return "a forgetting of a payload, an available length in one tree";
+    tree[t][last] ^= 1;
     return NULL;
 }
 
@@ -218,15 +243,36 @@ static const char *forget(long *kinds) {
     return NULL;
 }
 
+/* Of an entry that is stored, or near one; of all entries the payload length is 7. */
+static const char *arrive(long *kinds) {
+    static const uint64_t lengths[] = {0, 1, 6, 7, 7, 8, 1ull << 56, UINT64_MAX};
+    Copy at;
+    memset(&at, 0, sizeof at);
+    at.n = rand() % 10, at.subspace = rand() % SUBSPACES;
+    if (copied && rand() % 8) at = copies[rand() % copied];
+    if (rand() % 3 == 0) at.more = rand() % 4;
+    vb_entry e = entry(&at);
+    uint64_t length = rand() % 3 ? lengths[rand() % 8] : (uint64_t)(rand() % 10);
+    bool forgets = rand() % 4 == 0, wrong = rand() % 3 == 0;
+    uint8_t expects = rand() % 2 ? (uint8_t)(1 + rand() % 255) : 0;
+    if (wrong) e.payload_digest[rand() % 32] ^= 0x40;
+    int said = record(&at, wrong && expects, forgets ? NULL : &length, kinds);
+    vb_available_recorded r = forgets ? vb_forget_payload(state, READ, e.subspace_id, e.path, expects, e.payload_digest)
+                                      : vb_record_available_length(state, READ, e.subspace_id, e.path, expects, e.payload_digest, length);
+    if (r.refusal != said) return forgets ? "a forgetting of a payload" : "a recording";
+    if (r.state.count != state.count || r.state.limit != state.limit || memcmp(r.state.namespace_id, state.namespace_id, 16)) return "the state of a recording";
+    return NULL;
+}
+
 int main(void) {
     static const uint8_t namespace_id[16];
-    long done = 0, kinds[9] = {0};
+    long done = 0, kinds[18] = {0};
     for (int seed = 0; seed < 220; seed++) {
         srand(seed);
         copied = 0, state.limit = 1 + rand() % MOST;
         state = vb_open(namespace_id, state.limit, STORE).state;
-        for (int s = 0; s < 300; s++) {
-            const char *wrong = rand() % 3 ? ingest(kinds) : forget(kinds);
+        for (int s = 0; s < 400; s++) {
+            const char *wrong = rand() % 4 == 0 ? arrive(kinds) : rand() % 3 ? ingest(kinds) : forget(kinds);
             if (!wrong) wrong = laid();
             if (!wrong) wrong = damaged();
             if (wrong) return printf("%s, seed %d, step %d\n", wrong, seed, s), 1;
@@ -235,5 +281,9 @@ int main(void) {
     }
     printf("%ld random edits beside a plain copy: %ld put in, %ld obsolete, %ld held, %ld full, %ld that prune, %ld entries and %ld areas forgotten; above a tie %ld put in, %ld full\n", done,
            kinds[0], kinds[1], kinds[6], kinds[2], kinds[3], kinds[4], kinds[5], kinds[7], kinds[8]);
-    return !kinds[7] || !kinds[8];
+    printf("available lengths: %ld greater than before, %ld smaller, %ld the same, %ld forgotten, %ld forgotten that were 0; refused: 11 with an extension stored %ld, with a prefix %ld, "
+           "9 that would be 12 too %ld, 12 %ld\n", kinds[9], kinds[10], kinds[11], kinds[16], kinds[17], kinds[12], kinds[13], kinds[14], kinds[15]);
+    for (int i = 0; i < 18; i++)
+        if (!kinds[i]) return printf("an edit of kind %d never came\n", i), 1;
+    return 0;
 }

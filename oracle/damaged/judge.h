@@ -1,5 +1,5 @@
-/* A judge of the store's calls, written from document 01 and from 02's U1 (the tally), U2 (the same entry twice) and U3 (ties), and sharing no code and no number with
-   the port or with whoever makes the calls: of the header it uses the shapes of values only. It reads a store once, as it was lent, and then says of each call on it
+/* A judge of the store's calls, written from document 01 and from 02's U1 (the tally), U2 (the same entry twice), U3 (ties) and U4 (how much has arrived), and sharing no
+   code and no number with the port or with whoever makes the calls: of the header it uses the shapes of values only. It reads a store once, as it was lent, and then says of each call on it
    what the answer is and what every byte of the buffers is afterwards. */
 #ifndef JUDGE_H
 #define JUDGE_H
@@ -16,20 +16,20 @@ typedef struct {
 } lent;
 
 enum call_kind {
-    OPEN, INGEST, INGEST_NUMBERS, INGEST_BY_VALUE, FORGET_ENTRY, FORGET_AREA,
+    OPEN, INGEST, INGEST_NUMBERS, INGEST_BY_VALUE, FORGET_ENTRY, FORGET_AREA, RECORD_AVAILABLE, FORGET_PAYLOAD,
     FIND_ENTRY, AREA_PLACE, AREA_PART, RANGE_PLACE, RANGE_PART, COUNT_AREA, SUMMARISE, INTEREST, CALL_KINDS
 };
 
 /* The arguments of every kind of call. An opening's namespace and limit are those of the state. */
 typedef struct {
     enum call_kind kind;
-    vb_entry entry; /* its subspace, path and digest are also those of a forgetting and of a lookup */
+    vb_entry entry; /* its subspace, path and digest are also those of a forgetting, of a recording and of a lookup */
     uint8_t token[64], prevent_pruning, expects, protects;
     vb_area area, protected_area;
     vb_range range;
     vb_ignore ignore;
     size_t place;
-    uint64_t max_count, max_size;
+    uint64_t max_count, max_size, available;
 } call;
 
 /* The answer of every kind of call; what a kind does not answer is 0. */
@@ -57,6 +57,14 @@ held_how judge_held_how(const call *c);
 
 /* Of an ingestion with a legal path on the store that was read, which is well-formed: whether an entry at a proper extension of its path ties with it. */
 bool judge_above_tie(const call *c);
+
+/* Of a recording with a legal path on the store that was read, which is well-formed: whether an entry stands there, or at a proper extension of its path, or at a proper
+   prefix; how much of its payload was there, how long it is, and whether its digest is another. */
+typedef struct { bool stored, extension, prefix, other_digest; uint64_t before, length; } recorded_how;
+recorded_how judge_recorded_how(const call *c);
+
+/* An entry of the store that was read, which is well-formed, by its place. */
+vb_entry judge_entry(size_t place);
 
 /* Whether a path is legal. */
 bool judge_is_legal(const vb_path *p);

@@ -137,19 +137,4 @@ static size_t items_held(void) {
     while (n < store.state.limit && (store.tally[VB_ITEM * n + 18] || store.tally[VB_ITEM * n + 19])) n++;
     return n;
 }
-
-/* Available lengths up to the payload's, in both trees, as no call of this edition writes them. */
-static void poke_available(void) {
-    take_apart();
-    for (uint64_t k = 0; k < store.state.count; k++) {
-        Rec *r = &recs[0][k], *o = &recs[1][partner(k)];
-        uint8_t *value = r->b + r->len - VB_VALUE;
-        uint64_t length = 0;
-        for (int i = 0; i < 8; i++) length = length << 8 | value[i];
-        if (!length || one_in(2)) continue;
-        length = one_in(3) ? length : one_in(2) ? 1 : length - below(length < 4 ? length : 4);
-        put64(value + 104, length), put64(o->b + o->len - 8, length);
-    }
-    put_together();
-}
 #endif

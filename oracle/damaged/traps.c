@@ -1,5 +1,5 @@
-/* Stores and calls on which a plausible wrong port fails, each answer written by hand from 01, and from 02: U1 for the tally, U2 for the same entry twice, U3 for ties.
-   Ends with 1 if one is not as written. */
+/* Stores and calls on which a plausible wrong port fails, each answer written by hand from 01, and from 02: U1 for the tally, U2 for the same entry twice, U3 for ties, U4
+   for how much has arrived. Ends with 1 if one is not as written. */
 #include "virebony.h"
 #include <stdbool.h>
 #include <stdio.h>
@@ -133,6 +133,31 @@ static vb_entry named(vb_entry e) { /* of the store's namespace */
 static void in(const char *p, uint64_t time, uint64_t length, uint8_t digest) {
     memset(token, 1, sizeof token);
     ingests(p, named(entry(p, time, length, digest)), false, 0, false, 0);
+}
+
+/* A recording, or a forgetting of one: its refusal, and that the state is the one handed in. */
+static void recorded(const char *what, vb_available_recorded r, int refusal) {
+    expect(what, r.refusal, refusal);
+    expect(what, r.state.count, state.count), expect(what, r.state.limit, state.limit);
+    expect(what, memcmp(r.state.namespace_id, state.namespace_id, 16), 0);
+}
+
+/* At a path of subspace 1; `digest` is a byte 32 times, or -1: none is expected, and the 32 bytes are no entry's. */
+static void records(const char *what, vb_path p, int digest, uint64_t available, int refusal) {
+    uint8_t expected[32];
+    memset(expected, digest < 0 ? 0xdd : digest, 32);
+    recorded(what, vb_record_available_length(state, READ, subspace(1), p, digest >= 0, expected, available), refusal);
+}
+
+static void unrecords(const char *what, vb_path p, int digest, int refusal) {
+    uint8_t expected[32];
+    memset(expected, digest < 0 ? 0xdd : digest, 32);
+    recorded(what, vb_forget_payload(state, READ, subspace(1), p, digest >= 0, expected), refusal);
+}
+
+static void has(const char *what, const char *p, uint64_t available) {
+    vb_entry_found f = vb_find_entry(state, READ, subspace(1), path(p), ignore(false, false));
+    expect(what, f.found, true), expect(what, f.lengthy.available, available);
 }
 
 static void counts(const char *what, vb_area a, int refusal, size_t count) {
@@ -283,7 +308,8 @@ static void resends(void) {
     fresh(4), in("a", 5, 3, 1), in("a/b", 5, 3, 1);
     memset(token, 9, sizeof token);
     holds("resent above a tie", named(entry("a", 5, 3, 1)), false);
-    tree[0][29 + 111] = tree[1][29 + 111] = 2;
+    records("two of three", path("a"), 1, 2, 0);
+    expect("in both trees", tree[0][29 + 111], 2), expect("in both trees", tree[1][29 + 111], 2);
     for (int i = 0; i < 2; i++) {
         vb_entry again = named(entry(i ? "a/b" : "a", 5, 3, 1));
         holds("resent beside a tie", again, i), holds("resent beside a tie", again, !i);
@@ -302,6 +328,161 @@ static void resends(void) {
     ingests("[61][63]", named(entry("a/c", 5, 3, 1)), true, 8, false, 0);
     holds("[61][62][] again", below, true);
     counts("four", all(), 0, 4);
+}
+
+/* How much has arrived */
+
+/* Of [61], length 3 and digest 1: 3 is taken, 4 and 2^64 - 1 are 12; smaller than before is taken. Another digest is 9, with a length that would be 12 too; one that is not
+   expected plays no part. Of length 0: 0 is taken, 1 is 12. Of length 2^64 - 1 every number is taken. Each refusal leaves every byte. */
+static void lengths(void) {
+    fresh(4), in("a", 5, 3, 1), in("b", 5, 0, 1), in("c", 5, GREATEST, 1);
+    static const uint64_t taken[] = {3, 0, 1, 1, 3, 2};
+    for (int i = 0; i < 6; i++) {
+        keep();
+        records("up to the payload length", path("a"), i % 2 ? 1 : -1, taken[i], 0);
+        expect("in the subspace-first tree", tree[0][140], taken[i]), expect("in the time-first tree", tree[1][140], taken[i]);
+        was.trees[140] = was.trees[sizeof tree[0] + 140] = (uint8_t)taken[i];
+        expect("and no other byte", as_it_was(), true);
+        has("it is shown", "a", taken[i]);
+    }
+    keep();
+    static const uint64_t over[] = {4, 5, 256 + 3, 1ull << 32, 1ull << 63, GREATEST};
+    for (int i = 0; i < 6; i++) {
+        records("over the payload length", path("a"), -1, over[i], 12), records("over the payload length, its digest", path("a"), 1, over[i], 12);
+        records("another digest, and over", path("a"), 2, over[i], 9);
+        records("an absent entry, and over", path("d"), -1, over[i], 11), records("an absent entry, another digest, and over", path("d"), 2, over[i], 11);
+    }
+    records("another digest", path("a"), 2, 3, 9), records("another digest, nothing there", path("a"), 0, 0, 9);
+    unrecords("another digest", path("a"), 2, 9), unrecords("an absent entry", path("d"), -1, 11), unrecords("an absent entry, another digest", path("d"), 2, 11);
+    records("one of none", path("b"), 1, 1, 12), records("2^64 - 1 of none", path("b"), -1, GREATEST, 12), records("none of none", path("b"), 1, 0, 0);
+    unrecords("none of none", path("b"), 1, 0);
+    expect("no byte changed", as_it_was(), true);
+    static const uint64_t great[] = {GREATEST, GREATEST - 1, 1ull << 63, 0x0102030405060708};
+    for (int i = 0; i < 4; i++) records("of 2^64 - 1", path("c"), -1, great[i], 0), has("of 2^64 - 1", "c", great[i]);
+    for (int i = 0; i < 8; i++) expect("big-endian", tree[0][3 * 141 - 8 + i], i + 1), expect("big-endian", tree[1][3 * 141 - 8 + i], i + 1);
+    unrecords("forgotten", path("c"), 1, 0), expect("every byte again", as_it_was(), true);
+    unrecords("two of three are forgotten", path("a"), -1, 0), has("none is left", "a", 0);
+    keep(), unrecords("and once more", path("a"), 1, 0), expect("no byte changed", as_it_was(), true);
+}
+
+/* [61][62] stored with 2 of 3 bytes, and [61] not: recording and forgetting at [61] is 11, and the extension keeps its length. The other way round too. Then both stand, which
+   tie, and each has its own. [6162], [61][], the empty path and another subspace are other places. */
+static void exact(void) {
+    static const char *const line[] = {"a/b", "a"};
+    for (int i = 0; i < 2; i++) {
+        fresh(3), in(line[i], 5, 3, 1);
+        records("at the path", path(line[i]), 1, 2, 0), keep();
+        records("at the other", path(line[!i]), -1, 3, 11), records("at the other, its digest", path(line[!i]), 1, 0, 11), unrecords("at the other", path(line[!i]), -1, 11);
+        unrecords("at the other, its digest", path(line[!i]), 1, 11), records("at the empty path", path(""), 1, 1, 11), unrecords("at the empty path", path(""), -1, 11);
+        expect("no byte changed", as_it_was(), true), has("it keeps its length", line[i], 2);
+        in(line[!i], 5, 3, 1);
+        has("the new one has none", line[!i], 0), has("it keeps its length", line[i], 2);
+        records("at the new one", path(line[!i]), 1, 3, 0), has("the new one", line[!i], 3), has("it keeps its length", line[i], 2);
+        unrecords("the new one's", path(line[!i]), 1, 0), has("the new one", line[!i], 0), has("it keeps its length", line[i], 2);
+    }
+    vb_path blank = path("a");
+    blank.ends[1] = 1, blank.count = 2;
+    keep();
+    records("[6162]", path("ab"), -1, 1, 11), records("[61][]", blank, -1, 1, 11), unrecords("[6162]", path("ab"), -1, 11), unrecords("[61][]", blank, -1, 11);
+    uint8_t digest[32];
+    memset(digest, 1, 32);
+    for (uint64_t low = 0; low < 3; low += 2) {
+        recorded("another subspace", vb_record_available_length(state, READ, subspace(low), path("a"), 1, digest, 1), 11);
+        recorded("another subspace", vb_forget_payload(state, READ, subspace(low), path("a"), 1, digest), 11);
+    }
+    expect("no byte changed", as_it_was(), true);
+    vb_path behind = path("a");
+    for (size_t k = 1; k < VB_MPL; k++) behind.bytes[k] = (uint8_t)k;
+    for (size_t k = 1; k < VB_MCC; k++) behind.ends[k] = GREATEST - k;
+    records("other bytes and ends behind the path", behind, 1, 1, 0), has("they are not looked at", "a", 1);
+    unrecords("other bytes and ends behind the path", behind, 1, 0), has("they are not looked at", "a", 0);
+    vb_entry_forgotten f = vb_forget_entry(state, STORE, subspace(1), path("d"), 1, digest);
+    expect("forgetting an absent entry is done", f.refusal, 0), expect("and drops none", f.state.count, 2);
+}
+
+/* The flag of lookups and listings: 2 of 3 is passed over, 3 of 3 is not, 0 of 0 is complete, and empty. Counts have all. */
+static void flagged(void) {
+    const size_t record = 16 + 3 + 2 + 8 + 112;
+    fresh(4), in("a", 5, 3, 1), in("b", 5, 0, 1), in("c", 5, 3, 1);
+    lists("0 of 0 alone", ignore(true, false), 0, true, 1, record), lists("no other", ignore(true, false), 2, false, 0, 0);
+    records("2 of 3", path("c"), -1, 2, 0), lists("2 of 3 is passed over", ignore(true, false), 2, false, 0, 0);
+    records("3 of 3", path("c"), 1, 3, 0), lists("3 of 3 is not", ignore(true, false), 2, true, 2, record), lists("with both flags it is the first", ignore(true, true), 0, true, 2, record);
+    expect("found", vb_find_entry(state, READ, subspace(1), path("c"), ignore(true, true)).found, true);
+    records("1 of 3", path("a"), 1, 1, 0), expect("passed over", vb_find_entry(state, READ, subspace(1), path("a"), ignore(true, false)).found, false);
+    expect("without the flag it is found", vb_find_entry(state, READ, subspace(1), path("a"), ignore(false, true)).lengthy.available, 1);
+    counts("three are counted", all(), 0, 3);
+    unrecords("none of 3", path("c"), 1, 0), lists("passed over again", ignore(true, false), 2, false, 0, 0);
+    item("three are tallied", 0, 0, 1, 3, 5, true);
+}
+
+/* An entry that is filed starts at 0, also over one at the same place, after a forgetting of the entry or of an area, and above one that it prunes; one that stays keeps its own,
+   as does one that is held, whatever its token, one that ties, and one beside which another is refused. */
+static void filed(void) {
+    fresh(2), in("a", 5, 3, 1), records("3 of 3", path("a"), 1, 3, 0);
+    memset(token, 9, sizeof token);
+    holds("resent", named(entry("a", 5, 3, 1)), false), holds("resent, prevented", named(entry("a", 5, 3, 1)), true), has("held keeps it", "a", 3);
+    ingests("obsolete", named(entry("a", 5, 2, 1)), false, 0, true, 0), has("obsolete keeps it", "a", 3);
+    ingests("prevented", named(entry("a", 6, 3, 1)), true, 7, false, 0), has("7 keeps it", "a", 3);
+    in("a/b", 5, 3, 1), has("a tie keeps it", "a", 3), has("and starts at 0", "a/b", 0);
+    ingests("full", named(entry("c", 5, 3, 1)), false, 8, false, 0), has("8 keeps it", "a", 3);
+    ingests("newer by its length", named(entry("a/b", 5, 4, 1)), false, 0, false, 1), has("the other keeps it", "a", 3), has("the newer one starts at 0", "a/b", 0);
+    records("2 of 4", path("a/b"), 1, 2, 0);
+    ingests("newer than both", named(entry("a", 5, 3, 2)), false, 0, false, 2), has("the newer one starts at 0", "a", 0);
+    records("1 of 3", path("a"), 2, 1, 0), records("the old digest", path("a"), 1, 1, 9);
+    vb_entry e = named(entry("a", 5, 3, 2));
+    vb_entry_forgotten f = vb_forget_entry(state, STORE, e.subspace_id, e.path, 0, e.payload_digest);
+    state = f.state;
+    records("forgotten", path("a"), -1, 1, 11), unrecords("forgotten", path("a"), -1, 11);
+    in("a", 5, 3, 2), has("filed again", "a", 0);
+    records("1 of 3", path("a"), 2, 1, 0), state = vb_forget_area(state, STORE, all(), 0, all()).state;
+    in("a", 5, 3, 2), has("filed again after an area's forgetting", "a", 0);
+    records("1 of 3", path("a"), 2, 1, 0), in("b", 5, 3, 2);
+    vb_area later = all();
+    later.path = path("b");
+    state = vb_forget_area(state, STORE, later, 0, later).state, has("what is not forgotten keeps it", "a", 1);
+    memset(token, 9, sizeof token);
+    ingests("above it, and newer", named(entry("", 6, 3, 2)), false, 0, false, 1), has("it starts at 0", "", 0);
+}
+
+/* Refusals in checking order: a limit of 0 before short buffers, these before a store that is not well-formed, that before an illegal path, that before 11, 9, 12. A wrong or
+   short tally is none, nor is another namespace in the state, which comes back. Written in one tree only: 3, then and to the next call. */
+static void turned_away_lengths(void) {
+    fresh(2), in("a", 5, 3, 1);
+    vb_path illegal = path("a");
+    illegal.count = 9;
+    keep();
+    for (int digest = -1; digest < 3; digest++) {
+        records("an illegal path", illegal, digest, GREATEST, 4), unrecords("an illegal path", illegal, digest, 4);
+        tree[1][RECORD * 2 - 1] = 1;
+        records("not well-formed", illegal, digest, GREATEST, 3), unrecords("not well-formed", illegal, digest, 3);
+        room = RECORD * 2 - 1;
+        records("short", illegal, digest, GREATEST, 2), unrecords("short", illegal, digest, 2);
+        vb_state kept = state;
+        state.limit = 0;
+        records("a limit of 0", illegal, digest, GREATEST, 1), unrecords("a limit of 0", illegal, digest, 1);
+        state.limit = 1025;
+        records("a limit of 1,025", path("a"), digest, 0, 1), unrecords("a limit of 1,025", path("a"), digest, 1);
+        state = kept, room = sizeof tree[0], tree[1][RECORD * 2 - 1] = 0;
+    }
+    expect("no byte changed", as_it_was(), true);
+    tally[27] ^= 1, tally_room = 0;
+    records("the tally is not lent", path("a"), 1, 2, 0), unrecords("nor here", path("a"), 1, 0);
+    tally[27] ^= 1, tally_room = sizeof tally;
+    state.namespace_id[15] ^= 1;
+    records("another namespace", path("a"), 1, 2, 0);
+    state.namespace_id[15] ^= 1;
+    for (int t = 0; t < 2; t++) {
+        tree[t][140] = 1;
+        keep();
+        records("one tree only", path("a"), 1, 2, 3), unrecords("one tree only", path("a"), 1, 3), counts("one tree only", all(), 3, 0);
+        expect("no byte changed", as_it_was(), true);
+        tree[t][140] = 2;
+    }
+    room = RECORD * 2;
+    records("buffers of the room alone", path("a"), 1, 3, 0), unrecords("buffers of the room alone", path("a"), 1, 0);
+    room = sizeof tree[0];
+    for (int t = 0; t < 2; t++)
+        for (int i = 0; i < 8; i++) expect("what lies beyond stays", tree[t][RECORD * 2 + i], 7), expect("what lies beyond stays", dir[t][4 + i], 0x07070707);
 }
 
 /* [61][62] alone, whose key has 16 + 8 + 8 bytes, then a newer [61]: the pair is that of the record before the call, later pairs are
@@ -564,6 +745,7 @@ static void turned_away(void) {
 int main(void) {
     ties(), line_of_ties(), full_of_ties(), beside_ties(), full(), resends(), pruned(), interest(), listings(), shapes();
     zeros(), lowered(), moved_up(), halves(), most(), behind(), turned_away();
+    lengths(), exact(), flagged(), filed(), turned_away_lengths();
     printf("traps: %d expectations, %d wrong\n", asked, wrong);
     return wrong != 0;
 }

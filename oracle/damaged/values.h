@@ -184,6 +184,18 @@ static vb_entry random_entry(const uint8_t namespace_id[16]) {
     return e;
 }
 
+/* A length as one that was handed in, one more or less, none, a part of it, or any. */
+static uint64_t near_length(uint64_t length) {
+    switch (below(8)) {
+    case 0: case 1: return length;
+    case 2: return length + 1;
+    case 3: return length - 1;
+    case 4: return 0;
+    case 5: return length ? below(length) : 0;
+    default: return random_number(5);
+    }
+}
+
 static call random_call(enum call_kind kind, const uint8_t namespace_id[16]) {
     call c;
     memset(&c, 0, sizeof c);
@@ -197,6 +209,13 @@ static call random_call(enum call_kind kind, const uint8_t namespace_id[16]) {
     if (kind > OPEN && kind < FORGET_ENTRY && memories && !filled && one_in(6)) { /* once more, with other bytes and ends behind its path */
         c.entry = remembered[below(memories)], c.entry.path = path_again(&c.entry.path);
         memcpy(c.entry.namespace_id, namespace_id, 16);
+    }
+    c.available = near_length(c.entry.payload_length);
+    if ((kind == RECORD_AVAILABLE || kind == FORGET_PAYLOAD) && memories && !one_in(6)) { /* at a place that may be stored, above it or below */
+        const vb_entry *r = remembered + below(memories);
+        c.entry.subspace_id = r->subspace_id, c.entry.path = path_again(&r->path), c.available = near_length(r->payload_length);
+        if (one_in(3)) c.entry.path = path_near(c.entry.path);
+        if (!one_in(3)) memcpy(c.entry.payload_digest, r->payload_digest, 32);
     }
     random_bytes(c.token, sizeof c.token);
     c.prevent_pruning = yes_in(4), c.expects = yes_in(2), c.protects = yes_in(2);

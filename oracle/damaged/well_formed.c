@@ -126,7 +126,7 @@ int judge_reads(const lent *s) {
 
 int judge_refuses(enum call_kind kind, const lent *s) {
     bool lists = kind == INGEST || kind == INGEST_NUMBERS; /* a list by value is never short */
-    bool tallies = kind < FIND_ENTRY;                      /* "opening, ingest_entry, forget_entry and forget_area take it, other calls don't" */
+    bool tallies = kind < RECORD_AVAILABLE;                /* "opening, ingest_entry, forget_entry and forget_area take it, other calls don't" */
     if (judged_refusal == 1) return 1;
     if (lists && s->prune_numbers < 2 * s->state.limit) return 2;
     if (tallies && s->tally_bytes < ITEM_BYTES * s->state.limit) return 2;

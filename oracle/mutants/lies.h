@@ -32,6 +32,11 @@ MAY static vb_entry_found lie_find_entry(vb_state state, VB_CONST_BUFFERS, vb_su
         vb_ignore none = {0, 0};
         f = vb_find_entry(state, ARGUMENTS, subspace, path, none);
     }
+    if (LIE == PART_IS_COMPLETE && ignore.incomplete_payloads && !f.refusal && !f.found) {
+        ignore.incomplete_payloads = 0;
+        vb_entry_found part = vb_find_entry(state, ARGUMENTS, subspace, path, ignore);
+        if (part.found && part.lengthy.available) f = part;
+    }
     return f;
 }
 
@@ -83,6 +88,9 @@ MAY static vb_opened lie_open(const uint8_t namespace_id[16], size_t limit, VB_B
     return o;
 }
 
+/* The available length of the entry that was forgotten last. */
+static uint64_t forgotten_length;
+
 MAY static vb_entry_forgotten lie_forget_entry(vb_state state, VB_BUFFERS, vb_subspace subspace, vb_path path, uint8_t expects, const uint8_t digest[32]) {
     if (LIE == NOTHING_FORGOTTEN) {
         vb_ignore none = {0, 0};
@@ -94,6 +102,10 @@ MAY static vb_entry_forgotten lie_forget_entry(vb_state state, VB_BUFFERS, vb_su
         return r;
     }
     keep_tally(tally, tally_len);
+    if (LIE == FILED_AGAIN_WITH_THE_LENGTH) {
+        vb_ignore none = {0, 0};
+        forgotten_length = vb_find_entry(state, ARGUMENTS, subspace, path, none).lengthy.available;
+    }
     vb_entry_forgotten r = vb_forget_entry(state, ALL_ARGUMENTS, subspace, path, expects, digest);
     if (LIE == NINE_HIDDEN && r.refusal == 9) r.refusal = 0;
     r.refusal = lie_about_tally(state, r.refusal, !r.refusal && r.state.count < state.count, path, tally, tally_len);
@@ -187,6 +199,113 @@ MAY static vb_ingested lie_about_ties(vb_ingested r, vb_state state, VB_BUFFERS,
     return r;
 }
 
+/* How much has arrived */
+
+/* The value of the record at a subspace and path in one tree; NULL if none stands there. Of a store that is well-formed. */
+MAY static uint8_t *value_at(vb_state state, uint8_t *tree, const uint32_t *dir, int time_first, vb_subspace subspace, vb_path path) {
+    for (size_t k = 0; k < state.count; k++) {
+        uint8_t *record = tree + dir[2 * k];
+        const size_t key = dir[2 * k + 1] - VB_VALUE;
+        vb_decoded d = time_first ? vb_decode_tsp_entry_key(record, key) : vb_decode_spt_entry_key(record, key);
+        if (d.subspace.high == subspace.high && d.subspace.low == subspace.low && vb_path_eq(d.path, path).yes) return record + key;
+    }
+    return NULL;
+}
+
+MAY static uint64_t number_at(const uint8_t *p) {
+    uint64_t n = 0;
+    for (int i = 0; i < 8; i++) n = n << 8 | p[i];
+    return n;
+}
+
+MAY static void put_number(uint8_t *p, uint64_t n) {
+    for (int i = 7; i >= 0; i--, n >>= 8) p[i] = (uint8_t)n;
+}
+
+/* The path of a stored entry that another's path prefixes, or with `above` that prefixes it; that path itself if there is none. */
+MAY static vb_path met_path(vb_state state, VB_CONST_BUFFERS, vb_subspace subspace, vb_path path, int above) {
+    for (size_t k = 0; k < state.count; k++) {
+        vb_decoded d = vb_decode_spt_entry_key(spt + spt_dir[2 * k], spt_dir[2 * k + 1] - VB_VALUE);
+        if (d.subspace.high != subspace.high || d.subspace.low != subspace.low) continue;
+        if (above ? vb_path_is_prefix_of(d.path, path).yes : vb_path_is_prefix_of(path, d.path).yes) return d.path;
+    }
+    return path;
+}
+
+/* Lies in a recording, and with `forgets` in a forgetting of one. */
+MAY static vb_available_recorded lie_record(int forgets, vb_state state, VB_TREES, vb_subspace subspace, vb_path path, uint8_t expects, const uint8_t digest[32], uint64_t available) {
+    static const vb_ignore none;
+    static uint8_t kept[VB_RECORD_MOST * VB_LIMIT_MOST + 64];
+    vb_entry_found found = vb_find_entry(state, ARGUMENTS, subspace, path, none);
+    const int sound = !found.refusal || found.refusal == 4, other = found.found && memcmp(found.lengthy.entry.payload_digest, digest, 32);
+    if (LIE == EXTENSION_MET || LIE == PREFIX_MET)
+        if (!found.refusal && !found.found) path = met_path(state, ARGUMENTS, subspace, path, LIE == PREFIX_MET);
+    if (LIE == DIGEST_NEVER_LOOKED_AT) expects = 0;
+    if (LIE == DIGEST_ALWAYS_LOOKED_AT) expects = 1;
+    if (LIE == EXPECTS_ONE_ONLY) expects = expects == 1;
+    if (LIE == LENGTH_IN_ONE_TREE) memcpy(kept, tsp, tsp_len < sizeof kept ? tsp_len : sizeof kept);
+    if (LIE == LENGTHS_ONLY_GROW && !forgets && found.found && available < found.lengthy.available) available = found.lengthy.available;
+    if (LIE == FORGETTING_KEEPS && forgets && found.found && !(expects && other)) return (vb_available_recorded){0, state};
+    vb_available_recorded r = forgets ? vb_forget_payload(state, ARGUMENTS, subspace, path, expects, digest)
+                                      : vb_record_available_length(state, ARGUMENTS, subspace, path, expects, digest, available);
+    const int done = !r.refusal, was = found.found && found.lengthy.available != 0;
+    if (LIE == TWELVE_AT_THE_LENGTH && done && !forgets && available == found.lengthy.entry.payload_length) {
+        vb_record_available_length(state, ARGUMENTS, subspace, path, 0, digest, found.lengthy.available);
+        r.refusal = 12;
+    }
+    if (LIE == TWELVE_HIDDEN && r.refusal == 12) r.refusal = 0;
+    if (LIE == TWELVE_CAPPED && r.refusal == 12) r = vb_record_available_length(state, ARGUMENTS, subspace, path, 0, digest, found.lengthy.entry.payload_length);
+    if (LIE == TWELVE_BEFORE_NINE && r.refusal == 9 && !forgets && available > found.lengthy.entry.payload_length) r.refusal = 12;
+    if (LIE == TWELVE_BEFORE_ELEVEN && r.refusal == 11 && !forgets && available == UINT64_MAX) r.refusal = 12;
+    if (LIE == NINE_BEFORE_ELEVEN && r.refusal == 11 && expects) r.refusal = 9;
+    if (LIE == ELEVEN_IS_DONE && r.refusal == 11) r.refusal = 0;
+    if (LIE == ELEVEN_BEFORE_FOUR && r.refusal == 4) r.refusal = 11;
+    if (LIE == ELEVEN_BEFORE_THREE && r.refusal == 3 && state.count == 0) r.refusal = 11;
+    if (LIE == NOTHING_TO_FORGET && done && forgets && !was) r.refusal = 11;
+    if (LIE == FORGETTING_ONLY_WHOLE && done && forgets && was && found.lengthy.available != found.lengthy.entry.payload_length)
+        vb_record_available_length(state, ARGUMENTS, subspace, path, 0, digest, found.lengthy.available);
+    if (LIE == RECORDS_ONE_MORE && done) r.state.count++;
+    if (LIE == RECORDS_CLEAR_THE_NAMESPACE) memset(r.state.namespace_id, 0, 16);
+    if (LIE == REFUSED_STATE_CLEARED && !done) memset(&r.state, 0, sizeof r.state);
+    if (LIE == LENGTH_NOT_WRITTEN && done && !forgets) vb_record_available_length(state, ARGUMENTS, subspace, path, 0, digest, found.lengthy.available);
+    if (LIE == LENGTH_IN_ONE_TREE && done) memcpy(tsp, kept, tsp_len < sizeof kept ? tsp_len : sizeof kept);
+    if (LIE == LENGTH_BEYOND && done && spt_len > VB_RECORD_MOST * state.limit) spt[VB_RECORD_MOST * state.limit] = 0;
+    if (LIE == NINE_WRITES && r.refusal == 9 && sound) vb_record_available_length(state, ARGUMENTS, subspace, path, 0, digest, 0);
+    if (LIE == TWELVE_WRITES && r.refusal == 12) vb_record_available_length(state, ARGUMENTS, subspace, path, 0, digest, 0);
+    if (LIE == DIRECTORY_WRITTEN && done && state.count < state.limit) ((uint32_t *)spt_dir)[2 * state.count] = 1;
+    for (int t = 0; t < 2 && done; t++) {
+        uint8_t *value = value_at(state, t ? tsp : spt, t ? tsp_dir : spt_dir, t, subspace, path), swapped[8];
+        if (!value) continue;
+        if (LIE == TOKEN_WIPED) memset(value + 40, 0, 64);
+        if (LIE == DIGEST_WRITTEN && expects) value[8 + 31] ^= 1;
+        if (LIE == LENGTH_AS_THE_PAYLOADS && !forgets) memcpy(value, value + 104, 8);
+        if (LIE == LOW_HALF_ONLY) put_number(value + 104, number_at(value + 104) & UINT32_MAX);
+        if (LIE == LITTLE_ENDIAN_LENGTH) {
+            for (int i = 0; i < 8; i++) swapped[i] = value[111 - i];
+            memcpy(value + 104, swapped, 8);
+        }
+    }
+    return r;
+}
+
+MAY static vb_available_recorded lie_record_available_length(vb_state state, VB_TREES, vb_subspace subspace, vb_path path, uint8_t expects, const uint8_t digest[32], uint64_t available) {
+    return lie_record(0, state, ARGUMENTS, subspace, path, expects, digest, available);
+}
+
+MAY static vb_available_recorded lie_forget_payload(vb_state state, VB_TREES, vb_subspace subspace, vb_path path, uint8_t expects, const uint8_t digest[32]) {
+    return lie_record(1, state, ARGUMENTS, subspace, path, expects, digest, 0);
+}
+
+/* An entry that is filed gets the available length of the one that stood at its place, if that is not too much; or of the one that was forgotten last. */
+MAY static void lie_about_filed(vb_ingested r, VB_BUFFERS, vb_entry entry, uint64_t before) {
+    if (r.refusal || r.obsolete || r.held) return;
+    const uint64_t length = LIE == NEWER_KEEPS_THE_LENGTH ? before : LIE == FILED_AGAIN_WITH_THE_LENGTH ? forgotten_length : 0;
+    if (length && length <= entry.payload_length) {
+        static const uint8_t digest[32];
+        vb_record_available_length(r.state, ARGUMENTS, entry.subspace_id, entry.path, 0, digest, length);
+    }
+}
+
 MAY static vb_ingested lie_ingest_entry(vb_state state, VB_BUFFERS, vb_pair *prune, size_t prune_len, vb_entry entry, const uint8_t token[64], uint8_t prevent) {
     static uint8_t kept[VB_RECORD_MOST * VB_LIMIT_MOST + 64];
     static uint32_t kept_dir[2 * VB_LIMIT_MOST + 64];
@@ -213,6 +332,7 @@ MAY static vb_ingested lie_ingest_entry(vb_state state, VB_BUFFERS, vb_pair *pru
     if (LIE == BEYOND_THE_BOUNDS && !r.refusal && spt_len > VB_RECORD_MOST * state.limit) spt[VB_RECORD_MOST * state.limit] = 0;
     if (LIE == ALL_OBSOLETE && !r.refusal) r.obsolete = 1;
     r = lie_about_ties(r, state, ALL_ARGUMENTS, prune, prune_len, entry, token, prevent);
+    if (LIE == NEWER_KEEPS_THE_LENGTH || LIE == FILED_AGAIN_WITH_THE_LENGTH) lie_about_filed(r, ALL_ARGUMENTS, entry, found.lengthy.available);
     return lie_about_held(r, state, ALL_ARGUMENTS, prune, prune_len, entry, token, prevent, found.lengthy);
 }
 
@@ -270,3 +390,5 @@ MAY static vb_encoded lie_encode(vb_subspace subspace, vb_path path, uint64_t ti
 #define vb_forget_entry lie_forget_entry
 #define vb_forget_area lie_forget_area
 #define vb_ingest_entry lie_ingest_entry
+#define vb_record_available_length lie_record_available_length
+#define vb_forget_payload lie_forget_payload

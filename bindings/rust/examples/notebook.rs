@@ -1,5 +1,6 @@
-//! Opens a store, files five readings and the last of them again, lists what it then holds, keeps it and takes it back, asks how much each recorder has, and drops an area.
-use virebony::{Area, AreaSubspace, AuthorisedEntry, Entry, EntryIngestionSuccess, Path, Range, Refusal, Store, SubspaceId};
+//! Opens a store, files five readings and the last of them again, keeps it and takes it back, records how much of two photographs has arrived, lists what the
+//! store holds and what of it is all there, asks how much each recorder has, and drops an area.
+use virebony::{Area, AreaSubspace, AuthorisedEntry, Entry, EntryIngestionSuccess, Path, QueryIgnoreParams, Range, Refusal, Store, SubspaceId};
 
 const NAMESPACE: [u8; 16] = [1; 16];
 
@@ -7,11 +8,15 @@ fn path_of(text: &str) -> Result<Path, Refusal> {
     Path::from_slices(&text.split('/').collect::<Vec<_>>())
 }
 
+fn shown(path: &Path) -> String {
+    path.components().map(|component| format!("/{}", String::from_utf8_lossy(component))).collect()
+}
+
 fn main() -> Result<(), Refusal> {
     let mut store = Store::open(NAMESPACE, 16)?;
     for (i, text) in ["ward/3/ann", "ward/3/bob", "ward/4", "ward/3", "ward/3/ann", "ward/3/ann"].into_iter().enumerate() {
         let recorder = SubspaceId { high: 0, low: if text == "ward/4" { 8 } else { 9 } };
-        let entry = Entry::new(NAMESPACE, recorder, path_of(text)?, 100 + i.min(4) as u64, 0, [0; 32]); // the last is the fifth again
+        let entry = Entry::new(NAMESPACE, recorder, path_of(text)?, 100 + i.min(4) as u64, 5000, [0; 32]); // the last is the fifth again
         match store.ingest_entry(AuthorisedEntry::new(entry, [7; 64]), false)? {
             EntryIngestionSuccess::Success { pruned } => println!("{text}: taken, {pruned} pruned"), // the fourth prunes the first two
             EntryIngestionSuccess::Obsolete { newer, .. } => println!("{text}: obsolete since {}", newer.entry().timestamp()),
@@ -20,10 +25,19 @@ fn main() -> Result<(), Refusal> {
     }
     let (state, kept) = store.as_parts();
     let mut store = Store::from_parts(state, kept.spt.into(), kept.spt_dir.into(), kept.tsp.into(), kept.tsp_dir.into())?;
+    let recorder = SubspaceId { high: 0, low: 9 };
+    store.record_available_length(&recorder, &path_of("ward/3")?, None, 1200)?;
+    store.record_available_length(&recorder, &path_of("ward/3/ann")?, Some([0; 32]), 5000)?;
+    if let Err(refusal) = store.record_available_length(&recorder, &path_of("ward")?, None, 5000) {
+        println!("/ward: {refusal}");
+    }
     for stored in store.query_area(&Area::new_full(), Default::default())? {
         let entry = stored.entry().entry();
-        let text: Vec<_> = entry.path().components().map(String::from_utf8_lossy).collect();
-        println!("/{} at {}", text.join("/"), entry.timestamp());
+        println!("{} at {}, {} of {} bytes there", shown(entry.path()), entry.timestamp(), stored.available(), entry.payload_length());
+    }
+    let complete = QueryIgnoreParams { ignore_incomplete_payloads: true, ..Default::default() };
+    for stored in store.query_area(&Area::new_full(), complete)? {
+        println!("{} is all there", shown(stored.entry().entry().path()));
     }
     for item in store.tally() {
         println!("recorder {} has {}, the newest at {}", item.subspace_id.low, item.count, item.newest);

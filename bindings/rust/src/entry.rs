@@ -168,7 +168,9 @@ impl LengthyAuthorisedEntry {
         &self.entry
     }
 
-    /// How many bytes of the payload are available; of an entry that a store answers, at most the payload's length.
+    /// How many bytes of the payload are available. Of an entry that a store answers: at most the payload's length, as
+    /// [`Store::record_available_length`](crate::Store::record_available_length) and [`Store::forget_payload`](crate::Store::forget_payload) left it since it
+    /// was filed, and 0 if neither did.
     pub fn available(&self) -> u64 {
         self.available
     }

@@ -1,7 +1,8 @@
 //! Virebony: an entry store for field notebooks whose behaviour is proved, linked as `libvirebony.a`. The names are those of willow-rs, whose
 //! `store_simple_sled` it carries over (entries without payloads), where it has one.
 //!
-//! A reading may be sent as often as a tablet likes: an entry that is stored already is [held](EntryIngestionSuccess::Held), and nothing changes.
+//! A reading may be sent as often as a tablet likes: an entry that is stored already is [held](EntryIngestionSuccess::Held), and nothing changes. Payloads are
+//! kept elsewhere; how much of one has arrived is [recorded](Store::record_available_length) here, so that a listing can pass over those that are not all there.
 //!
 //! - [`Store`] owns its buffers and takes values that are legal by their types: [`Path`], [`Entry`], [`Area`], [`Range3d`].
 //! - [`raw`] has every export of the archive as one safe function, over buffers of any length and values of any kind.

@@ -1,8 +1,8 @@
 //! Why a call was refused.
 use std::fmt;
 
-/// Why a call was refused. A call answers the first reason that applies, in the order of these numbers but for 10, which is tested right after 3; and a
-/// refused call has changed nothing.
+/// Why a call was refused. A call answers the first reason that applies, in the order of these numbers but for 10, which is tested right after 3, and 11,
+/// which is tested before 9; and a refused call has changed nothing.
 ///
 /// ```
 /// use virebony::{Refusal, Store};
@@ -34,21 +34,37 @@ pub enum Refusal {
     OtherDigest = 9,
     /// The tally is not the one that the store gives. A [`Store`](crate::Store) keeps its own, and never answers this.
     WrongTally = 10,
+    /// No entry stands at the subspace and path.
+    AbsentEntry = 11,
+    /// The available length is above the payload length.
+    TooMuchAvailable = 12,
 }
 
 use Refusal::*;
 
 impl Refusal {
     /// All of them, by number.
-    pub const ALL: [Refusal; 10] =
-        [BadLimit, ShortBuffer, NotWellFormed, IllegalPath, NoKey, OtherNamespace, PruningPrevented, Full, OtherDigest, WrongTally];
+    pub const ALL: [Refusal; 12] = [
+        BadLimit,
+        ShortBuffer,
+        NotWellFormed,
+        IllegalPath,
+        NoKey,
+        OtherNamespace,
+        PruningPrevented,
+        Full,
+        OtherDigest,
+        WrongTally,
+        AbsentEntry,
+        TooMuchAvailable,
+    ];
 
     /// The number that [`crate::raw`] answers.
     pub fn number(self) -> u8 {
         self as u8
     }
 
-    /// The refusal of a number; none for 0, which says that a call was not refused, and for numbers from 11 on, which no call answers.
+    /// The refusal of a number; none for 0, which says that a call was not refused, and for numbers from 13 on, which no call answers.
     pub fn from_number(number: u8) -> Option<Refusal> {
         Refusal::ALL.into_iter().find(|refusal| refusal.number() == number)
     }
@@ -78,6 +94,8 @@ impl fmt::Display for Refusal {
             Full => "the store is full",
             OtherDigest => "the stored entry's digest is not the one expected",
             WrongTally => "the tally is not the one that the store gives",
+            AbsentEntry => "no entry stands at the subspace and path",
+            TooMuchAvailable => "the available length is above the payload length",
         })
     }
 }

@@ -4,7 +4,7 @@ use crate::tally::{tally_of, Tally};
 use crate::{
     raw, Area, AreaOfInterest, AuthorisedEntry, Entry, LengthyAuthorisedEntry, NamespaceId, Path, PayloadDigest, Range3d, Refusal, SubspaceId,
 };
-use raw::{Buffers, BuffersMut, Pair, State};
+use raw::{Buffers, BuffersMut, Pair, State, Trees};
 
 /// What an ingestion that was not refused did.
 #[derive(Clone, Copy, Debug, PartialEq, Eq)]
@@ -29,7 +29,7 @@ pub enum EntryIngestionSuccess {
 /// Which entries a lookup or a listing passes over; the default passes over none.
 #[derive(Clone, Copy, Debug, Default, PartialEq, Eq, Hash)]
 pub struct QueryIgnoreParams {
-    /// Those whose payload is not all there.
+    /// Those whose payload is not all there, by what was recorded ([`Store::record_available_length`]); an empty one is.
     pub ignore_incomplete_payloads: bool,
     /// Those of an empty payload.
     pub ignore_empty_payloads: bool,
@@ -150,6 +150,46 @@ impl Store {
         Ok(answer.forgotten)
     }
 
+    /// Records how much of a payload has arrived: `available` bytes of that of the entry at exactly this subspace and path. Any number up to the payload
+    /// length will do, a smaller one than before too; nothing else changes. With a digest expected, only if it is the stored entry's. A new entry has
+    /// available length 0, also one that takes another's place. Refused: 11, 9, 12.
+    ///
+    /// ```
+    /// use virebony::{Area, AuthorisedEntry, Entry, Path, QueryIgnoreParams, Refusal, Store, SubspaceId};
+    /// let (subspace, path) = (SubspaceId { high: 0, low: 9 }, Path::from_slices(&["plot", "3"])?);
+    /// let mut store = Store::open([1; 16], 16)?;
+    /// assert_eq!(store.record_available_length(&subspace, &path, None, 0), Err(Refusal::AbsentEntry));
+    /// store.ingest_entry(AuthorisedEntry::new(Entry::new([1; 16], subspace, path, 100, 5000, [8; 32]), [7; 64]), false)?;
+    /// let complete = QueryIgnoreParams { ignore_incomplete_payloads: true, ..Default::default() };
+    /// store.record_available_length(&subspace, &path, Some([8; 32]), 4999)?;
+    /// assert_eq!(store.query_area(&Area::new_full(), complete)?.count(), 0);
+    /// store.record_available_length(&subspace, &path, Some([8; 32]), 5000)?;
+    /// assert_eq!(store.query_area(&Area::new_full(), complete)?.count(), 1);
+    /// assert_eq!(store.record_available_length(&subspace, &path, None, 5001), Err(Refusal::TooMuchAvailable));
+    /// # Ok::<(), Refusal>(())
+    /// ```
+    pub fn record_available_length(
+        &mut self,
+        subspace_id: &SubspaceId,
+        path: &Path,
+        expected_digest: Option<PayloadDigest>,
+        available: u64,
+    ) -> Result<(), Refusal> {
+        let (expects, digest) = (u8::from(expected_digest.is_some()), expected_digest.unwrap_or_default());
+        let answer = raw::record_available_length(self.state, &mut self.trees(), *subspace_id, *path.as_raw(), expects, &digest, available);
+        self.state = Refusal::check(answer.refusal, answer.state)?;
+        Ok(())
+    }
+
+    /// Forgets how much of a payload has arrived: the available length of the entry at exactly this subspace and path becomes 0. With a digest expected,
+    /// only if it is the stored entry's. Refused: 11, 9.
+    pub fn forget_payload(&mut self, subspace_id: &SubspaceId, path: &Path, expected_digest: Option<PayloadDigest>) -> Result<(), Refusal> {
+        let (expects, digest) = (u8::from(expected_digest.is_some()), expected_digest.unwrap_or_default());
+        let answer = raw::forget_payload(self.state, &mut self.trees(), *subspace_id, *path.as_raw(), expects, &digest);
+        self.state = Refusal::check(answer.refusal, answer.state)?;
+        Ok(())
+    }
+
     /// The entry at a subspace and path, unless `ignore` passes over it.
     pub fn entry(&self, subspace_id: &SubspaceId, path: &Path, ignore: QueryIgnoreParams) -> Result<Option<LengthyAuthorisedEntry>, Refusal> {
         let answer = raw::find_entry(self.state, self.buffers(), *subspace_id, *path.as_raw(), ignore.to_raw());
@@ -187,8 +227,8 @@ impl Store {
         Refusal::check(answer.refusal, Range3d::of_answer(answer.range))
     }
 
-    /// The items of the tally, in ascending order: how many entries each subspace has, and the newest of their timestamps. Every call that changes the
-    /// store has kept it right, so no entry is looked at here.
+    /// The items of the tally, in ascending order: how many entries each subspace has, and the newest of their timestamps. Every call that files or drops
+    /// entries has kept it right, so no entry is looked at here.
     pub fn tally(&self) -> Tally<'_> {
         Tally::new(&self.tally)
     }
@@ -224,6 +264,10 @@ impl Store {
 
     fn buffers(&self) -> Buffers<'_> {
         Buffers { spt: &self.spt, spt_dir: &self.spt_dir, tsp: &self.tsp, tsp_dir: &self.tsp_dir }
+    }
+
+    fn trees(&mut self) -> Trees<'_> {
+        Trees { spt: &mut self.spt, spt_dir: &self.spt_dir, tsp: &mut self.tsp, tsp_dir: &self.tsp_dir }
     }
 
     fn buffers_mut(&mut self) -> BuffersMut<'_> {

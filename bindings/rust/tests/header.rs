@@ -22,7 +22,7 @@ fn names(text: &str) -> Vec<&str> {
 #[test]
 fn every_export_is_declared_and_tested() {
     let exports = names(HEADER);
-    assert_eq!(exports.len(), 34);
+    assert_eq!(exports.len(), 36);
     assert_eq!(names(CALLS), exports);
     for name in exports.iter().map(|name| name.replace("vb_", "raw::") + "(") {
         assert!(name == "raw::edition(" || TESTS.iter().any(|test| test.contains(&name)), "{name} is not called");
@@ -59,17 +59,25 @@ fn sentences_of_refusals() {
         assert!(HEADER.contains(&format!("case VB{name}: return \"{refusal}\";")), "{name}");
         assert_eq!(Refusal::from_number(refusal.number()), Some(refusal));
     }
-    assert_eq!((Refusal::from_number(0), Refusal::from_number(11)), (None, None));
+    assert_eq!((Refusal::from_number(0), Refusal::from_number(13)), (None, None));
 }
 
-/// What an ingestion does is said in the same words.
+/// What an ingestion does is said in the same words, and in which order the calls about available lengths are refused.
 #[test]
-fn words_of_an_ingestion() {
-    let words = |text: &'static str, behind| {
-        let from = text.find("Files an entry with its token").unwrap();
+fn words_of_a_call() {
+    let words = |text: &'static str, front, behind| {
+        let from = text.find(front).unwrap();
         text[from..].split(behind).next().unwrap().split_whitespace().filter(|word| *word != "///").collect::<Vec<_>>()
     };
-    assert_eq!(words(HEADER, "*/"), words(CALLS, "ingest_entry ="));
+    let files = "Files an entry with its token";
+    assert_eq!(words(HEADER, files, "*/"), words(CALLS, files, "ingest_entry ="));
+    for (front, name) in
+        [("Records how much of a payload has arrived", "record_available_length"), ("Forgets how much of a payload", "forget_payload")]
+    {
+        let [header, calls] = [words(HEADER, front, "*/"), words(CALLS, front, name)].map(|words| words.join(" "));
+        let calls = &calls[calls.rfind("Refused: ").unwrap()..];
+        assert!(header.ends_with(calls), "{name}: {calls}");
+    }
 }
 
 /// The header's asserts name a struct, its size and offsets; the crate's own asserts (src/sys) have the same.

@@ -39,9 +39,11 @@ impl Random {
 
     /// Any call that changes a store, whatever it answers.
     fn change(&mut self, store: &mut Store) {
-        match self.below(8) {
+        match self.below(10) {
             0 => drop(store.forget_entry(&self.subspace(), &self.path(), None)),
             1 => drop(store.forget_area(&self.area(), Some(&self.area()))),
+            2 => drop(store.record_available_length(&self.subspace(), &self.path(), None, self.next() >> (8 * self.below(8)))),
+            3 => drop(store.forget_payload(&self.subspace(), &self.path(), None)),
             _ => drop(store.ingest_entry(self.entry(), self.below(4) == 0)),
         }
     }
@@ -81,7 +83,7 @@ fn counted(store: &Store) -> Vec<TallyItem> {
 
 #[test]
 fn parts_make_the_same_store() {
-    let mut most = 0;
+    let (mut most, mut arrived) = (0, 0);
     for seed in 0..200 {
         let mut random = Random(seed);
         let limit = 1 + random.below(12);
@@ -102,9 +104,11 @@ fn parts_make_the_same_store() {
             random.change(&mut store);
             assert_eq!(Parts::of(&again), Parts::of(&store));
             most = most.max(store.len());
+            arrived += listed(&store).iter().filter(|stored| stored.available() != 0).count();
         }
     }
     assert_eq!(most, 12);
+    assert!(arrived > 100, "available lengths were met {arrived} times");
 }
 
 /// One byte of a tree, one number of a directory, or the count is another: the trees no longer agree with each other or with their directories.

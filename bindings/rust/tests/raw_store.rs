@@ -42,10 +42,13 @@ fn short_buffers() {
         }
         assert_eq!(raw::open(&[0; 16], 1, &mut lent).refusal, 2);
         if which == 4 {
-            continue; // a call that reads is not lent the tally
+            continue; // no other call of these is lent the tally
         }
         let state = raw::State { limit: 1, ..Default::default() };
         assert_eq!(raw::count_area(state, lent.as_buffers(), everything()), raw::Counted { refusal: 2, count: 0 });
+        let refused = raw::AvailableRecorded { refusal: 2, state };
+        assert_eq!(raw::record_available_length(state, &mut lent.as_trees(), subspace(1), illegal()[0], 0, &[0; 32], 0), refused);
+        assert_eq!(raw::forget_payload(state, &mut lent.as_trees(), subspace(1), illegal()[0], 0, &[0; 32]), refused);
     }
 }
 
@@ -79,6 +82,9 @@ fn what_no_call_takes() {
         assert_eq!((pairs, numbers), ([UNTOUCHED; 3], [0xeeee_eeee; 6]));
         assert_eq!(raw::forget_entry(state, &mut lent, subspace(1), bad_path, 0, &[0; 32]), raw::EntryForgotten { refusal: want, state });
         assert_eq!(raw::forget_area(state, &mut lent, all, 0, all), raw::AreaForgotten { refusal: want, state, forgotten: 0 });
+        let recorded = raw::AvailableRecorded { refusal: want, state };
+        assert_eq!(raw::record_available_length(state, &mut lent.as_trees(), subspace(1), bad_path, 1, &[0; 32], u64::MAX), recorded);
+        assert_eq!(raw::forget_payload(state, &mut lent.as_trees(), subspace(1), bad_path, 1, &[0; 32]), recorded);
         let lent = lent.as_buffers();
         let found = raw::find_entry(state, lent, subspace(1), bad_path, ignore(0, 0));
         assert_eq!((found.refusal, found.found, found.lengthy.entry, found.lengthy.token), (want, 0, unchanged.newer, [0; 64]));
@@ -351,6 +357,156 @@ fn forgetting() {
     assert_eq!((kept.spt, kept.spt_dir, kept.tsp, kept.tsp_dir, kept.tally), (empty.spt, empty.spt_dir, empty.tsp, empty.tsp_dir, empty.tally));
 }
 
+/// A recording that answers the state handed in, as every one does: its refusal.
+fn record(kept: &mut Kept, low: u64, text: &str, digest: Option<u8>, available: u64) -> u8 {
+    let (state, expects) = (kept.state, digest.map_or(0, |byte| 1 + byte));
+    let answer = raw::record_available_length(state, &mut kept.trees(), subspace(low), path(text), expects, &[digest.unwrap_or(0); 32], available);
+    assert_eq!(answer.state, state);
+    answer.refusal
+}
+
+/// The same for forgetting one.
+fn forget_payload(kept: &mut Kept, low: u64, text: &str, digest: Option<u8>) -> u8 {
+    let (state, expects) = (kept.state, digest.map_or(0, |byte| 1 + byte));
+    let answer = raw::forget_payload(state, &mut kept.trees(), subspace(low), path(text), expects, &[digest.unwrap_or(0); 32]);
+    assert_eq!(answer.state, state);
+    answer.refusal
+}
+
+/// The available length of a stored entry.
+fn available(kept: &Kept, low: u64, text: &str) -> u64 {
+    let found = raw::find_entry(kept.state, kept.buffers(), subspace(low), path(text), ignore(0, 0));
+    assert_eq!((found.refusal, found.found), (0, 1));
+    found.lengthy.available
+}
+
+/// Of [61][62] and [61], which tie, the second has 3 of its 3 bytes: the last 8 bytes of its record in either tree, and nothing else. Then 1, and none.
+#[test]
+fn recorded_lengths() {
+    let mut kept = Kept::open(3);
+    assert_eq!(["61/62", "61"].map(|text| taken(kept.ingest(entry(1, text, 5, 3, 9), 1))), [(0, 1), (0, 2)]);
+    let filed = kept.clone();
+    for (digest, length) in [(None, 3), (Some(9), 1), (None, 1), (Some(9), 0), (None, 2)] {
+        let mut want = filed.clone();
+        (want.spt[140], want.tsp[140]) = (length, length); // the record of [61] has bytes 0 to 140
+        assert_eq!((record(&mut kept, 1, "61", digest, length.into()), available(&kept, 1, "61")), (0, length.into()));
+        assert_eq!(kept, want);
+    }
+    assert_eq!((forget_payload(&mut kept, 1, "61", Some(9)), &kept), (0, &filed));
+    assert_eq!((forget_payload(&mut kept, 1, "61", None), &kept), (0, &filed)); // nothing has arrived: done all the same
+    let long = raw::Entry { payload_length: u64::MAX, ..entry(2, "61", 5, 0, 9) };
+    assert_eq!((taken(kept.ingest(long, 0)), record(&mut kept, 2, "61", None, 0x0102_0304_0506_0708)), ((0, 3), 0));
+    let last = kept.spt_dir[4] as usize + kept.spt_dir[5] as usize;
+    assert_eq!((&kept.spt[last - 8..last], &kept.tsp[last - 8..last]), (&[1, 2, 3, 4, 5, 6, 7, 8][..], &[1, 2, 3, 4, 5, 6, 7, 8][..]));
+    assert_eq!((record(&mut kept, 2, "61", None, u64::MAX), available(&kept, 2, "61")), (0, u64::MAX));
+}
+
+/// Document 02's U4: 11 before 9, 12 after it, and 4 before all of them; the path is the exact one. Nothing changes.
+#[test]
+fn what_a_recording_refuses() {
+    let mut kept = four();
+    let (good, bad_path) = (kept.clone(), illegal()[2]);
+    for (low, text) in [(2, "61"), (1, ""), (1, "61/62/63"), (1, "6162"), (1, "61/."), (2, "64/64"), (0, "64")] {
+        for digest in [None, Some(9), Some(8)] {
+            assert_eq!([0, 9, u64::MAX].map(|n| record(&mut kept, low, text, digest, n)), [11; 3]);
+            assert_eq!(forget_payload(&mut kept, low, text, digest), 11);
+        }
+    }
+    for (low, text, length) in [(1, "61", 0), (1, "61/62", 1), (1, "63", 2), (2, "64", 3)] {
+        assert_eq!([0, length, length + 1, u64::MAX].map(|n| record(&mut kept, low, text, Some(8), n)), [9; 4]);
+        assert_eq!([None, Some(9)].map(|digest| record(&mut kept, low, text, digest, length + 1)), [12; 2]);
+        assert_eq!([None, Some(9)].map(|digest| record(&mut kept, low, text, digest, u64::MAX)), [12; 2]);
+        assert_eq!(forget_payload(&mut kept, low, text, Some(8)), 9);
+        // Nothing of a payload can always be there, of an empty one too.
+        assert_eq!([None, Some(9)].map(|digest| record(&mut kept, low, text, digest, 0)), [0; 2]);
+    }
+    let state = kept.state;
+    for (low, n) in [(1, 0), (9, u64::MAX)] {
+        assert_eq!(raw::record_available_length(state, &mut kept.trees(), subspace(low), bad_path, 1, &[8; 32], n).refusal, 4);
+        assert_eq!(raw::forget_payload(state, &mut kept.trees(), subspace(low), bad_path, 1, &[8; 32]).refusal, 4);
+    }
+    // An absent entry's forgetting is still done.
+    assert_eq!(raw::forget_entry(state, &mut kept.buffers_mut(), subspace(2), path("61"), 1, &[8; 32]).refusal, 0);
+    assert_eq!(kept, good);
+}
+
+/// [61][62] alone, then [61] alone: the other path is that of no entry.
+#[test]
+fn neither_extensions_nor_prefixes() {
+    for (stored, other) in [("61/62", "61"), ("61", "61/62")] {
+        let mut kept = Kept::open(1);
+        kept.ingest(entry(1, stored, 5, 3, 9), 0);
+        assert_eq!(record(&mut kept, 1, stored, Some(9), 3), 0);
+        let good = kept.clone();
+        assert_eq!([0, 3, 4].map(|n| record(&mut kept, 1, other, None, n)), [11; 3]);
+        assert_eq!(forget_payload(&mut kept, 1, other, Some(9)), 11);
+        assert_eq!((&kept, available(&kept, 1, stored)), (&good, 3));
+    }
+}
+
+/// The flag of a lookup and of a listing goes by what was recorded; counts and the tally have all.
+#[test]
+fn recorded_lengths_and_flags() {
+    let mut kept = four();
+    let listed = |kept: &Kept| -> Vec<usize> {
+        let place = |from| raw::query_area_place(kept.state, kept.buffers(), everything(), ignore(1, 0), from);
+        let (area, whole): (Vec<_>, _) =
+            ((0..4).filter(|from| place(*from).place == *from && place(*from).found == 1).collect(), range(path(""), path(""), 1));
+        let first = raw::query_range_place(kept.state, kept.buffers(), whole, ignore(1, 0), 0);
+        assert_eq!((first.found, first.place), (1, area[0]));
+        area
+    };
+    assert_eq!(listed(&kept), [0]); // [61], whose payload is empty
+    assert_eq!((record(&mut kept, 1, "63", None, 1), listed(&kept)), (0, vec![0]));
+    assert_eq!((record(&mut kept, 1, "63", None, 2), listed(&kept)), (0, vec![0, 2]));
+    assert_eq!((record(&mut kept, 2, "64", Some(9), 3), listed(&kept)), (0, vec![0, 2, 3]));
+    let find = |kept: &Kept| raw::find_entry(kept.state, kept.buffers(), subspace(1), path("63"), ignore(1, 0)).found;
+    assert_eq!(find(&kept), 1);
+    assert_eq!((forget_payload(&mut kept, 1, "63", None), listed(&kept), find(&kept)), (0, vec![0, 3], 0));
+    assert_eq!(raw::count_area(kept.state, kept.buffers(), everything()).count, 4);
+    assert_eq!(kept.tally, four().tally);
+}
+
+/// A held resend keeps what was recorded; a newer entry at the place, and one filed again after a forgetting, has 0.
+#[test]
+fn recorded_lengths_and_ingestions() {
+    let mut kept = Kept::open(2);
+    kept.ingest(entry(1, "61", 5, 3, 9), 0);
+    assert_eq!(record(&mut kept, 1, "61", None, 2), 0);
+    let good = kept.clone();
+    assert_eq!((kept.ingest(entry(1, "61", 5, 3, 9), 0).held, &kept, available(&kept, 1, "61")), (1, &good, 2));
+    assert_eq!((kept.ingest(entry(1, "61", 4, 3, 9), 0).obsolete, &kept), (1, &good));
+    assert_eq!((taken(kept.ingest(entry(1, "61/62", 5, 3, 9), 0)), available(&kept, 1, "61"), available(&kept, 1, "61/62")), ((0, 2), 2, 0)); // a tie
+    assert_eq!((taken(kept.ingest(entry(1, "61", 6, 3, 9), 0)), available(&kept, 1, "61")), ((2, 1), 0));
+    assert_eq!(record(&mut kept, 1, "61", None, 3), 0);
+    kept.state = raw::forget_entry(kept.state, &mut kept.buffers_mut(), subspace(1), path("61"), 0, &[0; 32]).state;
+    assert_eq!((record(&mut kept, 1, "61", None, 3), forget_payload(&mut kept, 1, "61", None)), (11, 11));
+    assert_eq!((taken(kept.ingest(entry(1, "61", 6, 3, 9), 0)), available(&kept, 1, "61")), ((0, 1), 0));
+}
+
+/// Neither call is lent the tally or asks whether it is right; buffers may be longer than asked, and what lies beyond stays; one tree alone is no store.
+#[test]
+fn recordings_and_the_buffers() {
+    let mut kept = Kept::open(2);
+    kept.ingest(entry(1, "61", 5, 3, 9), 0);
+    kept.tally[27] ^= 1;
+    assert_eq!((record(&mut kept, 1, "61", None, 2), forget_payload(&mut kept, 1, "61", None)), (0, 0));
+    kept.spt.extend([7; 5]);
+    kept.tsp.extend([7; 5]);
+    kept.spt_dir.extend([7; 3]);
+    kept.tsp_dir.extend([7; 3]);
+    assert_eq!(record(&mut kept, 1, "61", None, 3), 0);
+    for tree in [&kept.spt, &kept.tsp] {
+        assert_eq!((tree[140], &tree[820..]), (3, &[7; 5][..]));
+    }
+    assert_eq!((&kept.spt_dir[4..], &kept.tsp_dir[4..]), (&[7; 3][..], &[7; 3][..]));
+    kept.spt[140] = 2; // in one tree only
+    let damaged = kept.clone();
+    assert_eq!((record(&mut kept, 1, "61", Some(8), 4), forget_payload(&mut kept, 9, "61", None), &kept), (3, 3, &damaged));
+    kept.tsp[140] = 2;
+    assert_eq!(forget_payload(&mut kept, 1, "61", None), 0);
+}
+
 /// A tally's bytes: these items, and zeros up to 28 × limit.
 fn items(limit: usize, items: &[(u64, u64, u32, u64)]) -> Vec<u8> {
     let parts =
@@ -380,7 +536,7 @@ fn the_tally_after_each_call() {
     assert_eq!((done.forgotten, kept.tally), (1, items(5, &[(1, 0, 1, u64::MAX)])));
 }
 
-/// Refusal 10 of the calls that change a store: behind 1, 2 and 3 and before all others, and no byte is changed. Calls that read do not look.
+/// Refusal 10 of the calls that file or drop entries: behind 1, 2 and 3 and before all others, and no byte is changed. No other call looks.
 #[test]
 fn wrong_tallies() {
     let mut kept = Kept::open(2);

@@ -260,6 +260,32 @@ fn tallies() {
     assert_eq!((store.tally().next(), store.tally().of(subspace(0))), (None, None));
 }
 
+/// Document 02's U4: 11, 9 and 12 in this order, the exact path, and what a flag then passes over.
+#[test]
+fn how_much_has_arrived() {
+    let (mut store, entries) = four();
+    let incomplete = QueryIgnoreParams { ignore_incomplete_payloads: true, ..NONE };
+    let (one, c, d) = (subspace(1), path(&[b"c"]), path(&[b"d"]));
+    let listed = |store: &Store| store.query_area(&Area::new_full(), incomplete).unwrap().map(|found| *found.entry()).collect::<Vec<_>>();
+    assert_eq!(listed(&store), entries[..1]);
+    assert_eq!(store.record_available_length(&one, &d, Some([8; 32]), 9), Err(Refusal::AbsentEntry));
+    assert_eq!(store.record_available_length(&one, &c, Some([8; 32]), 9), Err(Refusal::OtherDigest));
+    assert_eq!(store.record_available_length(&one, &c, Some([9; 32]), 3), Err(Refusal::TooMuchAvailable));
+    assert_eq!(store.forget_payload(&one, &path(&[b"a", b"c"]), None), Err(Refusal::AbsentEntry));
+    assert_eq!(store.forget_payload(&one, &c, Some([8; 32])), Err(Refusal::OtherDigest));
+    assert_eq!(store.record_available_length(&one, &c, Some([9; 32]), 2), Ok(()));
+    assert_eq!(store.record_available_length(&subspace(2), &d, None, 2), Ok(()));
+    assert_eq!(listed(&store), [entries[0], entries[2]]);
+    let available = |store: &Store| store.query_area(&Area::new_full(), NONE).unwrap().map(|found| found.available()).collect::<Vec<_>>();
+    assert_eq!(available(&store), [0, 0, 2, 2]);
+    assert_eq!(store.ingest_entry(entries[2], false), Ok(EntryIngestionSuccess::Held));
+    assert_eq!((store.entry(&one, &c, incomplete).unwrap().map(|found| found.available()), store.len()), (Some(2), 4));
+    assert_eq!((store.forget_payload(&one, &c, Some([9; 32])), available(&store)), (Ok(()), vec![0, 0, 0, 2]));
+    assert_eq!((store.record_available_length(&subspace(2), &d, None, 1), available(&store)), (Ok(()), vec![0, 0, 0, 1])); // smaller than before
+    assert_eq!(store.ingest_entry(entry(2, &[b"d"], 11, 3, 9), false), success(1));
+    assert_eq!(available(&store), [0; 4]); // a new entry starts at 0
+}
+
 /// Every number of subspaces up to the limit, so that halving meets every one.
 #[test]
 fn an_item_for_each_subspace() {

@@ -25,7 +25,7 @@ use Rattle.key_laws.proofs.Behind.{behind-legal, behind-components, guarded, be
 use Rattle.tree.specs.Matching.{inArea, inRange}
 use Rattle.query.specs.Listing.{partOf, offsetOf}
 use Rattle.call_laws.specs.Unseen.{Unseen}
-use Rattle.call_laws.proofs.UnseenStore.{area-test, range-test, counted-same, found-same, area-listed-same, range-listed-same, interest-same, ingested-same, pairs-same, forgotten-same, area-forgotten-same}
+use Rattle.call_laws.proofs.UnseenStore.{area-test, range-test, counted-same, found-same, area-listed-same, range-listed-same, interest-same, ingested-same, pairs-same, forgotten-same, area-forgotten-same, available-same}
 
 answers : {b c x y : Bool} → b ≡ c → (b ≡ true → x ≡ y) → answered b x ≡ answered c y
 unfolding answered
@@ -124,6 +124,8 @@ unseen f = record {
   ingest-entry = pairs-same f;
   forget-entry = forgotten-same f;
   forget-area = area-forgotten-same f;
+  record-available-length = available-same f;
+  forget-payload = λ s subspace expects digest. available-same f s subspace expects digest 0;
   entry = found-same f;
   query-area-place = area-listed-same f;
   query-area = λ s ignore place a b h. ap (partOf f s) (area-listed-same f s ignore place a b h);

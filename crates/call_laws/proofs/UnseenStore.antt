@@ -23,10 +23,11 @@ use Rattle.tree.specs.Matching.{standsAt, inArea, inRange, isForgotten, letThro
 use Rattle.tree.specs.Interest.{interestFrom}
 use Rattle.data_model.specs.declared.«query_ignore_params».QueryIgnoreParams.{QueryIgnoreParams}
 use Rattle.tree.specs.declared.stored.KeyOrder.the-variants.{Spt, Tsp}
-use Rattle.store.specs.Store.{Store, dirRoom, held, Tallied}
+use Rattle.store.specs.Store.{Store, dirRoom, held, heldBy, holding, Tallied}
 use Rattle.store.specs.Refusal.{unless, _orElse_, storeRefusal, talliedRefusal}
 use Rattle.store.specs.Ingest.{refuse, decided, ingestRefusal, judged, carried, IngestOutcome, ingested}
 use Rattle.store.specs.Forget.{talliedWithout, unexpected, forgetEntryRefusal, forgetAreaRefusal, ForgetEntryOutcome, ForgetAreaOutcome, entryForgotten, areaForgotten}
+use Rattle.available.specs.Available.{arrivedAt, entryRefusal, availableRefusal, AvailableOutcome, availableSet}
 use Rattle.pairs.specs.Pairs.{numbersOf, inPairs, pairsIngested}
 use Rattle.pairs.specs.declared.Pair.{Pair}
 use Rattle.query.specs.Reading.{readRefusal}
@@ -104,6 +105,19 @@ module _ (f : Figures) (s : Store) where
       ap₂ startingAt
       (λ i. interestFrom (h .count i) (h .size i) 0 0 (h .area .times i .start) (reverse (keep (t i) (held f Tsp s))))
       (behind-area-range f (a .area) (b .area) (h .area) l))
+
+  pub available-same : (subspace : Subspace) (expects : Bool) (digest : List ℕ) (n : ℕ) → SameFor PathsAgree (λ p. availableSet f s subspace p expects digest n)
+  unfolding availableSet availableRefusal
+  available-same subspace expects digest n p q h = guarded answer blind _ _ _ _ (behind-legal f p q h) (behind-components f p q h)
+    where
+      number : Bool → Components → ℕ
+      number lawful cs = storeRefusal f s true orElse unless lawful illegalPath orElse entryRefusal subspace cs expects digest n (held f Spt s)
+
+      answer : Bool → Components → AvailableOutcome
+      answer lawful cs = record { answer = record { refusal = number lawful cs; state = s .state }; left = cond (eqb (number lawful cs) 0) (holding f (arrivedAt subspace cs n (heldBy f s)) s) s }
+
+      blind : (x y : Components) → answer false x ≡ answer false y
+      blind x y = unfold unless _orElse_ in rw (illegal-first (storeRefusal f s true)) refl
 
 -- Changes.
 abbrev entryAnswer : Figures → Tallied → (prune token : List ℕ) → (prevent : Bool) → (namespace : List ℕ) → (lawful : Bool) → Entry → IngestOutcome

@@ -18,7 +18,8 @@ use Rattle.store.specs.Ingest.{IngestOutcome, ingested, prunedPairs}
 use Rattle.store.specs.Forget.{entryForgotten, areaForgotten}
 use Rattle.store.specs.declared.state.State.{State}
 use Rattle.pairs.specs.Pairs.{prunedCount}
-use Rattle.call_laws.specs.Calls.{Opening, IngestCall, Call, ingest, forget-entry, forget-area, counted, Verdict, obsolete, done, ingestVerdict, numberVerdict}
+use Rattle.available.specs.Available.{availableSet}
+use Rattle.call_laws.specs.Calls.{Opening, IngestCall, Call, Recording, ingest, forget-entry, forget-area, record-available, forget-payload, nothingAt, counted, Verdict, obsolete, done, ingestVerdict, numberVerdict}
 use Rattle.call_laws.specs.Checks.{WellFormedStore, TallyRight, VerdictRight, OpeningVerdictRight}
 
 -- The verdict, the number in the answer (0 if it has none), and the store that is left: its state is the one that is answered.
@@ -27,11 +28,20 @@ pub record Outcome (S : Type 0) : Type 0 where
   pub number : ℕ
   pub left : S
 
+-- A recording is lent no tally: it stays.
+abbrev pub recordingOutcome : Figures → Tallied → Recording → Outcome Tallied
+recordingOutcome f w r =
+    let p = r .target in
+    let o = availableSet f (w .store) (p .subspace) (p .path) (p .expects) (p .digest) (r .available) in
+    record { verdict = numberVerdict (o .answer .refusal); number = 0; left = record { store = o .left; tally = w .tally } }
+
 -- Ours: what is answered and left on a store with its tally, and by an opening.
 unfoldable pub outcome : Figures → Tallied → Call → Outcome Tallied
 outcome f w (ingest i) = let r = ingested f w (i .prune) (i .handed) in record { verdict = ingestVerdict (r .answer .verdict); number = prunedCount (r .answer .verdict); left = r .left }
 outcome f w (forget-entry p) = let r = entryForgotten f w (p .subspace) (p .path) (p .expects) (p .digest) in record { verdict = numberVerdict (r .answer .refusal); number = 0; left = r .left }
 outcome f w (forget-area a) = let r = areaForgotten f w (a .area) (a .protects) (a .protected) in record { verdict = numberVerdict (r .answer .refusal); number = r .answer .forgotten; left = r .left }
+outcome f w (record-available r) = recordingOutcome f w r
+outcome f w (forget-payload p) = recordingOutcome f w (nothingAt p)
 
 unfoldable pub opens : Figures → Opening → Outcome Tallied
 opens f o = let r = opening f (o .namespace) (o .limit) (o .spt) (o .sptDir) (o .tsp) (o .tspDir) (o .tally) in record { verdict = numberVerdict (r .answer .refusal); number = 0; left = r .left }

@@ -19,6 +19,7 @@ use Rattle.store.specs.Store.{Store, Tallied}
 use Rattle.store.specs.Ingest.{ingested}
 use Rattle.store.specs.Forget.{entryForgotten, areaForgotten}
 use Rattle.store.specs.declared.ingest.Ingestion.{Ingestion}
+use Rattle.available.specs.Available.{availableSet}
 use Rattle.pairs.specs.Pairs.{pairsIngested}
 use Rattle.pairs.specs.declared.Pair.{Pair}
 use Rattle.query.specs.Lookup.{entryFound}
@@ -59,11 +60,13 @@ pub record Unseen (f : Figures) : Type 0 where
   pub encode-spt-in : (s : Subspace) (t : ℕ) (out : List ℕ) → SameFor PathsAgree (λ p. encodedIn (roomy f out) (legal f p) (sptKey (triple s (components p) t)) out)
   pub encode-tsp : (s : Subspace) (t : ℕ) (out : List ℕ) → SameFor PathsAgree (λ p. encoded (roomy f out) (legal f p) (tspKey (triple s (components p) t)))
   pub encode-tsp-in : (s : Subspace) (t : ℕ) (out : List ℕ) → SameFor PathsAgree (λ p. encodedIn (roomy f out) (legal f p) (tspKey (triple s (components p) t)) out)
-  -- Changes of a store: the answer, the store's buffers, its tally and the prune list. `ingest_entry_by_value` answers as `ingest_entry` does
+  -- Changes of a store: the answer, the store's buffers and, where they are lent, its tally and the prune list. `ingest_entry_by_value` answers as `ingest_entry` does
   pub ingest-entry-numbers : (w : Tallied) (prune : List ℕ) → SameFor IngestionsAgree (ingested f w prune)
   pub ingest-entry : (w : Tallied) (prune : List Pair) → SameFor IngestionsAgree (pairsIngested f w prune)
   pub forget-entry : (w : Tallied) (subspace : Subspace) (expects : Bool) (digest : List ℕ) → SameFor PathsAgree (λ p. entryForgotten f w subspace p expects digest)
   pub forget-area : (w : Tallied) (protects : Bool) → SameForBoth AreasAgree (ProtectedAgree protects) (λ a protected. areaForgotten f w a protects protected)
+  pub record-available-length : (s : Store) (subspace : Subspace) (expects : Bool) (digest : List ℕ) (n : ℕ) → SameFor PathsAgree (λ p. availableSet f s subspace p expects digest n)
+  pub forget-payload : (s : Store) (subspace : Subspace) (expects : Bool) (digest : List ℕ) → SameFor PathsAgree (λ p. availableSet f s subspace p expects digest 0)
   -- Readings of a store
   pub entry : (s : Store) (subspace : Subspace) (ignore : QueryIgnoreParams) → SameFor PathsAgree (λ p. entryFound f s subspace p ignore)
   pub query-area-place : (s : Store) (ignore : QueryIgnoreParams) (place : ℕ) → SameFor AreasAgree (λ a. areaListed f s a ignore place)

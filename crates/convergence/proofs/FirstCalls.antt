@@ -11,7 +11,7 @@ use Rattle.store.specs.Store.{held, Held, heldBy, holding, Tallied}
 use Rattle.call_laws.specs.Calls.{IngestCall, Call, ingest, filedAs, Verdict, obsolete, done}
 use Rattle.call_laws.specs.Outcomes.{Outcome, outcome}
 use Rattle.call_laws.proofs.Checked.{decides-one, right-opening}
-use Rattle.call_laws.proofs.Did.{so, Did, was-refused, was-obsolete, was-held, has-filed, has-forgotten, did}
+use Rattle.call_laws.proofs.Did.{so, Did, was-refused, was-obsolete, was-held, has-filed, has-forgotten, has-recorded, did}
 use Rattle.call_laws.proofs.Stands.{Stands, OpenedStore, opens-stands}
 use Rattle.convergence.specs.Demand.{ours, history, afterAll, throughout, Demand3}
 use Rattle.convergence.specs.Examples.{atLimit, one, two, later}
@@ -87,6 +87,7 @@ limits s c = go (did field s c)
     go (was-held i q a e) = same e
     go (has-filed i q t e) = same e ∙ (unfold holding in refl)
     go (has-forgotten p q e) = same e ∙ (unfold holding in refl)
+    go (has-recorded r q k e) = same e ∙ (unfold holding in refl)
 
 -- Any store that opens as 01 says and meets demand 3.
 module _ (m : AStore) (o : OpensRight m) (v : Demand3 (throughout field) m) where

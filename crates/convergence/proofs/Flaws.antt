@@ -5,6 +5,7 @@ use mathlib.Core.List.{List, [], _∷_, map, List·Memᴰ·head as here, List·M
 use mathlib.Core.Bool.{true}
 use native.Mathlib.Omega.{arith}
 use lib.ListN.{length, replicate, getD}
+use borrow.Author.Tests.{eq-eqb}
 use Rattle.laws.specs.Sorted.{_∈_, all, Ascends}
 use Rattle.laws.proofs.Truth.{clash}
 use Rattle.layout.specs.Layout.{treeBytes, dirNumbers}
@@ -14,22 +15,25 @@ use Rattle.key_laws.proofs.EntryLaws.{prunes-irrefl}
 use Rattle.tree.specs.Stored.{Stored, recordOf, keyBelow}
 use Rattle.tree.specs.declared.stored.KeyOrder.{KeyOrder}
 use Rattle.tree.specs.declared.stored.KeyOrder.the-variants.{Spt, Tsp}
+use Rattle.tree.proofs.RecordLaws.{entry-equality}
 use Rattle.store.specs.Store.{Store, treeRoom, dirRoom, treeOf, dirOf, held, heldBy, Tallied, talliedHolding}
 use Rattle.store.specs.Refusal.{limitOk}
 use Rattle.store.specs.Open.{nothing}
 use Rattle.store.specs.Ingest.{filed}
-use Rattle.call_laws.specs.Calls.{IngestCall, ingest, filedAs, input, Verdict, obsolete, done}
+use Rattle.available.specs.Available.{availableRefusal, availableSet}
+use Rattle.call_laws.specs.Calls.{IngestCall, Recording, Call, ingest, record-available, filedAs, input, Verdict, obsolete, done, numberVerdict}
 use Rattle.call_laws.specs.Checks.{asked}
 use Rattle.call_laws.specs.Outcomes.{Outcome, outcome, opens}
-use Rattle.call_laws.proofs.Did.{so, Did, was-refused, was-obsolete, was-held, has-filed, has-forgotten, did}
-use Rattle.call_laws.proofs.Stands.{opened-store}
-use Rattle.call_laws.proofs.Right.{refused-done, obsolete-done, held-done, not-forgets}
-use Rattle.convergence.specs.Demand.{ours, history, afterAll, Receipt, receiptOf, notRefused, receipts, received, Run, throughout, events, OneToken, Current, receiptIn, Exactly, Contents, Demand3}
-use Rattle.convergence.specs.Examples.{atLimit, one, two, later, lower, other-token}
-use Rattle.convergence.specs.WrongStores.{ifDone, instead, Flaw, counts-only, leaves-bytes, loses-token, available-1, prunes-nothing, prunes-ties, prunes-one-tree, in-order-of-arrival, makes, flawed, with-flaw, leaves, Broken, Refuted}
-use Rattle.convergence.proofs.Examined.{verdictIn}
+use Rattle.call_laws.proofs.Did.{so, recorded, Did, was-refused, was-obsolete, was-held, has-filed, has-forgotten, has-recorded, did}
+use Rattle.call_laws.proofs.Stands.{opened-store, verdict-done}
+use Rattle.call_laws.proofs.Right.{refused-done, obsolete-done, held-done, not-forgets, not-records}
+use Rattle.convergence.specs.Demand.{ours, history, afterAll, Receipt, receiptOf, notRefused, receipts, received, arrives, isDone, availableFrom, available, Run, throughout, events, OneToken, Current, receiptIn, Exactly, Contents, Demand3}
+use Rattle.convergence.specs.Examples.{atLimit, targetOf, recordFor, having, one, two, later, lower, other-token}
+use Rattle.convergence.specs.WrongStores.{ifDone, instead, Flaw, counts-only, leaves-bytes, loses-token, available-1, keeps-length, prunes-nothing, prunes-ties, prunes-one-tree, in-order-of-arrival, makes, lengthThere, flawed, with-flaw, leavesAfter, leaves, Broken, Refuted}
+use Rattle.convergence.proofs.Examined.{verdictIn, none-arrived}
 use Rattle.convergence.proofs.Computing.{computing, reading}
 use Rattle.convergence.proofs.Lines.{fine, lines-values, lines-gather, opens-fine, computed}
+use Rattle.convergence.proofs.Mixed.{mixed-values, mixed}
 use Rattle.convergence.proofs.Shown.{only, tokens-one, current-by}
 
 pub ok-2 : limitOk 2 ≡ true
@@ -94,6 +98,7 @@ ours-files s i d = go (did field s (ingest i))
     go (was-held j q a e) = held-done (told e)
     go (has-filed j q t e) = ap (λ (o : Outcome Tallied). o .left) e ∙ ap (λ (k : IngestCall). makes filed k s) (same q)
     go (has-forgotten p q e) = not-forgets i p q
+    go (has-recorded r q k e) = not-records i r q
 
 makes-one : makes filed one begun ≡ next one
 unfolding computing reading heldBy
@@ -178,8 +183,69 @@ available-one : ((x : Stored) → x ∈ held field Spt (leaves available-1 (one 
 unfolding flawed computing reading heldBy
 available-one h =
     let k = subst (λ (s : Store). (x : Stored) → x ∈ held field Spt s → x .available ≡ 0) (after-one available-1 one done-one) h in
-    let z : _≡_ {A = ℕ} 1 0 = k (record { entry = entryOf (one .handed .entry); token = one .handed .token; available = 1 }) (here refl) in
+    let z : _≡_ {A = ℕ} 1 0 = k (having 1 one) (here refl) in
     omega arith
+
+-- The first entry, how much of it has arrived, and a later one at its place.
+abbrev arrives-2 : Call
+arrives-2 = recordFor one 2
+
+abbrev calls-3 : List Call
+calls-3 = ingest one ∷ arrives-2 ∷ ingest later ∷ []
+
+abbrev recorded-2 : Tallied
+recorded-2 = recorded field (record { target = targetOf one; available = 2 }) (next one)
+
+said-3 : map verdictIn (history (ours field) t0 calls-3) ≡ done ∷ done ∷ done ∷ []
+unfolding computing
+said-3 = mixed 2 refl calls-3 refl .says
+
+ours-records : (s : Tallied) (r : Recording) → outcome field s (record-available r) .verdict ≡ done → outcome field s (record-available r) .left ≡ recorded field r s
+unfolding outcome availableSet numberVerdict
+ours-records s r d =
+    let p = r .target in
+    let n = availableRefusal field (s .store) (p .subspace) (p .path) (p .expects) (p .digest) (r .available) in
+    rw (eq-eqb n 0 (verdict-done n d)) refl
+
+done-arrives : outcome field (next one) arrives-2 .verdict ≡ done
+unfolding history
+done-arrives = subst (λ (s : Tallied). outcome field s arrives-2 .verdict ≡ done) ours-next (ap (λ (l : List Verdict). getD l 1 obsolete) said-3)
+
+left-arrives : outcome field (next one) arrives-2 .left ≡ recorded-2
+left-arrives = ours-records (next one) _ done-arrives
+
+done-replaces : outcome field recorded-2 (ingest later) .verdict ≡ done
+unfolding history
+done-replaces =
+    subst (λ (s : Tallied). outcome field s (ingest later) .verdict ≡ done) left-arrives
+    (subst (λ (s : Tallied). outcome field (outcome field s arrives-2 .left) (ingest later) .verdict ≡ done) ours-next (ap (λ (l : List Verdict). getD l 2 obsolete) said-3))
+
+next-length : flawed keeps-length one begun ≡ next one
+unfolding flawed lengthThere computing reading heldBy
+next-length = refl
+
+first-kept : with-flaw keeps-length .call t0 (ingest one) .left ≡ next one
+first-kept = step keeps-length t0 one done-one ∙ ap (flawed keeps-length one) begins ∙ next-length
+
+second-kept : with-flaw keeps-length .call (with-flaw keeps-length .call t0 (ingest one) .left) arrives-2 .left ≡ recorded-2
+unfolding instead
+second-kept = ap (λ (s : Tallied). outcome field s arrives-2 .left) first-kept ∙ left-arrives
+
+after-three : leavesAfter keeps-length calls-3 ≡ flawed keeps-length later recorded-2 .store
+unfolding afterAll
+after-three = ap (λ (s : Tallied). with-flaw keeps-length .call s (ingest later) .left .store) second-kept ∙ ap (λ (s : Tallied). s .store) (step keeps-length recorded-2 later done-replaces)
+
+length-kept : having 2 later ∈ held field Spt (leavesAfter keeps-length calls-3)
+unfolding flawed lengthThere computing reading heldBy
+length-kept = rw after-three (here refl)
+
+-- By the calls, nothing has arrived of the later one.
+none-of-later : available (history (with-flaw keeps-length) t0 calls-3) (filedAs later .entry) ≡ 0
+unfolding history availableFrom arrives isDone
+none-of-later =
+    let d : with-flaw keeps-length .call (with-flaw keeps-length .call (with-flaw keeps-length .call t0 (ingest one) .left) arrives-2 .left) (ingest later) .verdict ≡ done
+    = ap (λ (s : Tallied). outcome field s (ingest later) .verdict) second-kept ∙ done-replaces in
+    rw (d, entry-equality .self (filedAs later .entry)) refl
 
 next-nothing : flawed prunes-nothing one begun ≡ next one
 unfolding flawed computing reading heldBy
@@ -230,6 +296,7 @@ broken = record {
   leaves-bytes = bytes-left;
   loses-token = token-lost;
   available-1 = available-one;
+  keeps-length = length-kept;
   prunes-nothing = none-pruned;
   prunes-ties = ties-pruned;
   prunes-one-tree = one-pruned;
@@ -267,7 +334,11 @@ unfolding computing
 having-a-flaw counts-only v = broken .counts-only (exactly counts-only v (one ∷ []) refl (got-one counts-only one done-one) (one-token-1 one) Spt)
 having-a-flaw leaves-bytes v = broken .leaves-bytes (bytes leaves-bytes v (one ∷ []) refl (got-one leaves-bytes one done-one) (one-token-1 one) Spt)
 having-a-flaw loses-token v = broken .loses-token (exactly loses-token v (other-token ∷ []) refl (got-one loses-token other-token done-token) (one-token-1 other-token) Spt)
-having-a-flaw available-1 v = broken .available-1 (whole available-1 v (one ∷ []) refl (got-one available-1 one done-one) (one-token-1 one) Spt .details)
+having-a-flaw available-1 v = broken .available-1 λ x m. v .arrived (run available-1 v (one ∷ []) refl (got-one available-1 one done-one) (one-token-1 one)) Spt x m ∙ none-arrived (with-flaw available-1) t0 _ (one ∷ []) refl (x .entry)
+having-a-flaw keeps-length v =
+    let r : Run (throughout field) (with-flaw keeps-length) = record { opening = atLimit 2; accepted = opens-fine 2 ok-2; calls = calls-3; values = mixed-values 2 refl calls-3 refl } in
+    let z : _≡_ {A = ℕ} 2 0 = v .arrived r Spt (having 2 later) (broken .keeps-length) ∙ none-of-later in
+    absurd (omega arith)
 having-a-flaw prunes-nothing v = broken .prunes-nothing (exactly prunes-nothing v (one ∷ later ∷ []) refl (got-two prunes-nothing one later done-one next-nothing done-later) (tokens-one (replicate 64 0) _ refl) Spt)
 having-a-flaw prunes-ties v = broken .prunes-ties (exactly prunes-ties v (lower ∷ one ∷ []) refl (got-two prunes-ties lower one done-lower next-ties done-tied) (tokens-one (replicate 64 0) _ refl) Spt)
 having-a-flaw prunes-one-tree v = broken .prunes-one-tree (numbers prunes-one-tree v (one ∷ later ∷ []) refl (got-two prunes-one-tree one later done-one next-one-tree done-later) (tokens-one (replicate 64 0) _ refl) Tsp)

@@ -10,7 +10,7 @@ use Rattle.data_model.specs.Path.{Figures}
 use Rattle.tally.specs.Tally.{tallyRoom}
 use Rattle.store.specs.Store.{limitMost, treeRoom, dirRoom, Tallied}
 use Rattle.call_laws.specs.Calls.{Opening, Call, Room, input, refused, done}
-use Rattle.call_laws.specs.Checks.{ShortBuffer, verdictOf, Holds, Decides, asked, OpeningVerdictRight}
+use Rattle.call_laws.specs.Checks.{ShortBuffer, ShortTally, verdictOf, Holds, Decides, asked, OpeningVerdictRight}
 use Rattle.call_laws.specs.Outcomes.{Keeps, Sound}
 use Rattle.call_laws.proofs.Right.{refused-done}
 use Rattle.call_laws.proofs.Kept.{caseOf, holds-for}
@@ -40,11 +40,11 @@ module _ {O S : Type 0} (m : Machine O S) where
       (uncons n)
 
 -- What an opening that is right and not refused says of the limit and the buffers.
-pub opened-right : (f : Figures) (o : Opening) → OpeningVerdictRight f o done → (((o .limit < 1) ⊎ (limitMost < o .limit)) → ⊥) × (ShortBuffer f (asked o) → ⊥)
+pub opened-right : (f : Figures) (o : Opening) → OpeningVerdictRight f o done → (((o .limit < 1) ⊎ (limitMost < o .limit)) → ⊥) × (ShortBuffer f (asked o .store) → ⊥) × (ShortTally (asked o) → ⊥)
 unfolding Decides verdictOf Holds
 opened-right f o d = ⊎-elim
     (λ x. refused-done (sym (x .1)))
-    (λ x. (x .0, ⊎-elim (λ y. refused-done (sym (y .1))) (λ y. λ h. y .0 (inl h)) (x .1)))
+    (λ x. ⊎-elim (λ y. refused-done (sym (y .1))) (λ y. (x .0, λ h. y .0 (inl h), λ h. y .0 (inr (inl (refl, h))))) (x .1))
     d
 
 -- A call in a run of a store that meets demand 3.
@@ -81,21 +81,25 @@ module _ (f : Opening → Figures) (m : Machine Opening Tallied) (v : Demand3 f 
   never-10 q = found 10 q (before-sound .tallied)
 
   -- Buffers as long as they were lent are not too short.
-  long-enough : ShortBuffer g (e .before) → ⊥
+  long-enough : ShortBuffer g (e .before .store) → ⊥
   long-enough h =
       let k = before-keeps in
       let t = ap (treeRoom g) (k .limit) in
       let d = ap dirRoom (k .limit) in
       opened-right g (r .opening) (v .opened r) .1
-      (⊎-elim (λ b. inl
       (⊎-elim (λ x. inl (omega (arith, x, t, k .spt .long)))
       (λ x. inr (⊎-elim (λ y. inl (omega (arith, y, d, k .sptDir .long)))
-      (λ y. inr (⊎-elim (λ z. inl (omega (arith, z, t, k .tsp .long))) (λ z. inr (omega (arith, z, d, k .tspDir .long))) y)) x)) b))
-      (λ b. inr (omega (arith, b, ap tallyRoom (k .limit), k .tally .long))) h)
+      (λ y. inr (⊎-elim (λ z. inl (omega (arith, z, t, k .tsp .long))) (λ z. inr (omega (arith, z, d, k .tspDir .long))) y)) x)) h)
+
+  tally-long : ShortTally (e .before) → ⊥
+  tally-long h = let k = before-keeps in opened-right g (r .opening) (v .opened r) .2 (omega (arith, h, ap tallyRoom (k .limit), k .tally .long))
 
   only-own-2 : e .outcome .verdict ≡ refused 2 → (b : Room) × b ∈ input (e .call) .rooms (r .opening .limit) × (b .has < b .needs)
   unfolding caseOf Holds
-  only-own-2 q = ⊎-elim (λ h. absurd (long-enough h)) (λ b. subst (λ (i : ℕ). (b : Room) × b ∈ input (e .call) .rooms i × (b .has < b .needs)) (before-keeps .limit) b) (found 2 q)
+  only-own-2 q = ⊎-elim
+      (λ h. absurd (long-enough h))
+      (λ h. ⊎-elim (λ t. absurd (tally-long (t .1))) (λ b. subst (λ (i : ℕ). (b : Room) × b ∈ input (e .call) .rooms i × (b .has < b .needs)) (before-keeps .limit) b) h)
+      (found 2 q)
 
   pub run-refusals : RunRefusals (r .opening .limit) (e .call) (e .outcome .verdict)
   run-refusals = record { never-1 = never-1; never-3 = never-3; never-10 = never-10; only-own-2 = only-own-2 }

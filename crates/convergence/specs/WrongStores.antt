@@ -10,7 +10,7 @@ use lib.Dec.{eqb}
 use Rattle.laws.specs.Sorted.{_∈_, any, keep, insert, Ascends}
 use Rattle.layout.specs.Layout.{treeBytes, dirNumbers}
 use Rattle.data_model.specs.Path.{field, components}
-use Rattle.data_model.specs.Entry.{entryOf, newer, covers}
+use Rattle.data_model.specs.Entry.{Entry, entryOf, newer, covers}
 use Rattle.tree.specs.Stored.{Stored, recordOf, keyBelow}
 use Rattle.tree.specs.Matching.{repeats, standsAt, isForgotten}
 use Rattle.tree.specs.declared.stored.KeyOrder.{KeyOrder}
@@ -20,11 +20,12 @@ use Rattle.store.specs.Store.{stateWith, Store, storeOf, treeRoom, dirRoom, tre
 use Rattle.store.specs.Open.{nothing}
 use Rattle.store.specs.Forget.{without}
 use Rattle.store.specs.Ingest.{filing, sptLess, tspLess, stays, filedIn, filed}
-use Rattle.call_laws.specs.Calls.{Opening, IngestCall, AreaForgetting, Call, ingest, forget-entry, forget-area, filedAs, forgets, Verdict, refused, obsolete, already-held, done}
-use Rattle.call_laws.specs.Checks.{OpeningVerdictRight}
+use Rattle.available.specs.Available.{arrive}
+use Rattle.call_laws.specs.Calls.{Opening, IngestCall, AreaForgetting, Recording, Call, ingest, forget-entry, forget-area, record-available, forget-payload, filedAs, forgets, recordingOf, Verdict, refused, obsolete, already-held, done}
+use Rattle.call_laws.specs.Checks.{OpeningVerdictRight, NoneAt}
 use Rattle.call_laws.specs.Outcomes.{Outcome, outcome, opens}
 use Rattle.convergence.specs.Demand.{Machine, Event, afterAll, receiptOf, notRefused, Run, throughout, events, end, receiptIn, Exactly, Demand3}
-use Rattle.convergence.specs.Examples.{atLimit, one, two, later, lower, other-token}
+use Rattle.convergence.specs.Examples.{atLimit, one, two, later, lower, other-token, recordFor, having}
 
 -- A store, right or wrong: whatever it answers, and leaves of a state, four buffers and a tally.
 abbrev pub AStore : Type 0
@@ -54,6 +55,8 @@ unfoldable pub isOccupied : Tallied → Call → Bool
 isOccupied s (ingest i) = any (standsAt (i .handed .entry .«subspace_id») (components (i .handed .entry .path))) (held field Spt (s .store))
 isOccupied s (forget-entry p) = false
 isOccupied s (forget-area a) = false
+isOccupied s (record-available r) = false
+isOccupied s (forget-payload p) = false
 
 -- It calls held whatever comes to a place where an entry is stored, and would not be refused: later readings are lost to earlier ones.
 abbrev pub HoldsByPlace : AStore → Type 0
@@ -77,6 +80,17 @@ ForgetsNothing m = (s : Tallied) → Reached m s → (c : Call) (p : Stored → 
 
 abbrev pub ForgetsOneTree : AStore → Type 0
 ForgetsOneTree m = (s : Tallied) → Reached m s → (c : Call) (p : Stored → Bool) → forgets c ≡ some p → treeOf field Tsp (m .call s c .left .store) ≡ treeOf field Tsp (s .store)
+
+-- It records nothing, whatever it says; its recordings write nothing in the time-first tree.
+abbrev pub RecordsNothing : AStore → Type 0
+RecordsNothing m = (s : Tallied) → Reached m s → (c : Call) (r : Recording) → recordingOf c ≡ some r → m .call s c .left ≡ s
+
+abbrev pub RecordsOneTree : AStore → Type 0
+RecordsOneTree m = (s : Tallied) → Reached m s → (c : Call) (r : Recording) → recordingOf c ≡ some r → treeOf field Tsp (m .call s c .left .store) ≡ treeOf field Tsp (s .store)
+
+-- A recording is done where no entry is stored at the exact subspace and path, as if one below it, or above, were meant.
+abbrev pub RecordsElsewhere : AStore → Type 0
+RecordsElsewhere m = (r : Recording) × Happens m λ e. (e .call ≡ record-available r) × (e .outcome .verdict ≡ done) × NoneAt field (e .before .store) (r .target)
 
 -- An area's forgetting is done, and its number is not that of the entries that it forgets.
 abbrev pub MadeUpCount : AStore → Type 0
@@ -118,12 +132,32 @@ unfoldable pub onForgetting : {A : Type 0} → Call → A → A → A
 onForgetting (ingest i) a b = b
 onForgetting (forget-entry p) a b = a
 onForgetting (forget-area x) a b = a
+onForgetting (record-available r) a b = b
+onForgetting (forget-payload p) a b = b
+
+unfoldable pub onRecording : {A : Type 0} → Call → A → A → A
+onRecording (ingest i) a b = b
+onRecording (forget-entry p) a b = b
+onRecording (forget-area x) a b = b
+onRecording (record-available r) a b = a
+onRecording (forget-payload p) a b = a
 
 abbrev pub idle : AStore
 idle = leaving λ s c o. onForgetting c s (o .left)
 
+-- What a call left, with the time-first tree that was handed in.
+abbrev pub halfDone : Tallied → Tallied → Tallied
+halfDone s w = record { store = storeOf (w .store .state) (w .store .spt) (w .store .sptDir) (s .store .tsp) (s .store .tspDir); tally = w .tally }
+
 abbrev pub haunted : AStore
-haunted = leaving λ s c o. onForgetting c (record { store = storeOf (o .left .store .state) (o .left .store .spt) (o .left .store .sptDir) (s .store .tsp) (s .store .tspDir); tally = o .left .tally }) (o .left)
+haunted = leaving λ s c o. onForgetting c (halfDone s (o .left)) (o .left)
+
+-- As ours, but that it records nothing, or in one tree.
+abbrev pub deaf : AStore
+deaf = leaving λ s c o. onRecording c s (o .left)
+
+abbrev pub half-deaf : AStore
+half-deaf = leaving λ s c o. onRecording c (halfDone s (o .left)) (o .left)
 
 abbrev pub wiping : AStore
 wiping = leaving λ s c o. cond (notRefused (o .verdict)) (o .left) (talliedHolding field nothing s)
@@ -157,10 +191,12 @@ unfoldable pub instead : (IngestCall → Tallied → Tallied) → Tallied → Ca
 instead g s (ingest i) o = ifDone (o .verdict) (g i s) s
 instead g s (forget-entry p) o = o .left
 instead g s (forget-area a) o = o .left
+instead g s (record-available r) o = o .left
+instead g s (forget-payload p) o = o .left
 
--- One thing wrong with what it leaves; all but the first two by what the trees are made to hold.
+-- One thing wrong with what an ingestion leaves; all but the first two by what the trees are made to hold.
 pub data Flaw : Type 0 where
-  counts-only leaves-bytes loses-token available-1 prunes-nothing prunes-ties prunes-one-tree in-order-of-arrival : Flaw
+  counts-only leaves-bytes loses-token available-1 keeps-length prunes-nothing prunes-ties prunes-one-tree in-order-of-arrival : Flaw
 
 abbrev pub makes : (Stored → Held → Held) → IngestCall → Tallied → Tallied
 makes g i s = talliedHolding field (g (filedAs i) (heldBy field (s .store))) s
@@ -169,11 +205,17 @@ makes g i s = talliedHolding field (g (filedAs i) (heldBy field (s .store))) s
 abbrev pub keptBy01 : Stored → List Stored → List Stored
 keptBy01 x = keep λ (y : Stored). not (covers (x .entry) (y .entry) && not (newer (y .entry) (x .entry)))
 
+-- The available length of what stands at an entry's place, 0 if nothing does.
+unfoldable pub lengthThere : Entry → List Stored → ℕ
+lengthThere e [] = 0
+lengthThere e (y ∷ l) = cond (standsAt (e .subspace) (e .path) y) (y .available) (lengthThere e l)
+
 unfoldable pub flawed : Flaw → IngestCall → Tallied → Tallied
 flawed counts-only i s = let t = s .store in record { store = storeOf (stateWith (t .state) (suc (t .state .count))) (t .spt) (t .sptDir) (t .tsp) (t .tspDir); tally = makes filed i s .tally }
 flawed leaves-bytes i s = let t = makes filed i s .store in record { store = storeOf (t .state) (take 200 (t .spt) ++ 1 ∷ drop 201 (t .spt)) (t .sptDir) (t .tsp) (t .tspDir); tally = makes filed i s .tally }
 flawed loses-token i s = makes (λ x h. filed (filing (x .entry) (replicate 64 0)) h) i s
-flawed available-1 i s = makes (λ x h. filed (record { entry = x .entry; token = x .token; available = 1 }) h) i s
+flawed available-1 i s = makes (λ x h. filed (arrive 1 x) h) i s
+flawed keeps-length i s = makes (λ x h. filed (arrive (lengthThere (x .entry) (h .spt)) x) h) i s
 flawed prunes-nothing i s = makes (λ x h. record { spt = insert sptLess x (h .spt); tsp = insert tspLess x (h .tsp) }) i s
 flawed prunes-ties i s = makes (λ x h. record { spt = insert sptLess x (keptBy01 x (h .spt)); tsp = insert tspLess x (keptBy01 x (h .tsp)) }) i s
 flawed prunes-one-tree i s = makes (λ x h. record { spt = filedIn Spt x (h .spt); tsp = insert tspLess x (h .tsp) }) i s
@@ -188,6 +230,8 @@ unfoldable pub filesHeld : Tallied → Call → Outcome Tallied → Tallied
 filesHeld s (ingest i) o = ifHeld (o .verdict) (makes renewed i s) (o .left)
 filesHeld s (forget-entry p) o = o .left
 filesHeld s (forget-area a) o = o .left
+filesHeld s (record-available r) o = o .left
+filesHeld s (forget-payload p) o = o .left
 
 -- As ours, but that it files anew, with the token that now came, what it holds already.
 abbrev pub renewing : AStore
@@ -196,16 +240,21 @@ renewing = leaving filesHeld
 abbrev pub with-flaw : Flaw → AStore
 with-flaw w = leaving (instead (flawed w))
 
--- What it leaves of a store of limit 2 after these.
-abbrev pub leaves : Flaw → List IngestCall → Store
-leaves w handed = afterAll (with-flaw w) (opens field (atLimit 2) .left) (map ingest handed) .store
+-- What it leaves of a store of limit 2 after these calls, and after these ingestions.
+abbrev pub leavesAfter : Flaw → List Call → Store
+leavesAfter w cs = afterAll (with-flaw w) (opens field (atLimit 2) .left) cs .store
 
--- The clause of `Contents` that each of them breaks, all of it having been received.
+abbrev pub leaves : Flaw → List IngestCall → Store
+leaves w handed = leavesAfter w (map ingest handed)
+
+-- The clause of `Contents` that each of them breaks, all of it having been received. Of two it is `arrived`, which says 0: an available length is not 0, or 2
+-- bytes of the later entry are said to be there.
 pub record Broken : Type 0 where
   pub counts-only : Exactly (held field Spt (leaves counts-only (one ∷ []))) (map receiptOf (one ∷ [])) → ⊥
   pub leaves-bytes : let s = leaves leaves-bytes (one ∷ []) in treeOf field Spt s ≡ treeBytes (treeRoom field 2) (map (recordOf Spt) (held field Spt s)) → ⊥
   pub loses-token : Exactly (held field Spt (leaves loses-token (other-token ∷ []))) (map receiptOf (other-token ∷ [])) → ⊥
   pub available-1 : ((x : Stored) → x ∈ held field Spt (leaves available-1 (one ∷ [])) → x .available ≡ 0) → ⊥
+  pub keeps-length : having 2 later ∈ held field Spt (leavesAfter keeps-length (ingest one ∷ recordFor one 2 ∷ ingest later ∷ []))
   pub prunes-nothing : Exactly (held field Spt (leaves prunes-nothing (one ∷ later ∷ []))) (map receiptOf (one ∷ later ∷ [])) → ⊥
   pub prunes-ties : Exactly (held field Spt (leaves prunes-ties (lower ∷ one ∷ []))) (map receiptOf (lower ∷ one ∷ [])) → ⊥
   pub prunes-one-tree : let s = leaves prunes-one-tree (one ∷ later ∷ []) in dirOf Tsp s ≡ dirNumbers (dirRoom 2) (map (recordOf Tsp) (held field Tsp s)) → ⊥
@@ -223,6 +272,9 @@ pub record ShutOut : Type 0 where
   pub one-verdict : (m : AStore) → OpensRight m → OneVerdict m → Refuted m
   pub forgetting-nothing : (m : AStore) → OpensRight m → ForgetsNothing m → Refuted m
   pub forgetting-one-tree : (m : AStore) → OpensRight m → ForgetsOneTree m → Refuted m
+  pub recording-nothing : (m : AStore) → OpensRight m → RecordsNothing m → Refuted m
+  pub recording-one-tree : (m : AStore) → OpensRight m → RecordsOneTree m → Refuted m
+  pub recording-elsewhere : (m : AStore) → RecordsElsewhere m → Refuted m
   pub made-up-count : (m : AStore) → MadeUpCount m → Refuted m
   pub changing-undone : (m : AStore) → ChangesUndone m → Refuted m
   pub opening-none : (m : AStore) → OpensNone m → Refuted m
@@ -239,6 +291,9 @@ pub record ShutOut : Type 0 where
   pub one-has-one-verdict : (v : Verdict) → OpensRight (always v 0) × OneVerdict (always v 0)
   pub one-forgets-nothing : OpensRight idle × ForgetsNothing idle
   pub one-forgets-one-tree : OpensRight haunted × ForgetsOneTree haunted
+  pub one-records-nothing : OpensRight deaf × RecordsNothing deaf
+  pub one-records-one-tree : OpensRight half-deaf × RecordsOneTree half-deaf
+  pub one-records-elsewhere : RecordsElsewhere (always done 0)
   pub one-makes-it-up : MadeUpCount (always done 1)
   pub one-changes-refused : ChangesUndone wiping
   pub one-renews-held : ChangesUndone renewing

@@ -54,6 +54,14 @@ otherDigest = 9
 abbrev pub wrongTally : ℕ
 wrongTally = 10
 
+-- No entry stands at the subspace and path.
+abbrev pub absentEntry : ℕ
+absentEntry = 11
+
+-- An available length is above the payload length.
+abbrev pub tooMuchAvailable : ℕ
+tooMuchAvailable = 12
+
 -- What each case of an answer says: its number and its values. A question: yes or no.
 unfoldable pub answerSays : Answer → Said Bool
 answerSays answer.Yes = says true

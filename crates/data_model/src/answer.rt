@@ -34,6 +34,12 @@ pub const OTHER_DIGEST: u8 = 9;
 // The tally handed in is not the one its store gives.
 pub const WRONG_TALLY: u8 = 10;
 
+// No entry stands at the subspace and path.
+pub const ABSENT_ENTRY: u8 = 11;
+
+// An available length is above the payload length.
+pub const TOO_MUCH_AVAILABLE: u8 = 12;
+
 pub enum Answer {
     Yes,
     No,

@@ -111,6 +111,26 @@ fn ingest(
     v.state
 }
 
+// Records how much of a payload has arrived.
+fn record(q: &[u8], s: State, a: &mut [u8], b: &[u32], c: &mut [u8], d: &[u32], n: u64) -> State {
+    let u = field::subspace(q, 2);
+    let p = field::path(q, 4);
+    let x = field::digest(q);
+    let r = change::vb_record_available_length(s, a, b, c, d, u, p, field::flag(q, 33), &x, n);
+    tell(r.refusal as u64);
+    r.state
+}
+
+// Forgets how much of a payload has arrived.
+fn unrecord(q: &[u8], s: State, a: &mut [u8], b: &[u32], c: &mut [u8], d: &[u32]) -> State {
+    let u = field::subspace(q, 2);
+    let p = field::path(q, 4);
+    let x = field::digest(q);
+    let r = change::vb_forget_payload(s, a, b, c, d, u, p, field::flag(q, 33), &x);
+    tell(r.refusal as u64);
+    r.state
+}
+
 fn poke(s: &mut [u8], at: usize, x: u64) {
     if at < s.len() {
         if 8 <= s.len() - at {
@@ -119,7 +139,7 @@ fn poke(s: &mut [u8], at: usize, x: u64) {
     }
 }
 
-// 1 opens, 2 ingests, 3 forgets an entry, 4 forgets an area; c writes 8 bytes into both trees, d into the tally, from outside.
+// 1 opens, 2 ingests, 3 forgets an entry, 4 forgets an area, c records an available length, e forgets it; d writes 8 bytes into the tally, from outside.
 pub fn act(
     q: &[u8],
     s: State,
@@ -153,15 +173,12 @@ pub fn act(
             tell(r.forgotten as u64);
             r.state
         }
-        12 => {
-            poke(a, field::number(q, 33) as usize, field::number(q, 14));
-            poke(c, field::number(q, 34) as usize, field::number(q, 14));
-            s
-        }
+        12 => record(q, s, a, b, c, d, field::number(q, 34)),
         13 => {
             poke(e, field::number(q, 33) as usize, field::number(q, 14));
             s
         }
+        14 => unrecord(q, s, a, b, c, d),
         _ => s,
     }
 }

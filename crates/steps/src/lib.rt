@@ -1,5 +1,8 @@
 // Each public call that opens or changes a store is a step of demand 3's lists, and whatever a program can hand to it is a value there. The functions here call
 // the real ones, or are handed what these are handed; they have no `requires`, and ensure it. Nothing calls them.
+use available::AvailableRecorded;
+use available::forget_payload;
+use available::record_available_length;
 use data_model::area::Area;
 use data_model::parameters::Subspace;
 use data_model::path::Path;
@@ -25,7 +28,7 @@ ghost use Rattle.key_laws.specs.Bytes.{Bytes};
 ghost use Rattle.store.specs.Store.{talliedOf};
 ghost use Rattle.store.specs.Ingest.{verdictSays};
 ghost use Rattle.pairs.specs.Pairs.{numbersOf, prunedCount};
-ghost use Rattle.call_laws.specs.Calls.{IsValue, ingest, forget-entry, forget-area, ingestVerdict, numberVerdict};
+ghost use Rattle.call_laws.specs.Calls.{IsValue, ingest, forget-entry, forget-area, record-available, forget-payload, ingestVerdict, numberVerdict};
 ghost use Rattle.call_laws.specs.Outcomes.{outcome, opens, outcomeOf, openingOf};
 
 // `open` is what opens a list.
@@ -104,6 +107,62 @@ pub fn entry_listed(
     )
 }
 
+// `record_available_length` is a recording of a list, whatever the tally, which it is not lent and which stays.
+pub fn recording_listed(
+    state: State,
+    spt: &mut [u8],
+    spt_dir: &[u32],
+    tsp: &mut [u8],
+    tsp_dir: &[u32],
+    subspace: Subspace,
+    path: Path,
+    expects: bool,
+    expected_digest: [u8; 32],
+    available: u64,
+) -> AvailableRecorded
+    ensures { λ r. ⌜ ((tally : List ℕ) → outcomeOf (numberVerdict (r .refusal)) 0 (r .state) (now (spt .exit)) (now («spt_dir» .entry)) (now (tsp .exit)) (now («tsp_dir» .entry)) tally ≡ outcome field (talliedOf state (now (spt .entry)) (now («spt_dir» .entry)) (now (tsp .entry)) (now («tsp_dir» .entry)) tally) (record-available (record { target = record { subspace = subspace; path = path; expects = expects; digest = «expected_digest» }; available = available }))) ⌝ }
+{
+    record_available_length(
+        state,
+        spt,
+        spt_dir,
+        tsp,
+        tsp_dir,
+        subspace,
+        path,
+        expects,
+        expected_digest,
+        available,
+    )
+}
+
+// `forget_payload` is one of a list, whatever the tally, which it is not lent and which stays.
+pub fn payload_listed(
+    state: State,
+    spt: &mut [u8],
+    spt_dir: &[u32],
+    tsp: &mut [u8],
+    tsp_dir: &[u32],
+    subspace: Subspace,
+    path: Path,
+    expects: bool,
+    expected_digest: [u8; 32],
+) -> AvailableRecorded
+    ensures { λ r. ⌜ ((tally : List ℕ) → outcomeOf (numberVerdict (r .refusal)) 0 (r .state) (now (spt .exit)) (now («spt_dir» .entry)) (now (tsp .exit)) (now («tsp_dir» .entry)) tally ≡ outcome field (talliedOf state (now (spt .entry)) (now («spt_dir» .entry)) (now (tsp .entry)) (now («tsp_dir» .entry)) tally) (forget-payload (record { subspace = subspace; path = path; expects = expects; digest = «expected_digest» }))) ⌝ }
+{
+    forget_payload(
+        state,
+        spt,
+        spt_dir,
+        tsp,
+        tsp_dir,
+        subspace,
+        path,
+        expects,
+        expected_digest,
+    )
+}
+
 // `forget_area` is a forgetting of a list.
 pub fn area_listed(
     state: State,
@@ -167,6 +226,20 @@ pub fn entry_forgetting_is_value(
 // Whether what the forgetting of an area is handed is a value: it is.
 pub fn area_forgetting_is_value(area: Area, protects: bool, protected: Area) -> bool
     ensures { λ r. ⌜ IsValue field (forget-area (record { area = area; protects = protects; protected = protected })) ⌝ }
+{
+    true
+}
+
+// Whether what a recording, or the forgetting of one, is handed is a value: it is.
+pub fn recording_is_value(
+    subspace: Subspace,
+    path: Path,
+    expects: bool,
+    digest: [u8; 32],
+    available: u64,
+) -> bool
+    ensures { λ r. ⌜ IsValue field (record-available (record { target = record { subspace = subspace; path = path; expects = expects; digest = digest }; available = available })) ⌝ }
+    ensures { λ r. ⌜ IsValue field (forget-payload (record { subspace = subspace; path = path; expects = expects; digest = digest })) ⌝ }
 {
     true
 }

@@ -134,7 +134,7 @@ inserted-lawful o a h long l r er n at recs tree bs et =
 
 -- Records of bytes, by what they say.
 module _ (o : KeyOrder) (f : Figures) (ns : List ℕ) where
-  records-again : (recs : List (List ℕ)) → Recorded o f recs → map (recordOf o) (contents o f ns recs) ≡ recs
+  pub records-again : (recs : List (List ℕ)) → Recorded o f recs → map (recordOf o) (contents o f ns recs) ≡ recs
   records-again [] each = refl
   records-again (r ∷ rs) each =
       ap₂ _∷_ (record-forth o f ns r (each r (here refl) .0) (each r (here refl) .1) .again) (records-again rs λ q m. each q (there m))

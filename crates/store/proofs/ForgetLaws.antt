@@ -29,6 +29,7 @@ use Rattle.tree.specs.Stored.{Stored, stored, storedOf}
 use Rattle.tree.specs.Tree.{Formed, Ordered}
 use Rattle.tree.specs.Apart.{sameAddress, noAddressTwice}
 use Rattle.tree.specs.Matching.{standsAt, isForgotten}
+use Rattle.tree.specs.declared.stored.KeyOrder.{KeyOrder}
 use Rattle.tree.specs.declared.stored.KeyOrder.the-variants.{Spt, Tsp}
 use Rattle.tree.specs.declared.stored.LengthyAuthorisedEntry.{LengthyAuthorisedEntry}
 use Rattle.key_laws.specs.Bytes.{Bytes}
@@ -75,50 +76,62 @@ module _ (s : Subspace) (p : Components) where
       (λ q. ⊎-elim (λ r. absurd (apart x q (ap (standsAt s p) (sym r) ∙ f) e)) (λ r. only-one l (k .1) x y q r e f) (uncons n))
       (uncons m)
 
-  module _ (digest : List ℕ) (l : List Stored) where
-    pub none-unexpected : any (standsAt s p) l ≡ false → false ≡ any (unexpected s p true digest) l
-    unfolding unexpected
-    none-unexpected h = sym (refute (any (unexpected s p true digest) l) λ e.
-        let k = any-view (unexpected s p true digest) l e in
-        let a = and-true (standsAt s p (k .0)) (not (sameList sameNumber (k .0 .entry .rank .«payload_digest») digest)) (k .2) in
-        clash (a .0) (any-none (standsAt s p) l h (k .1)))
+  -- What else is asked of what stands there: of none, or of the one that does.
+  module _ (q : Stored → Bool) (l : List Stored) where
+    pub none-such : any (standsAt s p) l ≡ false → any (λ (y : Stored). standsAt s p y && q y) l ≡ false
+    none-such h = refute (any (λ (y : Stored). standsAt s p y && q y) l) λ e.
+        let k = any-view (λ (y : Stored). standsAt s p y && q y) l e in
+        clash (and-true (standsAt s p (k .0)) (q (k .0)) (k .2) .0) (any-none (standsAt s p) l h (k .1))
 
-    pub one-unexpected : noAddressTwice l ≡ true → (x : Stored) → x ∈ l → standsAt s p x ≡ true
-        → not (sameList sameNumber (x .entry .rank .«payload_digest») digest) ≡ any (unexpected s p true digest) l
-    unfolding unexpected
-    one-unexpected h x m e = alike (not (sameList sameNumber (x .entry .rank .«payload_digest») digest)) (any (unexpected s p true digest) l)
-        (λ g. any-make (unexpected s p true digest) l m (ap₂ _&&_ e g))
+    pub one-such : noAddressTwice l ≡ true → (x : Stored) → x ∈ l → standsAt s p x ≡ true → q x ≡ any (λ (y : Stored). standsAt s p y && q y) l
+    one-such h x m e = alike (q x) (any (λ (y : Stored). standsAt s p y && q y) l)
+        (λ g. any-make (λ (y : Stored). standsAt s p y && q y) l m (ap₂ _&&_ e g))
         (λ g.
-        let k = any-view (unexpected s p true digest) l g in
-        let a = and-true (standsAt s p (k .0)) (not (sameList sameNumber (k .0 .entry .rank .«payload_digest») digest)) (k .2) in
-        ap (λ (y : Stored). not (sameList sameNumber (y .entry .rank .«payload_digest») digest)) (only-one l h x (k .0) m (k .1) e (a .0)) ∙ a .1)
+        let k = any-view (λ (y : Stored). standsAt s p y && q y) l g in
+        let a = and-true (standsAt s p (k .0)) (q (k .0)) (k .2) in
+        ap q (only-one l h x (k .0) m (k .1) e (a .0)) ∙ a .1)
 
--- The first mark of a place: none stands there, or the one at the mark.
+-- The first mark of a place, in either tree: none stands there, or the one at the mark.
+module _ {o : KeyOrder} {count : ℕ} {dir tree : List ℕ} (v : Formed o count dir tree) (ns : List ℕ) (s : Subspace) (p : Components) (marks old : List ℕ)
+    (em : marks ≡ put (marksOf (standsAt s p) (inTree o ns count dir tree)) old) (k : ℕ) (ek : k ≡ 0 + firstMark (drop 0 (take count marks))) where
+  pub at-first : k ≡ firstMark (marksOf (standsAt s p) (inTree o ns count dir tree))
+  at-first = marks-first (standsAt s p) (inTree o ns count dir tree) count (formed-many v ns) marks old em k ek
+
+  pub none-first : count ≤ k → any (standsAt s p) (inTree o ns count dir tree) ≡ false
+  none-first h = first-none (standsAt s p) (inTree o ns count dir tree) (omega (arith, at-first, formed-many v ns))
+
+  module _ (h : k < count) where
+    abbrev x : Stored
+    x = stored o field ns (recordAt k dir tree)
+
+    pub is-first : getD (inTree o ns count dir tree) k x ≡ x
+    is-first =
+        let l = inTree o ns count dir tree in
+        let e : getD l k x ∷ drop (suc k) l ≡ x ∷ drop (k + 1) l = sym (drop-cons l k x (omega (arith, formed-many v ns))) ∙ formed-next v ns k h in
+        cc
+
+    pub stands-first : standsAt s p x ≡ true
+    stands-first =
+        let l = inTree o ns count dir tree in
+        let f : standsAt s p (getD l (firstMark (marksOf (standsAt s p) l)) x) ≡ true = first-holds (standsAt s p) l x (omega (arith, at-first, formed-many v ns)) in
+        ap (standsAt s p) (sym is-first) ∙ ap (λ (j : ℕ). standsAt s p (getD l j x)) at-first ∙ f
+
+    pub in-first : x ∈ inTree o ns count dir tree
+    in-first = contents-in o field ns (records count dir tree) (record-in count k dir tree (v .few) h)
+
+-- So a digest that is expected there is another, or none is.
 module _ {count : ℕ} {dir tree : List ℕ} (v : Formed Spt count dir tree) (ns : List ℕ) (s : Subspace) (p : Components) (digest : List ℕ) (marks old : List ℕ)
     (em : marks ≡ put (marksOf (standsAt s p) (inTree Spt ns count dir tree)) old) (k : ℕ) (ek : k ≡ 0 + firstMark (drop 0 (take count marks))) where
-  at-first : k ≡ firstMark (marksOf (standsAt s p) (inTree Spt ns count dir tree))
-  at-first = marks-first (standsAt s p) (inTree Spt ns count dir tree) count (formed-many v ns) marks old em k ek
-
   pub digest-absent : count ≤ k → false ≡ any (unexpected s p true digest) (inTree Spt ns count dir tree)
-  digest-absent h = none-unexpected s p digest (inTree Spt ns count dir tree) (first-none (standsAt s p) (inTree Spt ns count dir tree) (omega (arith, at-first, formed-many v ns)))
-
-  stands-first : k < count → standsAt s p (stored Spt field ns (recordAt k dir tree)) ≡ true
-  stands-first h =
-      let l = inTree Spt ns count dir tree in
-      let x = stored Spt field ns (recordAt k dir tree) in
-      let e : getD l k x ∷ drop (suc k) l ≡ x ∷ drop (k + 1) l = sym (drop-cons l k x (omega (arith, formed-many v ns))) ∙ formed-next v ns k h in
-      let g : getD l k x ≡ x = cc in
-      let f : standsAt s p (getD l (firstMark (marksOf (standsAt s p) l)) x) ≡ true = first-holds (standsAt s p) l x (omega (arith, at-first, formed-many v ns)) in
-      ap (standsAt s p) (sym g) ∙ ap (λ (j : ℕ). standsAt s p (getD l j x)) at-first ∙ f
+  unfolding unexpected
+  digest-absent h = sym (none-such s p (λ (y : Stored). not (sameList sameNumber (y .entry .rank .«payload_digest») digest)) (inTree Spt ns count dir tree) (none-first v ns s p marks old em k ek h))
 
   pub digest-there : noAddressTwice (inTree Spt ns count dir tree) ≡ true → k < count → (a : LengthyAuthorisedEntry) → storedOf a ≡ stored Spt field ns (recordAt k dir tree)
       → (t : Bool) → t ≡ sameList sameNumber (a .entry .«payload_digest») digest → not t ≡ any (unexpected s p true digest) (inTree Spt ns count dir tree)
-  unfolding storedOf entryOf rankOf
+  unfolding storedOf entryOf rankOf unexpected
   digest-there once h a q t e =
-      let x = stored Spt field ns (recordAt k dir tree) in
-      ap not e
-      ∙ ap (λ (y : Stored). not (sameList sameNumber (y .entry .rank .«payload_digest») digest)) q
-      ∙ one-unexpected s p digest (inTree Spt ns count dir tree) once x (contents-in Spt field ns (records count dir tree) (record-in count k dir tree (v .few) h)) (stands-first h)
+      let other : Stored → Bool = λ y. not (sameList sameNumber (y .entry .rank .«payload_digest») digest) in
+      ap not e ∙ ap other q ∙ one-such s p other (inTree Spt ns count dir tree) once _ (in-first v ns s p marks old em k ek h) (stands-first v ns s p marks old em k ek h)
 
 -- The refusals of an entry's forgetting.
 module _ (w : Tallied) (subspace : Subspace) (path : Path) (expects : Bool) (digest : List ℕ) (n : ℕ) (e : n ≡ talliedRefusal field w true) where

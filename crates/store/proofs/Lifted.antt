@@ -115,7 +115,7 @@ module _ (f : Figures) (s : Store) (h : Held) (v : Fit f (s .state .«namespace_
   count-is : (o : KeyOrder) → s .state .count ≡ length (map (recordOf o) (listOf o h))
   count-is o = b .count ∙ sym (fit-many f v o)
 
-  borne : (o : KeyOrder) → records (s .state .count) (dirOf o s) (treeOf f o s) ≡ map (recordOf o) (listOf o h)
+  pub borne : (o : KeyOrder) → records (s .state .count) (dirOf o s) (treeOf f o s) ≡ map (recordOf o) (listOf o h)
   borne o =
       ap (λ (n : ℕ). records n (dirOf o s) (treeOf f o s)) (count-is o)
       ∙ bears-records f o (treeRoom f (s .state .limit)) (dirRoom (s .state .limit)) (map (recordOf o) (listOf o h)) (dirOf o s) (treeOf f o s) (b .numbers o) (b .bytes o)

@@ -25,10 +25,14 @@ pub record Proper (f : Figures) (x : Stored) : Type 0 where
   pub lawful : Lawful f x
   pub available : x .available ≤ x .entry .rank .«payload_length»
 
--- Lists of records.
-map-view : {A B : Type 0} {y : B} (g : A → B) (l : List A) → y ∈ map g l → (x : A) × x ∈ l × (y ≡ g x)
+-- Members of a list whose elements are changed, each by itself.
+pub map-view : {A B : Type 0} {y : B} (g : A → B) (l : List A) → y ∈ map g l → (x : A) × x ∈ l × (y ≡ g x)
 map-view g [] m = absurd (none-in m)
 map-view g (a ∷ l) m = ⊎-elim (λ e. (a, here refl, e)) (λ n. let k = map-view g l n in (k .0, there (k .1), k .2)) (uncons m)
+
+pub map-make : {A B : Type 0} {x : A} (g : A → B) (l : List A) → x ∈ l → g x ∈ map g l
+map-make g [] m = absurd (none-in m)
+map-make g (a ∷ l) m = ⊎-elim (λ e. here (ap g e)) (λ n. there (map-make g l n)) (uncons m)
 
 abbrev pub belowIn : KeyOrder → Stored → Stored → Bool
 belowIn o = below (on (λ (x : Stored). tripleOf (x .entry)) (orderIn o))

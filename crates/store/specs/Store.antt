@@ -103,7 +103,7 @@ holding f h s = record {
   tspDir = dirHolding Tsp (s .state .limit) (h .tsp) (s .tspDir);
 }
 
--- A store and its tally, which the calls that open and change a store are lent beside it.
+-- A store and its tally, which opening, ingestion and forgetting are lent beside it.
 pub record Tallied : Type 0 where
   pub store : Store
   pub tally : List ℕ

@@ -1,4 +1,4 @@
-// A store with its tally: the tests that the calls that change it begin with, and the tally of what it is left with.
+// A store with its tally: the tests that ingestion and forgetting begin with, and the tally of what they leave.
 use crate::check::check_store;
 use crate::state::RECORD_MOST;
 use crate::state::State;

@@ -7,7 +7,7 @@ use native.Mathlib.Omega.{arith}
 use lib.Dec.{leb}
 use borrow.Author.Tests.{le-leb, lt-leb}
 use lib.ListN.{length, take, drop, getD, replicate, length-append, length-drop, length-replicate, drop-of-length-le}
-use lib.Seq.{take-nil, take-take, drop-drop, length-take-le}
+use lib.Seq.{take-nil, take-all, take-take, drop-drop, length-take-le}
 use borrow.Rule.Slice.PartMut.{putMid, midOf}
 use Rattle.laws.specs.Lists.{piece, put}
 use Rattle.laws.specs.Sorted.{all}
@@ -26,8 +26,8 @@ use Rattle.keys.proofs.Encoding.{be-length, legal-most}
 use Rattle.key_laws.proofs.KeyLength.{spt-length, tsp-length}
 use Rattle.key_laws.specs.Bytes.{Bytes}
 use Rattle.key_laws.proofs.Fits.{bytes-take, bytes-drop, legal-of, components-of}
-use Rattle.tree.specs.Value.{valueLength, valueBytes, readValue, isValue}
-use Rattle.tree.specs.Stored.{readIn, keyOf, valuePart, isKey, isRecord, Stored, storedFrom, tripleRead, stored, tripleOf, valueFor, recordOf, lengthy, storedOf, keyIn, writtenLength}
+use Rattle.tree.specs.Value.{availableAt, valueLength, valueBytes, readValue, isValue}
+use Rattle.tree.specs.Stored.{readIn, keyOf, valuePart, availableIn, isKey, isRecord, Stored, storedFrom, tripleRead, stored, tripleOf, valueFor, recordOf, lengthy, storedOf, keyIn, writtenLength}
 use Rattle.tree.specs.Tree.{InBounds}
 use Rattle.tree.specs.declared.value.Value.{Value}
 use Rattle.tree.specs.declared.stored.KeyOrder.{KeyOrder}
@@ -104,6 +104,19 @@ module _ (o l e k : ℕ) (dir tree : List ℕ) (eo : o ≡ getD dir (2 * k) 0) (
         ∙ sym (drop-cut (l - valueLength) l (drop o tree))
         ∙ ap (λ (n : ℕ). drop (n - valueLength) (take l (drop o tree))) (sym cut-length)
         ∙ rw (eo, el)
+
+    -- The available length written over, in the part from its beginning on.
+    pub available-wrote : (n : ℕ) (last : List ℕ) → e ≡ ((o + l) - valueLength) + availableAt → last ≡ put (be 8 n) (midOf e (length tree - e) tree)
+        → putMid e (length tree - e) tree last ≡ written (getD dir (2 * k) 0 + availableIn (recordAt k dir tree)) (be 8 n) tree
+    unfolding put written
+    available-wrote n last ee q =
+        let at : getD dir (2 * k) 0 + ((length (take (getD dir (2 * k + 1) 0) (drop (getD dir (2 * k) 0) tree)) - valueLength) + availableAt) ≡ e
+        = omega (arith, ap (λ (m : ℕ). length (take m (drop (getD dir (2 * k) 0) tree))) (sym el), ap (λ (m : ℕ). length (take l (drop m tree))) (sym eo), cut-length, b .least) in
+        let t : take (length tree - e) (drop e tree) ≡ drop e tree = take-all (length tree - e) (drop e tree) (simp length-drop (omega arith)) in
+        let z : drop (length tree - e) (drop e tree) ≡ [] = drop-of-length-le (drop e tree) {i = length tree - e} (simp length-drop (omega arith)) in
+        let w : last ≡ be 8 n ++ drop (length (be 8 n)) (drop e tree) = q ∙ simp t in
+        rw (at, z, w, append-nil)
+        (sym (append-assoc (take e tree) (be 8 n) (drop (length (be 8 n)) (drop e tree))) ∙ ap (take e tree ++ be 8 n ++_) (drop-drop (length (be 8 n)) e tree))
 
 pub part-long : (k : ℕ) (dir tree v : List ℕ) → v ≡ valuePart (recordAt k dir tree) → InBounds k dir tree → length v ≡ valueLength
 part-long k dir tree v e b =

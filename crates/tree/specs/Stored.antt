@@ -1,5 +1,5 @@
 -- A record: the key of an entry and its value. What it says is the entry that is stored, with its token and available length.
-use Prim.Native.Nat.{ℕ, _-_, _<_, _^_}
+use Prim.Native.Nat.{ℕ, _+_, _-_, _<_, _^_}
 use mathlib.Core.Path.{_≡_}
 use mathlib.Core.List.{List, [], _∷_, _++_}
 use mathlib.Core.Bool.{Bool, true, _&&_}
@@ -14,7 +14,7 @@ use Rattle.data_model.specs.Entry.{Entry, entryOf}
 use Rattle.keys.specs.Encode.{Triple, triple, sptKey, tspKey}
 use Rattle.keys.specs.Decode.{Taken, refused, took, readSpt, readTsp, wasRead}
 use Rattle.key_laws.specs.KeyOrder.{Sized, sptOrder, tspOrder}
-use Rattle.tree.specs.Value.{valueLength, valueBytes, readValue, isValue}
+use Rattle.tree.specs.Value.{availableAt, valueLength, valueBytes, readValue, isValue}
 use Rattle.tree.specs.declared.value.Value.{Value}
 use Rattle.tree.specs.declared.stored.KeyOrder.{KeyOrder}
 use Rattle.tree.specs.declared.stored.KeyOrder.the-variants.{Spt, Tsp}
@@ -40,6 +40,10 @@ keyOf r = take (length r - valueLength) r
 
 abbrev pub valuePart : List ℕ → List ℕ
 valuePart r = drop (length r - valueLength) r
+
+-- Where the available length begins in a record.
+abbrev pub availableIn : List ℕ → ℕ
+availableIn r = (length r - valueLength) + availableAt
 
 -- By keys, as bytes.
 abbrev pub keyBelow : List ℕ → List ℕ → Bool

@@ -17,7 +17,7 @@ const DIGEST_AT: usize = 8;
 
 const TOKEN_AT: usize = DIGEST_AT + 32;
 
-const AVAILABLE_AT: usize = TOKEN_AT + TOKEN;
+pub const AVAILABLE_AT: usize = TOKEN_AT + TOKEN;
 
 pub const VALUE: usize = AVAILABLE_AT + 8;
 

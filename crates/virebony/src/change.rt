@@ -1,4 +1,7 @@
-// The calls that change a store: opening, ingestion over a prune list of numbers and of pairs by value, both forgettings.
+// The calls that change a store: opening, ingestion over a prune list of numbers and of pairs by value, both forgettings, and how much of a payload has arrived.
+use available::AvailableRecorded;
+use available::forget_payload;
+use available::record_available_length;
 use data_model::entry::Entry;
 use data_model::parameters::Subspace;
 use data_model::path::Path;
@@ -22,11 +25,12 @@ use store::state::Opened;
 use store::state::State;
 ghost use mathlib.Core.Path.{_≡_};
 ghost use Rattle.data_model.specs.Path.{field};
-ghost use Rattle.store.specs.Store.{talliedOf};
+ghost use Rattle.store.specs.Store.{storeOf, talliedOf};
 ghost use Rattle.store.specs.Open.{openOutcome, opening};
 ghost use Rattle.store.specs.Ingest.{ingested};
 ghost use Rattle.store.specs.Forget.{forgetEntryOutcome, entryForgotten, forgetAreaOutcome, areaForgotten};
 ghost use Rattle.pairs.specs.Pairs.{pairsOf, pairsIngested};
+ghost use Rattle.available.specs.Available.{availableOutcome, availableSet};
 ghost use Rattle.plain.specs.Input.{isYes, areaOf, ingestionOf};
 ghost use Rattle.virebony.specs.Outcome.{numbersLeft, toldNumbers, pairsLeft, toldPairs};
 
@@ -148,5 +152,67 @@ pub extern "C" fn vb_forget_area(
         whole,
         protecting,
         kept,
+    )
+}
+
+// `available::record_available_length`: records how much of the payload of the entry at a subspace and path is available; with `expects`, only if its
+// digest is the one expected.
+#[no_mangle]
+pub extern "C" fn vb_record_available_length(
+    state: State,
+    spt: &mut [u8],
+    spt_dir: &[u32],
+    tsp: &mut [u8],
+    tsp_dir: &[u32],
+    subspace: Subspace,
+    path: Path,
+    expects: u8,
+    expected_digest: &[u8; 32],
+    available: u64,
+) -> AvailableRecorded
+    ensures { λ r. ⌜ availableOutcome r (now (spt .exit)) (now («spt_dir» .entry)) (now (tsp .exit)) (now («tsp_dir» .entry)) ≡ availableSet field (storeOf state (now (spt .entry)) (now («spt_dir» .entry)) (now (tsp .entry)) (now («tsp_dir» .entry))) subspace path (isYes expects) (now («expected_digest» .entry)) available ⌝ }
+{
+    let expecting = is_yes(expects);
+    record_available_length(
+        state,
+        spt,
+        spt_dir,
+        tsp,
+        tsp_dir,
+        subspace,
+        path,
+        expecting,
+        *expected_digest,
+        available,
+    )
+}
+
+// `available::forget_payload`: records that nothing of the payload of the entry at a subspace and path is available; with `expects`, only if its digest is
+// the one expected.
+#[no_mangle]
+pub extern "C" fn vb_forget_payload(
+    state: State,
+    spt: &mut [u8],
+    spt_dir: &[u32],
+    tsp: &mut [u8],
+    tsp_dir: &[u32],
+    subspace: Subspace,
+    path: Path,
+    expects: u8,
+    expected_digest: &[u8; 32],
+) -> AvailableRecorded
+    ensures { λ r. ⌜ availableOutcome r (now (spt .exit)) (now («spt_dir» .entry)) (now (tsp .exit)) (now («tsp_dir» .entry)) ≡ availableSet field (storeOf state (now (spt .entry)) (now («spt_dir» .entry)) (now (tsp .entry)) (now («tsp_dir» .entry))) subspace path (isYes expects) (now («expected_digest» .entry)) 0 ⌝ }
+{
+    let expecting = is_yes(expects);
+    forget_payload(
+        state,
+        spt,
+        spt_dir,
+        tsp,
+        tsp_dir,
+        subspace,
+        path,
+        expecting,
+        *expected_digest,
     )
 }

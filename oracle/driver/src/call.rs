@@ -42,6 +42,9 @@ pub enum Call {
     /// A number, into the tally at a byte.
     Poke(u64, u64),
     Avail(Subspace, Path, u64),
+    /// 02's U4, which the Rust has not: records an available length, or forgets it.
+    Record(Subspace, Path, u64, Option<Digest>),
+    Unrecord(Subspace, Path, Option<Digest>),
     Append(Subspace, Path, u64),
     ForgetPayload(Subspace, Path, Option<Digest>),
     ForgetAreaPayloads(Area, Option<Area>),
@@ -206,6 +209,10 @@ pub fn call(line: &str) -> Option<Call> {
         ("put", 3) => Call::Put(time_first(f[0])?, raw(f[1])?, raw(f[2])?),
         ("poke", 2) => Call::Poke(number(f[0])?, number(f[1])?),
         ("avail", 3) => Call::Avail(sub(f[0])?, path(f[1])?, number(f[2])?),
+        ("record", 3) => Call::Record(sub(f[0])?, path(f[1])?, number(f[2])?, None),
+        ("record", 4) => Call::Record(sub(f[0])?, path(f[1])?, number(f[2])?, Some(fill(f[3])?)),
+        ("unrecord", 2) => Call::Unrecord(sub(f[0])?, path(f[1])?, None),
+        ("unrecord", 3) => Call::Unrecord(sub(f[0])?, path(f[1])?, Some(fill(f[2])?)),
         ("append", 3) => Call::Append(sub(f[0])?, path(f[1])?, number(f[2])?),
         ("fpayload", 2) => Call::ForgetPayload(sub(f[0])?, path(f[1])?, None),
         ("fpayload", 3) => Call::ForgetPayload(sub(f[0])?, path(f[1])?, Some(fill(f[2])?)),
@@ -220,4 +227,21 @@ pub fn call(line: &str) -> Option<Call> {
         }
         _ => return None,
     })
+}
+
+#[cfg(test)]
+mod tests {
+    use super::*;
+
+    #[test]
+    fn arrivals() {
+        let (s, p) = (last("01").unwrap(), vec![vec![0x61]]);
+        assert_eq!(call("record 01 61 2"), Some(Call::Record(s, p.clone(), 2, None)));
+        assert_eq!(call("record 01 61 18446744073709551615 0a"), Some(Call::Record(s, p.clone(), u64::MAX, Some([10; 32]))));
+        assert_eq!(call("unrecord 01 61"), Some(Call::Unrecord(s, p.clone(), None)));
+        assert_eq!(call("unrecord 01 61 0a"), Some(Call::Unrecord(s, p, Some([10; 32]))));
+        for bad in ["record 01 61", "record 01 61 1 0a 0b", "record 01 61 01", "record 01 61 18446744073709551616", "record 01 61 1 0", "unrecord 01", "unrecord 01 61 0", "unrecord 01 61 0a 0"] {
+            assert_eq!(call(bad), None, "{bad}");
+        }
+    }
 }

@@ -129,7 +129,7 @@ extern "C" {
 }
 const RECORD: usize = 410;
 const ITEM: usize = 28;
-const EDITION: u32 = 4;
+const EDITION: u32 = 5;
 
 /// A record's key and value, read: what a call is handed.
 #[derive(Clone, Copy)]

@@ -34,6 +34,8 @@ impl Gen {
             Call::Open(..) => return Front::Plain,
             // A wrong tally, beside a resend mostly.
             Call::Ingest(..) if self.kind == "held" && self.a.r.one_in(12) => return Front::Changed(4, self.a.r.below(ITEM), self.a.r.next() as u32),
+            // An available length in one tree alone.
+            _ if self.kind == "arrivals" && on_store(call) && self.a.r.one_in(40) => return self.one_tree(),
             _ if !on_store(call) || !self.a.r.one_in(14) => return Front::Plain,
             _ => {}
         }

@@ -1,7 +1,8 @@
 //! Random sequences of steps over all values (gen_any.rs). The generator keeps a model of its own, so that it can ask for
 //! what is stored. KIND: `untied`, without ties among the entries that are handed in, so that the Rust stays the comparison
 //! (02, U3); `tied`, with many; `held`, mostly what is stored once more, or nearly; `full`, stores of up to 1,024 entries,
-//! filled and kept full; `values`, calls that need no store. The same seed gives the same steps.
+//! filled and kept full; `values`, calls that need no store; `arrivals`, how much of a payload has arrived (gen_arrivals.rs).
+//! The same seed gives the same steps.
 use crate::answer::Answer;
 use crate::call::Call;
 use crate::gen_any::Any;
@@ -9,21 +10,22 @@ use crate::judge::Judge;
 use crate::step::{Front, Step};
 use model::*;
 
-pub const KINDS: [&str; 5] = ["untied", "tied", "held", "full", "values"];
+pub const KINDS: [&str; 6] = ["untied", "tied", "held", "full", "values", "arrivals"];
 
 pub struct Gen {
     pub a: Any,
     pub kind: String,
     pub judge: Judge,
     /// Handed in since the last opening that was not refused.
-    sent: Vec<Entry>,
+    pub sent: Vec<Entry>,
 }
 
 impl Gen {
-    fn open(&mut self) -> Call {
+    pub fn open(&mut self) -> Call {
         let limits: &[u64] = match &self.kind[..] {
             "full" => &[1024, 1024, 1024, 1024, 1023, 700],
             "held" => &[1, 2, 2, 3, 4, 6, 8, 16, 32],
+            "arrivals" => &[1, 2, 3, 4, 6, 8, 12, 16, 24],
             _ => &[1, 2, 4, 8, 16, 24, 32, 48, 64, 64, 64, 64, 100, 200],
         };
         let namespace = if self.a.r.one_in(4) { [0; 16] } else { self.a.subspace() };
@@ -37,7 +39,7 @@ impl Gen {
         }
         n
     }
-    fn stored(&mut self) -> Option<Stored> {
+    pub fn stored(&mut self) -> Option<Stored> {
         let n = self.judge.store.entries().len();
         (n > 0).then(|| self.judge.store.entries()[self.a.r.at(n)].clone())
     }
@@ -48,7 +50,7 @@ impl Gen {
             _ => self.a.entry([0; 16]),
         }
     }
-    fn tied(&mut self, e: Entry) -> Entry {
+    pub fn tied(&mut self, e: Entry) -> Entry {
         let mut t = e.clone();
         if !e.path.is_empty() && self.a.r.one_in(2) {
             t.path.truncate(self.a.r.at(e.path.len()));
@@ -142,7 +144,7 @@ impl Gen {
         Call::Bent(Box::new(Call::Aoi(a, count, size)))
     }
     /// A place to list from: often a record that does not match and has a match behind it, if there is one.
-    fn place(&mut self, ignore: Ignore, includes: impl Fn(&Entry) -> bool) -> u64 {
+    pub fn place(&mut self, ignore: Ignore, includes: impl Fn(&Entry) -> bool) -> u64 {
         let list = self.judge.store.entries();
         let n = list.len() as u64;
         let matches: Vec<bool> = list.iter().map(|x| includes(&x.entry) && !ignore.passes_over(x)).collect();
@@ -154,7 +156,7 @@ impl Gen {
         let (inside, any) = (self.a.r.below(n + 1), self.a.number());
         self.a.r.of(&[0, inside, inside, inside, inside, n, n + 1, any, u64::MAX])
     }
-    fn store_call(&mut self) -> Call {
+    pub fn store_call(&mut self) -> Call {
         let full = self.kind == "full";
         let e = self.about();
         match self.a.r.below(100) {
@@ -294,7 +296,11 @@ impl Gen {
         if self.kind == "full" && lacks && !self.a.r.one_in(20) {
             return self.filler();
         }
-        if self.kind == "held" { self.again() } else { self.store_call() }
+        match &self.kind[..] {
+            "held" => self.again(),
+            "arrivals" => self.arrival(),
+            _ => self.store_call(),
+        }
     }
 }
 

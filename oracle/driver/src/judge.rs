@@ -33,6 +33,8 @@ impl Judge {
             }
             Call::Ingest(e, token, prevent) => self.store.ingest(e, token, *prevent).into(),
             Call::Forget(s, p, d) => either(self.store.forget_entry(s, p, d.as_ref()), |_| Answer::Done),
+            Call::Record(s, p, n, d) => either(self.store.record_available_length(s, p, d.as_ref(), *n), |_| Answer::Done),
+            Call::Unrecord(s, p, d) => either(self.store.forget_payload(s, p, d.as_ref()), |_| Answer::Done),
             Call::ForgetArea(a, protected) => either(self.store.forget_area(a, protected.as_ref()), Answer::Forgot),
             Call::Entry(s, p, ignore) => either(self.store.entry(s, p, *ignore), Answer::Found),
             Call::QueryArea(a, ignore) | Call::IncludedIn(a, ignore) => {

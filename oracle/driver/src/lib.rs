@@ -6,6 +6,7 @@ pub mod convert;
 pub mod extras;
 pub mod gen;
 pub mod gen_any;
+pub mod gen_arrivals;
 pub mod gen_faults;
 pub mod gen_keys;
 pub mod gen_steps;

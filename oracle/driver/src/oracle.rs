@@ -356,6 +356,8 @@ impl<const MCL: usize, const MCC: usize, const MPL: usize> Oracle<MCL, MCC, MPL>
                 Answer::Said("put".into())
             }
             Call::Poke(..) => Answer::Said("the Rust keeps no tally".into()),
+            // Its `forget_payload` is about stored payloads and meets others' (`fpayload`): no reference for 02's U4.
+            Call::Record(..) | Call::Unrecord(..) => Answer::Said("the Rust has no such call".into()),
             // A poke from outside into the last eight bytes of the value, in both trees; never above the payload length.
             Call::Avail(s, p, n) => {
                 let p: Path<MCL, MCC, MPL> = path(p)?;

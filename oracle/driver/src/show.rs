@@ -141,6 +141,8 @@ pub fn show_call(c: &Call) -> String {
         Call::Put(time_first, k, v) => format!("put {} {} {}", key_kind(*time_first), raw(k), raw(v)),
         Call::Poke(at, n) => format!("poke {at} {n}"),
         Call::Avail(s, p, n) => format!("avail {} {n}", triple(s, p)),
+        Call::Record(s, p, n, d) => format!("record {} {n}{}", triple(s, p), digest(d)),
+        Call::Unrecord(s, p, d) => format!("unrecord {}{}", triple(s, p), digest(d)),
         Call::Append(s, p, n) => format!("append {} {n}", triple(s, p)),
         Call::ForgetPayload(s, p, d) => format!("fpayload {}{}", triple(s, p), digest(d)),
         Call::ForgetAreaPayloads(a, p) => format!("fareapayloads {}", areas(a, p)),

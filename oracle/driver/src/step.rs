@@ -48,11 +48,16 @@ pub fn changes(c: &Call) -> bool {
     matches!(c, Call::Ingest(..) | Call::Forget(..) | Call::ForgetArea(..))
 }
 
+/// Whether the call is one of 02's U4, which write into the trees of a store that is handed in and are not lent its tally.
+pub fn records(c: &Call) -> bool {
+    matches!(c, Call::Record(..) | Call::Unrecord(..))
+}
+
 /// Whether the call is made on a store that is handed in.
 pub fn on_store(c: &Call) -> bool {
     match c {
         Call::Bent(c) => on_store(c),
-        c if changes(c) => true,
+        c if changes(c) || records(c) => true,
         Call::Entry(..) | Call::QueryArea(..) | Call::IncludedIn(..) => true,
         Call::QueryRange(..) | Call::NextInArea(..) | Call::NextInRange(..) | Call::Count(..) | Call::Size(..) | Call::Aoi(..) => true,
         _ => false,

@@ -1,4 +1,4 @@
-//! A store as a list of entries in order of subspace, path and time, and document 01's calls on it, with 02's U1, U2 and U3. A call that is
+//! A store as a list of entries in order of subspace, path and time, and document 01's calls on it, with 02's U1 to U4. A call that is
 //! refused answers its number.
 use crate::*;
 
@@ -126,6 +126,25 @@ impl Store {
         self.retally();
         Ok((before - self.list.len()) as u64)
     }
+    /// How much of the payload of the entry at exactly this place has arrived, be it more or less than before (02, U4): 11 if no entry is there, then 9,
+    /// then 12. The tally is not lent, so there is no 10.
+    pub fn record_available_length(&mut self, s: &Subspace, p: &Path, expected: Option<&Digest>, available: u64) -> Result<(), Refusal> {
+        self.refusal(&[p])?;
+        let Some(i) = self.place_of(s, p) else { return Err(11) };
+        let x = &mut self.list[i];
+        if expected.is_some_and(|d| *d != x.entry.payload_digest) {
+            return Err(9);
+        }
+        if available > x.entry.payload_length {
+            return Err(12);
+        }
+        x.available = available;
+        Ok(())
+    }
+    /// Sets it to 0, which is never too much (02, U4).
+    pub fn forget_payload(&mut self, s: &Subspace, p: &Path, expected: Option<&Digest>) -> Result<(), Refusal> {
+        self.record_available_length(s, p, expected, 0)
+    }
     pub fn entry(&self, s: &Subspace, p: &Path, ignore: Ignore) -> Result<Option<Stored>, Refusal> {
         self.refusal(&[p])?;
         Ok(self.place_of(s, p).map(|i| self.list[i].clone()).filter(|x| !ignore.passes_over(x)))
@@ -176,7 +195,7 @@ impl Store {
             *to = n.to_be_bytes();
         }
     }
-    /// From outside, as no call of the store does: sets the available length, at most the payload length.
+    /// From outside, as is done to the Rust, which has no call for it: sets the available length, at most the payload length.
     pub fn poke_available(&mut self, s: &Subspace, p: &Path, n: u64) -> bool {
         let Some(i) = self.place_of(s, p) else { return false };
         let x = &mut self.list[i];

@@ -64,6 +64,16 @@ pub struct AreaForgotten {
     pub forgotten: usize,
 }
 
+/// What recording or forgetting an available length answers.
+#[repr(C)]
+#[derive(Clone, Copy, Debug, PartialEq, Eq)]
+pub struct AvailableRecorded {
+    /// 0, or 1, 2, 3, 4, 11, 9; of a recording also 12.
+    pub refusal: u8,
+    /// The state that was handed in.
+    pub state: State,
+}
+
 /// An entry as it is stored: with its token and how much of its payload is available.
 #[repr(C)]
 #[derive(Clone, Copy, Debug, PartialEq, Eq)]
@@ -72,7 +82,8 @@ pub struct LengthyEntry {
     pub entry: Entry,
     /// Its token.
     pub token: [u8; 64],
-    /// How many bytes of its payload are available.
+    /// How many bytes of its payload are available, as [`record_available_length`](super::record_available_length) and
+    /// [`forget_payload`](super::forget_payload) left it since the entry was filed; 0 if neither did.
     pub available: u64,
 }
 
@@ -236,6 +247,7 @@ layout! {
     PairsIngested: 8584, ingested 0, pairs 392;
     EntryForgotten: 40, refusal 0, state 8;
     AreaForgotten: 48, refusal 0, state 8, forgotten 40;
+    AvailableRecorded: 40, refusal 0, state 8;
     LengthyEntry: 352, entry 0, token 280, available 344;
     EntryFound: 360, refusal 0, found 1, lengthy 8;
     Listed: 16, refusal 0, found 1, place 8;

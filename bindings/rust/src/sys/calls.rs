@@ -47,7 +47,24 @@ macro_rules! over_store {
     };
 }
 
-/// Calls that change a store: what goes before the buffers, `VB_BUFFERS`, a lent slice if there is one, then values.
+/// Calls that write in a store's trees alone: `VB_TREES`.
+macro_rules! into_trees {
+    ($($(#[$doc:meta])* $name:ident = $symbol:ident($($arg:ident: $type:ty),*) -> $answer:ty;)*) => {
+        extern "C" {
+            $(fn $symbol(state: State, spt: *mut u8, spt_len: usize, spt_dir: *const u32, spt_dir_len: usize,
+                tsp: *mut u8, tsp_len: usize, tsp_dir: *const u32, tsp_dir_len: usize, $($arg: $type),*) -> $answer;)*
+        }
+        $($(#[$doc])* pub fn $name(state: State, store: &mut Trees<'_>, $($arg: $type),*) -> $answer {
+            let Trees { spt, spt_dir, tsp, tsp_dir } = store;
+            unsafe {
+                $symbol(state, spt.as_mut_ptr(), spt.len(), spt_dir.as_ptr(), spt_dir.len(),
+                    tsp.as_mut_ptr(), tsp.len(), tsp_dir.as_ptr(), tsp_dir.len(), $($arg),*)
+            }
+        })*
+    };
+}
+
+/// Calls that file and drop entries: what goes before the buffers, `VB_BUFFERS`, a lent slice if there is one, then values.
 macro_rules! into_store {
     ($($(#[$doc:meta])* $name:ident = $symbol:ident($($first:ident: $kind:ty),*; $($lent:ident: [$element:ty])?; $($arg:ident: $type:ty),*) -> $answer:ty;)*) => {
         extern "C" {
@@ -96,6 +113,19 @@ into_store! {
     /// Drops every entry that `area` includes and, with `protects`, `protected_area` does not; answers how many. Without `protects` the second area is
     /// not looked at. Refused: 1, 2, 3, 10, 4.
     forget_area = vb_forget_area(state: State;; area: Area, protects: u8, protected_area: Area) -> AreaForgotten;
+}
+
+into_trees! {
+    /// Records how much of a payload has arrived: `available` becomes the available length of the entry at exactly this subspace and path, in both trees. Any
+    /// number up to the payload length will do, a smaller one than before too. With `expects`, only if the entry's digest is the one expected; without, the
+    /// digest is not looked at. Of each tree the last 8 bytes of the entry's record are written, and nothing else; the state in the answer is the one handed
+    /// in. An absent entry is refused, unlike in [`forget_entry`], and so is a path that is only a prefix or an extension of a stored entry's.
+    /// Refused: 1, 2, 3, 4, 11, 9, 12.
+    record_available_length = vb_record_available_length(subspace: Subspace, path: Path, expects: u8, expected_digest: &[u8; 32], available: u64) -> AvailableRecorded;
+
+    /// Forgets how much of a payload has arrived: [`record_available_length`] of 0. An entry of which nothing has arrived answers done.
+    /// Refused: 1, 2, 3, 4, 11, 9.
+    forget_payload = vb_forget_payload(subspace: Subspace, path: Path, expects: u8, expected_digest: &[u8; 32]) -> AvailableRecorded;
 }
 
 over_store! {

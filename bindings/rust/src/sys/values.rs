@@ -2,7 +2,7 @@
 use super::layout;
 
 /// The edition of `virebony.h` that this crate is written for; compare [`edition`](super::edition).
-pub const EDITION: u32 = 4;
+pub const EDITION: u32 = 5;
 /// Entries that a store may be opened for.
 pub const LIMIT_MOST: usize = 1024;
 /// Bytes of a record: a tree has so many for each entry of the limit.
@@ -146,9 +146,9 @@ pub struct Interest {
 #[repr(C)]
 #[derive(Clone, Copy, Debug, Default, PartialEq, Eq, Hash)]
 pub struct Ignore {
-    /// Not 0: those whose payload is not all there.
+    /// Not 0: those whose payload is not all there, their available length being another than their payload length.
     pub incomplete_payloads: u8,
-    /// Not 0: those of an empty payload.
+    /// Not 0: those of an empty payload, whose length is 0.
     pub empty_payloads: u8,
 }
 
@@ -202,7 +202,8 @@ pub struct Buffers<'a> {
     pub tsp_dir: &'a [u32],
 }
 
-/// The buffers of a store, lent to a call that writes: slices of any length. What lies beyond the limit's room is neither read nor written.
+/// The buffers of a store, lent to a call that opens it or files or drops entries: slices of any length. What lies beyond the limit's room is neither
+/// read nor written.
 #[derive(Debug)]
 pub struct BuffersMut<'a> {
     /// The subspace-first tree.
@@ -217,10 +218,29 @@ pub struct BuffersMut<'a> {
     pub tally: &'a mut [u8],
 }
 
+/// The four buffers of a store that are lent to a call that writes how much of a payload has arrived: it writes in the trees alone, and takes no tally.
+/// Slices of any length; what lies beyond the limit's room is neither read nor written.
+#[derive(Debug)]
+pub struct Trees<'a> {
+    /// The subspace-first tree.
+    pub spt: &'a mut [u8],
+    /// Its directory.
+    pub spt_dir: &'a [u32],
+    /// The time-first tree.
+    pub tsp: &'a mut [u8],
+    /// Its directory.
+    pub tsp_dir: &'a [u32],
+}
+
 impl BuffersMut<'_> {
     /// The same buffers without the tally, for a call that reads.
     pub fn as_buffers(&self) -> Buffers<'_> {
         Buffers { spt: self.spt, spt_dir: self.spt_dir, tsp: self.tsp, tsp_dir: self.tsp_dir }
+    }
+
+    /// The same buffers without the tally, for a call that writes in the trees alone.
+    pub fn as_trees(&mut self) -> Trees<'_> {
+        Trees { spt: self.spt, spt_dir: self.spt_dir, tsp: self.tsp, tsp_dir: self.tsp_dir }
     }
 }
 

@@ -116,6 +116,11 @@ impl Kept {
         raw::BuffersMut { spt, spt_dir, tsp, tsp_dir, tally }
     }
 
+    pub fn trees(&mut self) -> raw::Trees<'_> {
+        let Kept { spt, spt_dir, tsp, tsp_dir, .. } = self;
+        raw::Trees { spt, spt_dir, tsp, tsp_dir }
+    }
+
     pub fn ingest(&mut self, entry: raw::Entry, prevent_pruning: u8) -> raw::Ingested {
         let (state, mut prune) = (self.state, std::mem::take(&mut self.prune));
         let answer = raw::ingest_entry(state, &mut self.buffers_mut(), &mut prune, entry, &TOKEN, prevent_pruning);

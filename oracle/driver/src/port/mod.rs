@@ -51,6 +51,10 @@ impl Buffers {
             _ => self.tally[at] = to as u8,
         }
     }
+    /// What 02's U4 is lent: no tally, and directories that it cannot change.
+    fn trees(&mut self, [a, b, c, d, ..]: [usize; 6]) -> raw::Trees<'_> {
+        raw::Trees { spt: &mut self.spt[..a], spt_dir: &self.spt_dir[..b], tsp: &mut self.tsp[..c], tsp_dir: &self.tsp_dir[..d] }
+    }
     pub fn lent(&self, [a, b, c, d, ..]: [usize; 6]) -> Lent<'_> {
         Lent { spt: &self.spt[..a], spt_dir: &self.spt_dir[..b], tsp: &self.tsp[..c], tsp_dir: &self.tsp_dir[..d] }
     }
@@ -106,6 +110,29 @@ impl Port {
                 let got = raw::forget_entry(h.state, &mut self.buffers.parts(h.lengths).0, subspace(sub), p, s.yes(d.is_some()), &d.unwrap_or(junk));
                 self.keep(got.refusal, got.state, h.state)?;
                 if got.refusal == 0 { Answer::Done } else { Answer::Refused(got.refusal) }
+            }
+            Call::Record(sub, p, n, d) => {
+                let (junk, p) = (s.bytes(), s.path(p));
+                let got = raw::record_available_length(h.state, &mut self.buffers.trees(h.lengths), subspace(sub), p, s.yes(d.is_some()), &d.unwrap_or(junk), *n);
+                recorded(got, h.state)
+            }
+            Call::Unrecord(sub, p, d) => {
+                let (junk, p) = (s.bytes(), s.path(p));
+                let got = raw::forget_payload(h.state, &mut self.buffers.trees(h.lengths), subspace(sub), p, s.yes(d.is_some()), &d.unwrap_or(junk));
+                recorded(got, h.state)
+            }
+            // The driver's poke, by the public call: never above the payload length.
+            Call::Avail(sub, p, n) => {
+                let (sub, p, all) = (subspace(sub), s.path(p), s.ignore(Ignore { incomplete: false, empty: false }));
+                let found = raw::find_entry(h.state, self.buffers.shared(h.lengths), sub, p, all);
+                match (found.refusal, found.found) {
+                    (0, 0) => Answer::Absent,
+                    (0, _) => {
+                        let n = (*n).min(found.lengthy.entry.payload_length);
+                        recorded(raw::record_available_length(h.state, &mut self.buffers.trees(h.lengths), sub, p, 0, &s.bytes(), n), h.state)
+                    }
+                    (n, _) => Answer::Refused(n),
+                }
             }
             Call::ForgetArea(a, b) => {
                 let a = s.area(a);
@@ -227,6 +254,15 @@ impl Port {
             }
             from = listed.place + 1;
         }
+    }
+}
+
+/// The state that is answered is the one that was handed in, refused or not.
+fn recorded(got: raw::AvailableRecorded, handed: raw::State) -> Answer {
+    match (got.refusal, got.state == handed) {
+        (0, true) => Answer::Done,
+        (n, true) => Answer::Refused(n),
+        _ => Answer::Said(format!("stray: {got:?}")),
     }
 }
 

@@ -1,6 +1,8 @@
 //! The customer's Rust, the model and the port in one process, call by call. Answers are compared as values; after every
 //! call the port's state, both trees, both directories, the tally, the prune list and what lies beyond the bounds are compared
-//! byte for byte with what the model says, and the Rust's trees record by record, with the tally that is counted in them.
+//! byte for byte with what the model says, and the Rust's trees record by record, with the tally that is counted in them. In a run that
+//! makes a call of 02's U4, which the Rust has not, the Rust is not asked, and the model judges alone.
+pub mod arrivals;
 pub mod run;
 pub mod table;
 use crate::answer::{Answer, Records};
@@ -19,7 +21,7 @@ use virebony::raw;
 #[derive(Clone, Copy, Debug, PartialEq, Eq, PartialOrd, Ord)]
 pub enum Judged {
     ByBoth,
-    /// The Rust has not this: refusals 1, 2, 3, 10; a store that was not opened; decoding by 01.
+    /// The Rust has not this: refusals 1, 2, 3, 10; a store that was not opened; decoding by 01; a run that makes a call of 02's U4.
     ByModel,
     /// The Rust's answer differs and is meant to: docs/DIFFERENCES.md 1.2 (`successor` carries) or 5 (the sum).
     SkippedArea,
@@ -49,6 +51,8 @@ pub struct Three {
     items: Vec<Item>,
     /// No store is open: the Rust, which has no such thing, is not asked.
     closed: bool,
+    /// The run makes a call of 02's U4: the Rust is not asked.
+    alone: bool,
 }
 
 fn pattern(r: &mut Rng, needed: usize) -> Vec<u8> {
@@ -77,7 +81,7 @@ fn buffers(r: &mut Rng, limit: u64) -> Buffers {
 
 impl Three {
     /// With no store open yet.
-    pub fn new() -> Three {
+    pub fn new(alone: bool) -> Three {
         let shadow = buffers(&mut Rng(0), 2);
         Three {
             rust: Oracle::open(Ns::default(), Some(0)),
@@ -87,6 +91,7 @@ impl Three {
             records: Default::default(),
             items: vec![],
             closed: true,
+            alone,
         }
     }
     fn state(&self) -> raw::State {
@@ -197,11 +202,11 @@ impl Three {
         let (h, refusal, undo) = self.front(step, plain)?;
         let model = refusal.map_or_else(|| self.judge.exec(call), Answer::Refused);
         if let Call::Avail(..) = call {
-            return self.poke(call, model);
+            return self.poke(step, h, model);
         }
         if let Call::Dump = call {
-            let rust = if self.closed { model.clone() } else { self.rust.exec(call) };
-            return if rust == model { Ok((model, Judged::ByBoth)) } else { Err(format!("trees: Rust {rust:?}\n  model {model:?}")) };
+            let rust = if self.closed || self.alone { model.clone() } else { self.rust.exec(call) };
+            return if rust == model { Ok((model, if self.alone { Judged::ByModel } else { Judged::ByBoth })) } else { Err(format!("trees: Rust {rust:?}\n  model {model:?}")) };
         }
         let changed = undo.map_or(0, |(which, at, _)| self.port.buffers.at(which, at));
         let port = self.port.exec(call, h, step.salt);
@@ -237,22 +242,22 @@ impl Three {
         self.same()?;
         Ok((model, judged))
     }
-    /// The available length, written from outside into all three.
-    fn poke(&mut self, call: &Call, model: Answer) -> Result<(Answer, Judged), String> {
-        let rust = if self.closed { model.clone() } else { self.rust.exec(call) };
-        if rust != model {
-            return Err(format!("poke: Rust {rust:?}, model {model:?}"));
+    /// The available length, written from outside into the Rust and the model; the port is asked by its public call. Nobody is asked where no store is open.
+    fn poke(&mut self, step: &Step, h: Handed, model: Answer) -> Result<(Answer, Judged), String> {
+        let port = if self.closed { model.clone() } else { self.port.exec(&step.call, h, step.salt) };
+        let rust = if self.closed || self.alone { model.clone() } else { self.rust.exec(&step.call) };
+        if rust != model || port != model {
+            return Err(format!("poke: Rust {rust:?}, model {model:?}, port {port:?}"));
         }
         if model == Answer::Done {
             self.draw();
-            self.port.buffers = self.shadow.clone();
         }
         self.same()?;
-        Ok((model, Judged::ByBoth))
+        Ok((model, if self.alone { Judged::ByModel } else { Judged::ByBoth }))
     }
     fn by_the_rust(&mut self, call: &Call, refusal: Option<u8>, model: &Answer) -> Result<Judged, String> {
         let opens = matches!(call, Call::Open(..)) && *model == Answer::Opened;
-        let alone = refusal.is_some() || matches!(call, Call::Decode01(..)) || (!opens && (matches!(call, Call::Open(..)) || self.closed && on_store(call)));
+        let alone = self.alone || refusal.is_some() || matches!(call, Call::Decode01(..)) || (!opens && (matches!(call, Call::Open(..)) || self.closed && on_store(call)));
         if alone {
             return Ok(Judged::ByModel);
         }
@@ -287,7 +292,7 @@ impl Three {
             let tally = at(&port.tally, &shadow.tally);
             return Err(format!("buffers differ first at: trees {trees:?}, directories {directories:?}, tally {tally:?}, prune list {prune:?}"));
         }
-        if self.closed {
+        if self.closed || self.alone {
             return Ok(());
         }
         for time_first in [false, true] {

@@ -2,15 +2,15 @@
 use super::table::Table;
 use super::{Judged, Three};
 use crate::show::show_call;
-use crate::step::{changes, Step};
+use crate::step::{changes, records, Step};
 use std::collections::BTreeMap;
 
 /// Runs all steps; the number of the first that differs, and how.
 pub fn run(steps: &[Step], table: &mut Table, judged: &mut BTreeMap<Judged, u64>) -> Result<(), (usize, String)> {
-    let mut three = Three::new();
+    let mut three = Three::new(steps.iter().any(|s| records(&s.call)));
     for (i, step) in steps.iter().enumerate() {
         // Where the call writes, the store before it is counted.
-        let before = changes(&step.call).then(|| three.judge.store.clone());
+        let before = (changes(&step.call) || records(&step.call)).then(|| three.judge.store.clone());
         let (answer, by) = three.step(step).map_err(|words| (i, words))?;
         *judged.entry(by).or_default() += 1;
         table.count(before.as_ref().unwrap_or(&three.judge.store), step, &answer);

@@ -2,11 +2,14 @@
 use crate::answer::Answer;
 use crate::call::Call;
 use crate::step::{on_store, Front, Step};
+use super::arrivals;
 use model::*;
 
 #[derive(Default)]
 pub struct Table {
     rows: Vec<(String, u64)>,
+    /// Where an entry with an available length was forgotten since the opening.
+    pub forgotten: Vec<(Subspace, Path)>,
 }
 
 const CALLS: [&str; 19] = [
@@ -60,6 +63,8 @@ fn name(c: &Call) -> &'static str {
         Call::Key(..) => "key",
         Call::Decode(..) | Call::Decode01(..) => "decode",
         Call::Avail(..) => "avail",
+        Call::Record(..) => "record",
+        Call::Unrecord(..) => "unrecord",
         _ => "other",
     }
 }
@@ -68,7 +73,7 @@ fn paths(c: &Call) -> Vec<&Path> {
     match c {
         Call::Bent(c) => paths(c),
         Call::Ingest(e, ..) => vec![&e.path],
-        Call::Forget(_, p, _) | Call::Entry(_, p, _) | Call::Avail(_, p, _) | Call::Above(p) | Call::Key(_, p, _) => vec![p],
+        Call::Forget(_, p, _) | Call::Record(_, p, ..) | Call::Unrecord(_, p, _) | Call::Entry(_, p, _) | Call::Avail(_, p, _) | Call::Above(p) | Call::Key(_, p, _) => vec![p],
         Call::ForgetArea(a, b) => [Some(&a.path), b.as_ref().map(|b| &b.path)].into_iter().flatten().collect(),
         Call::QueryArea(a, _) | Call::IncludedIn(a, _) | Call::NextInArea(a, ..) | Call::Count(a) => vec![&a.path],
         Call::Aoi(a, ..) | Call::AreaRange(a) => vec![&a.path],
@@ -89,7 +94,7 @@ fn descends<T: Ord>(r: &Range<T>) -> bool {
 }
 
 impl Table {
-    fn add(&mut self, row: &str, yes: bool) {
+    pub fn add(&mut self, row: &str, yes: bool) {
         if yes {
             match self.rows.iter_mut().find(|r| r.0 == row) {
                 Some(r) => r.1 += 1,
@@ -108,11 +113,13 @@ impl Table {
     fn get(&self, row: &str) -> u64 {
         self.rows.iter().find(|r| r.0 == row).map_or(0, |r| r.1)
     }
-    /// Every row, with those that never occurred.
-    pub fn all(&self) -> Vec<(String, u64)> {
+    /// Every row, with those that never occurred: those of the kind `arrivals`, those of the others.
+    pub fn all(&self, arrivals: bool, others: bool) -> Vec<(String, u64)> {
         let calls = CALLS.iter().map(|c| format!("call {c}"));
         let fours = CALLS.iter().filter(|c| **c != "open").map(|c| format!("refused 4 in {c}"));
-        calls.chain(fours).chain(ROWS.iter().map(|r| r.to_string())).map(|r| { let n = self.get(&r); (r, n) }).collect()
+        let rows: Vec<String> = calls.chain(fours).chain(ROWS.iter().map(|r| r.to_string())).filter(|_| others).collect();
+        let more = arrivals::ROWS.iter().filter(|_| arrivals).map(|r| r.to_string());
+        rows.into_iter().chain(more).map(|r| { let n = self.get(&r); (r, n) }).collect()
     }
     /// Counts one call: the store before it, the call, the model's answer.
     pub fn count(&mut self, store: &Store, step: &Step, answer: &Answer) {
@@ -126,6 +133,7 @@ impl Table {
             self.add(&format!("refused 4 in {}", name(c)), *n == 4);
         }
         self.values(c);
+        self.arrivals(store, step, c, answer);
         if let Call::Ingest(e, ..) = c {
             let stored = |e: &Entry| store.entries().iter().any(|x| x.entry == *e);
             self.add("resend with a wrong tally", *answer == Answer::Refused(10) && stored(e));

@@ -1,0 +1,3 @@
+pub mod Overwritten
+pub mod Arrived
+pub mod RefusalLaws
