@@ -408,6 +408,56 @@ static void keys(void) {
     IS(vb_read_path_at(NULL, 0, 0).refusal, 5);
 }
 
+/* Whether a reader at the front of a key answers so: a component of so many of these bytes, or the path's end, and how many bytes it took; or 5. */
+static int steps(const uint8_t *key, size_t len, uint8_t refusal, uint8_t component, size_t length, const uint8_t *bytes, size_t took) {
+    uint8_t want[VB_MCL] = {0};
+    vb_stepped s = vb_read_component_at(key, len, 0);
+    memcpy(want, bytes, length);
+    return s.refusal == refusal && s.component == component && s.length == length && memcmp(s.bytes, want, VB_MCL) == 0 && s.position == took && s.left == len - took;
+}
+
+/* Whether both decoders take a path's bytes, in the keys of subspace 0 and timestamp 0, for one component of so many of these bytes, and one more if it has none; or refuse them with 5. */
+static int decodes(const uint8_t *path_key, size_t len, uint8_t refusal, size_t count, size_t length, const uint8_t *bytes) {
+    uint8_t spt[64] = {0}, tsp[64] = {0}, want[VB_MPL] = {0};
+    memcpy(spt + 16, path_key, len);
+    memcpy(tsp + 24, path_key, len);
+    memcpy(want, bytes, length);
+    for (int first = 0; first < 2; first++) {
+        vb_decoded d = first ? vb_decode_tsp_entry_key(tsp, 24 + len) : vb_decode_spt_entry_key(spt, 16 + len + 8);
+        if (d.refusal != refusal || d.path.count != count || memcmp(d.path.bytes, want, VB_MPL) != 0) return 0;
+        for (size_t i = 0; i < VB_MCC; i++) if (d.path.ends[i] != (i < count ? length : 0)) return 0;
+    }
+    return 1;
+}
+
+/* The escape table, by every byte and every byte behind it: an ordinary byte; 00 then 00, 01, 02 or anything else; 00 at the end. */
+static void escape_table(void) {
+    uint8_t *last = (uint8_t *)lent(1), *two = (uint8_t *)lent(2);
+    unsigned ordinary = 0, begun = 0, zero_zero = 0, zero_one = 0, zero_two = 0, zero_other = 0;
+    for (unsigned b = 0; b < 256; b++) {
+        last[0] = (uint8_t)b; /* 00 at the end, and a component that does not end */
+        IS(steps(last, 1, 5, 0, 0, last, 0), 1);
+        for (unsigned m = 0; m < 256; m++) {
+            const uint8_t key[6] = {(uint8_t)b, (uint8_t)m, 0, 1, 0, 0};
+            memcpy(two, key, 2);
+            if (b != 0 && m != 0) ordinary += steps(key, 4, 0, 1, 2, key, 4) && decodes(key, 6, 0, 1, 2, key) && steps(two, 2, 5, 0, 0, key, 0);
+            else if (b != 0) begun += steps(key, 4, 5, 0, 0, key, 0) && decodes(key, 6, 5, 0, 0, key) && steps(two, 2, 5, 0, 0, key, 0);
+            else if (m == 0) zero_zero += steps(key, 4, 0, 0, 0, key, 2) && decodes(key, 2, 0, 0, 0, key) && steps(two, 2, 0, 0, 0, key, 2);
+            else if (m == 1) zero_one += steps(key, 4, 0, 1, 0, key, 2) && decodes(key, 6, 0, 2, 0, key) && steps(two, 2, 0, 1, 0, key, 2);
+            else if (m == 2) zero_two += steps(key, 4, 0, 1, 1, key, 4) && decodes(key, 6, 0, 1, 1, key) && steps(two, 2, 5, 0, 0, key, 0);
+            else zero_other += steps(key, 4, 5, 0, 0, key, 0) && decodes(key, 6, 5, 0, 0, key) && steps(two, 2, 5, 0, 0, key, 0);
+        }
+    }
+    IS(ordinary, 255 * 255);
+    IS(begun, 255);
+    IS(zero_zero, 1);
+    IS(zero_one, 1);
+    IS(zero_two, 1);
+    IS(zero_other, 253);
+    free(last);
+    free(two);
+}
+
 /* Ends at will: all bytes 7, all other ends 255. */
 static vb_path odd(size_t count, size_t first, size_t second, size_t third) {
     vb_path p;
@@ -1126,6 +1176,7 @@ int main(void) {
     entries();
     areas_and_ranges();
     keys();
+    escape_table();
     odd_values();
     openings();
     ingestion();

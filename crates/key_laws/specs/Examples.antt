@@ -1,4 +1,4 @@
--- The starred examples of 01, over the definitions that the contracts cite, and traps of the path order.
+-- The starred examples of 01 and those of 02's U5, over the definitions that the contracts cite, and traps of the path order and of reading.
 use Prim.Native.Nat.{ℕ, _-_, _^_}
 use mathlib.Core.Path.{_≡_}
 use mathlib.Core.List.{List, [], _∷_, _++_}
@@ -7,6 +7,10 @@ use lib.ListN.{length, replicate}
 use Rattle.laws.specs.Order.{less}
 use Rattle.data_model.specs.Path.{field, capacity, Components, legal, pathOf, byComponents, isPrefix}
 use Rattle.keys.specs.Encode.{pathKey}
+use Rattle.keys.specs.Decode.{StepRead, component, end-of-path, componentRead, readSpt, readTsp, decoded}
+use Rattle.keys.specs.declared.decode.Decoded.{Decoded}
+use Rattle.data_model.specs.Said.{refuses, says}
+use Rattle.data_model.specs.Subspace.{firstSubspace}
 use Rattle.data_model.specs.Entry.{Entry, newer}
 use Rattle.data_model.specs.Range.{timesInclude}
 use Rattle.data_model.specs.Area.{areaRange}
@@ -34,6 +38,34 @@ abbrev pub [61] : Components
 abbrev pub [6100] : Components
 [6100] = (0x61 ∷ 0x00 ∷ []) ∷ []
 
+-- What a decoder answers to the key of the first subspace, a path and timestamp 0; and to bytes that are no key: 5, and all else 0.
+abbrev pub decodedTo : Components → Decoded
+decodedTo p = record { refusal = 0; subspace = firstSubspace; path = pathOf p; timestamp = 0 }
+
+abbrev pub notDecoded : Decoded
+notDecoded = record { refusal = 5; subspace = firstSubspace; path = pathOf []; timestamp = 0 }
+
+-- What the reader of components answers at position 0: a component and the position behind it; the position behind the path's end; or 5.
+abbrev pub readTo : List ℕ → ℕ → StepRead
+readTo c position = record { next = says (component (length c) position); bytes = c ++ replicate (capacity .mcl - length c) 0 }
+
+abbrev pub pathEnds : StepRead
+pathEnds = record { next = says (end-of-path 2); bytes = replicate (capacity .mcl) 0 }
+
+abbrev pub notRead : StepRead
+notRead = record { next = refuses 5; bytes = replicate (capacity .mcl) 0 }
+
+-- How a path's bytes are read: behind 16 bytes of subspace and before a timestamp, behind 8 bytes of timestamp and 16 of subspace, and by the reader of
+-- components alone.
+abbrev pub Reads : (path timestamp : List ℕ) → Decoded → StepRead → Type 0
+Reads path timestamp key step =
+    (decoded (readSpt field (replicate 16 0 ++ (path ++ timestamp))) ≡ key) × (decoded (readTsp field (replicate 24 0 ++ path)) ≡ key)
+    × (componentRead field 0 path ≡ step)
+
+-- Timestamp 0. A key that is cut has none.
+abbrev pub timestamp-0 : List ℕ
+timestamp-0 = replicate 8 0
+
 pub record Examples : Type 0 where
   pub empty-path : pathKey [] ≡ 0x00 ∷ 0x00 ∷ []
   pub empty-component : pathKey ([] ∷ []) ≡ 0x00 ∷ 0x01 ∷ 0x00 ∷ 0x00 ∷ []
@@ -51,3 +83,14 @@ pub record Examples : Type 0 where
   pub area-at-empty : AreaPaths [] (record { start = pathOf []; end = pathOf []; «open» = true })
   pub order-traps : ([61] ≺ (0x61 ∷ []) ∷ [] ∷ []) × ((0x61 ∷ []) ∷ [] ∷ [] ≺ (0x61 ∷ []) ∷ (0xff ∷ []) ∷ [])
       × ((0x61 ∷ []) ∷ (0xff ∷ []) ∷ [] ≺ [6100]) × ([6100] ≺ (0x62 ∷ []) ∷ [])
+  pub ordinary-byte : Reads (0x61 ∷ 0x00 ∷ 0x01 ∷ 0x00 ∷ 0x00 ∷ []) timestamp-0 (decodedTo [61]) (readTo (0x61 ∷ []) 3)
+  pub zero-then-00 : Reads (0x00 ∷ 0x00 ∷ []) timestamp-0 (decodedTo []) pathEnds
+  pub zero-then-01 : Reads (0x00 ∷ 0x01 ∷ 0x00 ∷ 0x00 ∷ []) timestamp-0 (decodedTo ([] ∷ [])) (readTo [] 2)
+  pub zero-then-02 : Reads (0x00 ∷ 0x02 ∷ 0x00 ∷ 0x01 ∷ 0x00 ∷ 0x00 ∷ []) timestamp-0 (decodedTo ((0x00 ∷ []) ∷ [])) (readTo (0x00 ∷ []) 4)
+  pub zero-then-other : Reads (0x00 ∷ 0x03 ∷ 0x00 ∷ 0x01 ∷ 0x00 ∷ 0x00 ∷ []) timestamp-0 notDecoded notRead
+      × Reads (0x00 ∷ 0xff ∷ 0x00 ∷ 0x01 ∷ 0x00 ∷ 0x00 ∷ []) timestamp-0 notDecoded notRead
+  pub zero-at-the-end : Reads (0x61 ∷ 0x00 ∷ []) [] notDecoded notRead
+      × Reads (0x61 ∷ 0x62 ∷ 0x63 ∷ 0x64 ∷ 0x65 ∷ 0x66 ∷ 0x67 ∷ 0x00 ∷ []) [] notDecoded notRead
+  pub reading-traps : Reads (0x61 ∷ 0x00 ∷ 0x00 ∷ []) timestamp-0 notDecoded notRead
+      × Reads (0x61 ∷ []) timestamp-0 notDecoded notRead
+      × Reads (replicate 64 0x61 ++ (0x00 ∷ 0x02 ∷ 0x00 ∷ 0x01 ∷ 0x00 ∷ 0x00 ∷ [])) timestamp-0 notDecoded notRead

@@ -1,5 +1,6 @@
 pub mod Encoding
 pub mod Reading
+pub mod EscapeCases
 pub mod Walking
 pub mod Decoding
 pub mod Counting

@@ -1,81 +1,19 @@
--- Laws of tokens, and of a loop that reads a component: what was read so far, in front of what reading on gives.
+-- Laws of a loop that reads a component: what was read so far, in front of what reading on gives.
 -- Assumes nothing.
 use Prim.Native.Nat.{ℕ, zero, suc, _+_, _-_, _≤_, _<_}
-use mathlib.Core.Path.{_≡_, refl, sym, ap, ap₂, subst, _∙_}
-use mathlib.Core.Bool.{Bool, true, false, _&&_}
+use mathlib.Core.Path.{_≡_, refl, sym, ap, subst, _∙_}
 use mathlib.Core.List.{List, [], _∷_, _++_, append-nil}
 use native.Mathlib.Omega.{arith}
 use native.Mathlib.Nat.{zero-add}
 use native.Mathlib.Numerals.{add-one}
-use lib.Dec.{eqb}
-use borrow.Author.Tests.{eq-eqb, ne-eqb}
-use lib.ListN.{length, take, drop, getD, set, length-drop, length-set, take-append-drop, drop-of-length-le}
-use lib.Seq.{take-all, take-suc-set, drop-cons, drop-set-lt, drop-drop, length-take-le, append-snoc}
+use lib.ListN.{length, take, drop, set, length-drop, length-set, take-append-drop, drop-of-length-le}
+use lib.Seq.{take-all, take-suc-set, drop-set-lt, drop-drop, length-take-le, append-snoc}
 use Rattle.laws.specs.Lists.{put}
-use Rattle.laws.specs.Prefix.{sameNumber, sameList}
-use Rattle.laws.proofs.Truth.{clash}
-use Rattle.laws.proofs.Prefix.{number-equality, list-equality}
-use Rattle.data_model.specs.Path.{sameComponent}
 use Rattle.keys.specs.Encode.{escaped}
 use Rattle.data_model.specs.Said.{Said, refuses, says}
 use Rattle.keys.specs.Decode.{Symbol, byte, component-mark, path-mark, Taken, refused, took, more, mark, tokenOf, byToken, readComponent}
 use Rattle.keys.specs.Inner.{partOf, Filled}
-use Rattle.data_model.specs.Refusal.{noKey}
 use Rattle.keys.specs.declared.decode.Part.the-variants as part
-use Rattle.keys.proofs.Encoding.{pair-is}
-
-and-end : (b : Bool) → b ≡ (b && true)
-and-end true = refl
-and-end false = refl
-
--- Two bytes that are a mark, and two that are not.
-pub mark-is : (b m n : ℕ) → sameComponent (b ∷ m ∷ []) (0 ∷ n ∷ []) ≡ true → m ≡ n
-mark-is b m n e = let q = list-equality sameNumber number-equality .equal (b ∷ m ∷ []) (0 ∷ n ∷ []) e in cc
-
-pub mark-not : (b m n : ℕ) → b ≡ 0 → sameComponent (b ∷ m ∷ []) (0 ∷ n ∷ []) ≡ false → m ≡ n → ⊥
-mark-not b m n z e q = clash {b = sameComponent (b ∷ m ∷ []) (0 ∷ n ∷ [])} (cc (list-equality sameNumber number-equality .self (b ∷ m ∷ []))) e
-
-module _ (a b : List ℕ) (m : length a ≡ 2) (n : length b ≡ 2) where
-  pub marks-same : getD a 0 0 ≡ getD b 0 0 → eqb (getD a 1 0) (getD b 1 0) ≡ sameComponent a b
-  unfolding sameNumber sameList
-  marks-same e = rw (pair-is a m, pair-is b n) (rw (eq-eqb (getD a 0 0) (getD b 0 0) e) (and-end (eqb (getD a 1 0) (getD b 1 0))))
-
-  pub marks-differ : (getD a 0 0 ≡ getD b 0 0 → ⊥) → false ≡ sameComponent a b
-  unfolding sameNumber sameList
-  marks-differ e = rw (pair-is a m, pair-is b n) (rw (ne-eqb (getD a 0 0) (getD b 0 0) e))
-
--- What stands at a place.
-token-front : (b : ℕ) (k : List ℕ) → (b ≡ 0 → ⊥) → tokenOf (b ∷ k) ≡ says (byte b)
-unfolding tokenOf
-token-front zero k h = absurd (h refl)
-token-front (suc b) k h = refl
-
-module _ (k : List ℕ) (at : ℕ) where
-  pub token-past : length k ≤ at → tokenOf (drop at k) ≡ refuses noKey
-  unfolding tokenOf
-  token-past h = rw (drop-of-length-le k h)
-
-  pub token-byte : at < length k → (getD k at 0 ≡ 0 → ⊥) → tokenOf (drop at k) ≡ says (byte (getD k at 0))
-  token-byte h n = ap tokenOf (drop-cons k at 0 h) ∙ token-front (getD k at 0) (drop (suc at) k) n
-
-  pub token-cut : at + 1 ≡ length k → getD k at 0 ≡ 0 → tokenOf (drop at k) ≡ refuses noKey
-  unfolding tokenOf
-  token-cut h e =
-      let z : drop (suc at) k ≡ [] = drop-of-length-le k {i = suc at} (omega arith) in
-      ap tokenOf (drop-cons k at 0 (omega arith) ∙ ap₂ _∷_ e z)
-
-  pub token-mark : at + 1 < length k → getD k at 0 ≡ 0 → tokenOf (drop at k) ≡ mark (getD k (at + 1) 0)
-  unfolding tokenOf
-  token-mark h e =
-      let z : drop (suc at) k ≡ getD k (suc at) 0 ∷ drop (suc (suc at)) k = drop-cons k (suc at) 0 (omega arith) in
-      ap tokenOf (drop-cons k at 0 (omega arith) ∙ ap₂ _∷_ e z) ∙ ap (λ (i : ℕ). mark (getD k i 0)) (sym (add-one at))
-
-pub mark-other : (m : ℕ) → (m ≡ 0 → ⊥) → (m ≡ 1 → ⊥) → (m ≡ 2 → ⊥) → mark m ≡ refuses noKey
-unfolding mark
-mark-other zero a b c = absurd (a refl)
-mark-other (suc zero) a b c = absurd (b refl)
-mark-other (suc (suc zero)) a b c = absurd (c refl)
-mark-other (suc (suc (suc m))) a b c = refl
 
 -- What a component's reading does, by the token that it meets.
 abbrev pub stepComponent : ℕ → List ℕ → Said Symbol → Taken (List ℕ)

@@ -1,7 +1,7 @@
 -- What the decoders' inner functions answer and write. No public answer is defined by these.
-use Prim.Native.Nat.{ℕ, _-_}
+use Prim.Native.Nat.{ℕ, zero, suc, _-_}
 use mathlib.Core.Path.{_≡_}
-use mathlib.Core.List.{List}
+use mathlib.Core.List.{List, [], _∷_}
 use lib.ListN.{length, drop}
 use Rattle.laws.specs.Lists.{put}
 use Rattle.data_model.specs.Path.{Figures}
@@ -9,6 +9,17 @@ use Rattle.keys.specs.Encode.{Triple}
 use Rattle.keys.specs.Decode.{Taken, refused, took, readPath, number, subspaceAt, whole}
 use Rattle.keys.specs.declared.decode.Part.{Part}
 use Rattle.keys.specs.declared.decode.Part.the-variants as part
+use Rattle.keys.specs.declared.token.EscapeCase.{EscapeCase}
+use Rattle.keys.specs.declared.token.EscapeCase.the-variants as escape
+
+-- The cases of the escape table, of a byte and the bytes behind it: an ordinary byte; 00 then 00, 01, 02 or anything else; 00 at the end.
+unfoldable pub escapeCase : ℕ → List ℕ → EscapeCase
+escapeCase (suc b) k = escape.Ordinary (suc b)
+escapeCase zero (zero ∷ k) = escape.ZeroZero
+escapeCase zero (suc zero ∷ k) = escape.ZeroOne
+escapeCase zero (suc (suc zero) ∷ k) = escape.ZeroTwo
+escapeCase zero (suc (suc (suc m)) ∷ k) = escape.ZeroOther
+escapeCase zero [] = escape.ZeroLast
 
 -- A key whose subspace stands before the path and whose timestamp stands at a position.
 unfoldable pub readKey : Figures → (before behind time : ℕ) → List ℕ → Taken Triple

@@ -8,6 +8,7 @@ ghost use lib.ListN.{length, drop};
 ghost use Rattle.data_model.specs.Path.{sameComponent};
 ghost use Rattle.keys.specs.Encode.{escaped};
 ghost use Rattle.keys.specs.Decode.{tokenSays, tokenOf, endsPath};
+ghost use Rattle.keys.specs.Inner.{escapeCase};
 
 // What stands at a position of a path's bytes.
 pub enum Token {
@@ -27,6 +28,39 @@ fn same_mark(a: [u8; 2], b: [u8; 2]) -> bool
     false
 }
 
+// The cases of the escape table: an ordinary byte; 00 then 00, 01, 02 or anything else; 00 at the end.
+enum EscapeCase {
+    Ordinary(u8),
+    ZeroZero,
+    ZeroOne,
+    ZeroTwo,
+    ZeroOther,
+    ZeroLast,
+}
+
+// Which case a byte is, by the bytes behind it: 00 and the next one are compared with the marks.
+fn escape_case(b: u8, behind: &[u8]) -> EscapeCase
+    ensures { λ r. ⌜ r ≡ escapeCase b (now (behind .entry)) ⌝ }
+{
+    if b != 0 {
+        return EscapeCase::Ordinary(b);
+    }
+    if behind.len() == 0 {
+        return EscapeCase::ZeroLast;
+    }
+    let m = behind[0];
+    if same_mark([b, m], PATH_END) {
+        return EscapeCase::ZeroZero;
+    }
+    if same_mark([b, m], COMPONENT_END) {
+        return EscapeCase::ZeroOne;
+    }
+    if same_mark([b, m], ESCAPED_ZERO) {
+        return EscapeCase::ZeroTwo;
+    }
+    EscapeCase::ZeroOther
+}
+
 // The token at a position. Past the end of the key stands nothing: 5.
 pub fn token_at(key: &[u8], at: usize) -> Token
     ensures { λ r. ⌜ tokenSays r ≡ tokenOf (drop at (now (key .entry))) ⌝ }
@@ -34,24 +68,21 @@ pub fn token_at(key: &[u8], at: usize) -> Token
     if key.len() <= at {
         return Token::Refused(NO_KEY);
     }
-    let b = key[at];
-    if b != 0 {
-        return Token::Byte(b);
+    let case = escape_case(key[at], &key[at + 1..]);
+    match case {
+        // An ordinary byte: itself.
+        EscapeCase::Ordinary(b) => Token::Byte(b),
+        // 00 then 00: the path ends.
+        EscapeCase::ZeroZero => Token::PathEnd,
+        // 00 then 01: the component ends.
+        EscapeCase::ZeroOne => Token::ComponentEnd,
+        // 00 then 02: the byte 00.
+        EscapeCase::ZeroTwo => Token::Byte(0),
+        // 00 then anything else: 5.
+        EscapeCase::ZeroOther => Token::Refused(NO_KEY),
+        // 00 at the end: 5.
+        EscapeCase::ZeroLast => Token::Refused(NO_KEY),
     }
-    if at + 1 == key.len() {
-        return Token::Refused(NO_KEY);
-    }
-    let m = key[at + 1];
-    if same_mark([b, m], PATH_END) {
-        return Token::PathEnd;
-    }
-    if same_mark([b, m], COMPONENT_END) {
-        return Token::ComponentEnd;
-    }
-    if same_mark([b, m], ESCAPED_ZERO) {
-        return Token::Byte(0);
-    }
-    Token::Refused(NO_KEY)
 }
 
 // How many bytes a byte of a component takes.

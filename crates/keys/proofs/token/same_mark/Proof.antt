@@ -1,7 +1,7 @@
 -- `same_mark` meets its contract: the first bytes, then the second. Assumes nothing.
 use mathlib.Core.Path.{_≡_}
 use lib.ListN.{length}
-use Rattle.keys.proofs.Reading.{marks-same, marks-differ}
+use Rattle.keys.proofs.EscapeCases.{marks-same, marks-differ}
 use borrow.Author.Needs.{needs}
 use Rattle.keys.proofs.token.same_mark.Statement.{statement}
 use Rattle.keys.proofs.token.same_mark.Tie as tie
