@@ -408,54 +408,71 @@ static void keys(void) {
     IS(vb_read_path_at(NULL, 0, 0).refusal, 5);
 }
 
-/* Whether a reader at the front of a key answers so: a component of so many of these bytes, or the path's end, and how many bytes it took; or 5. */
-static int steps(const uint8_t *key, size_t len, uint8_t refusal, uint8_t component, size_t length, const uint8_t *bytes, size_t took) {
-    uint8_t want[VB_MCL] = {0};
-    vb_stepped s = vb_read_component_at(key, len, 0);
-    memcpy(want, bytes, length);
-    return s.refusal == refusal && s.component == component && s.length == length && memcmp(s.bytes, want, VB_MCL) == 0 && s.position == took && s.left == len - took;
-}
+/* What the bytes of a path are read as: `count` components, of which the first has the first `length` of these bytes and the others none; or 5. The first
+   component, or the path's end, takes `took` bytes. */
+typedef struct { uint8_t refusal; size_t count, length, took; uint8_t bytes[4]; } taken;
 
-/* Whether both decoders take a path's bytes, in the keys of subspace 0 and timestamp 0, for one component of so many of these bytes, and one more if it has none; or refuse them with 5. */
-static int decodes(const uint8_t *path_key, size_t len, uint8_t refusal, size_t count, size_t length, const uint8_t *bytes) {
-    uint8_t spt[64] = {0}, tsp[64] = {0}, want[VB_MPL] = {0};
-    memcpy(spt + 16, path_key, len);
-    memcpy(tsp + 24, path_key, len);
-    memcpy(want, bytes, length);
-    for (int first = 0; first < 2; first++) {
-        vb_decoded d = first ? vb_decode_tsp_entry_key(tsp, 24 + len) : vb_decode_spt_entry_key(spt, 16 + len + 8);
-        if (d.refusal != refusal || d.path.count != count || memcmp(d.path.bytes, want, VB_MPL) != 0) return 0;
-        for (size_t i = 0; i < VB_MCC; i++) if (d.path.ends[i] != (i < count ? length : 0)) return 0;
+/* Whether every call that reads a path answers so: both decoders and both readers of keys of subspace 0 and timestamp 0 (cut: without its bytes behind the path),
+   the reader of a path, and the reader of a component. */
+static int reads(const uint8_t *path_bytes, size_t len, int cut, taken t) {
+    uint8_t want[VB_MPL] = {0}, *spt = (uint8_t *)lent(16 + len + (cut ? 0 : 8)), *tsp = (uint8_t *)lent(24 + len);
+    size_t spt_len = 16 + len + (cut ? 0 : 8);
+    int right = 1;
+    memset(spt, 0, spt_len);
+    memset(tsp, 0, 24 + len);
+    memcpy(spt + 16, path_bytes, len);
+    memcpy(tsp + 24, path_bytes, len);
+    memcpy(want, t.bytes, t.length);
+    vb_decoded d[4] = {vb_decode_spt_entry_key(spt, spt_len), vb_read_spt_entry_key(spt, spt_len), vb_decode_tsp_entry_key(tsp, 24 + len), vb_read_tsp_entry_key(tsp, 24 + len)};
+    vb_path_read p = vb_read_path_at(tsp, 24 + len, 24);
+    vb_stepped s = vb_read_component_at(tsp, 24 + len, 24);
+    for (int i = 0; i < 5; i++) {
+        vb_path q = i < 4 ? d[i].path : p.path;
+        right &= (i < 4 ? d[i].refusal : p.refusal) == t.refusal && q.count == t.count && memcmp(q.bytes, want, VB_MPL) == 0;
+        for (size_t k = 0; k < VB_MCC; k++) right &= q.ends[k] == (k < t.count ? t.length : 0);
     }
-    return 1;
+    right &= p.next == (t.refusal ? 0 : 24 + len);
+    right &= s.refusal == t.refusal && s.component == (t.count > 0) && s.length == t.length && memcmp(s.bytes, want, VB_MCL) == 0;
+    right &= s.position == 24 + t.took && s.left == len - t.took;
+    free(spt);
+    free(tsp);
+    return right;
 }
 
-/* The escape table, by every byte and every byte behind it: an ordinary byte; 00 then 00, 01, 02 or anything else; 00 at the end. */
+/* What the escape table says of the bytes b, m, 00 01 00 00, where a component begins or behind a byte 61 of it. */
+static taken by_table(size_t begun, uint8_t b, uint8_t m) {
+    const taken refused = {5, 0, 0, 0, {0}};
+    taken t = {0, 1, begun, begun + 4, {0x61}};
+    t.bytes[begun] = b;
+    t.bytes[begun + 1] = m;
+    if (b != 0 && m != 0) t.length += 2;                            /* ordinary bytes */
+    else if (b != 0) return refused;                                /* 00 then 00, in a component that has begun */
+    else if (m == 0 && begun) return refused;                       /* the same */
+    else if (m == 0) t.count = 0, t.took = 2;                       /* 00 then 00: the path's end */
+    else if (m == 1) t.count = 2, t.took = begun + 2;               /* 00 then 01: the component's end, and behind it an empty one */
+    else if (m == 2) t.length += 1;                                 /* 00 then 02: the byte 00 */
+    else return refused;                                            /* 00 then anything else */
+    return t;
+}
+
+/* The escape table, by every byte and every byte behind it, where a component begins and in one that has begun; and at the end. */
 static void escape_table(void) {
-    uint8_t *last = (uint8_t *)lent(1), *two = (uint8_t *)lent(2);
-    unsigned ordinary = 0, begun = 0, zero_zero = 0, zero_one = 0, zero_two = 0, zero_other = 0;
-    for (unsigned b = 0; b < 256; b++) {
-        last[0] = (uint8_t)b; /* 00 at the end, and a component that does not end */
-        IS(steps(last, 1, 5, 0, 0, last, 0), 1);
-        for (unsigned m = 0; m < 256; m++) {
-            const uint8_t key[6] = {(uint8_t)b, (uint8_t)m, 0, 1, 0, 0};
-            memcpy(two, key, 2);
-            if (b != 0 && m != 0) ordinary += steps(key, 4, 0, 1, 2, key, 4) && decodes(key, 6, 0, 1, 2, key) && steps(two, 2, 5, 0, 0, key, 0);
-            else if (b != 0) begun += steps(key, 4, 5, 0, 0, key, 0) && decodes(key, 6, 5, 0, 0, key) && steps(two, 2, 5, 0, 0, key, 0);
-            else if (m == 0) zero_zero += steps(key, 4, 0, 0, 0, key, 2) && decodes(key, 2, 0, 0, 0, key) && steps(two, 2, 0, 0, 0, key, 2);
-            else if (m == 1) zero_one += steps(key, 4, 0, 1, 0, key, 2) && decodes(key, 6, 0, 2, 0, key) && steps(two, 2, 0, 1, 0, key, 2);
-            else if (m == 2) zero_two += steps(key, 4, 0, 1, 1, key, 4) && decodes(key, 6, 0, 1, 1, key) && steps(two, 2, 5, 0, 0, key, 0);
-            else zero_other += steps(key, 4, 5, 0, 0, key, 0) && decodes(key, 6, 5, 0, 0, key) && steps(two, 2, 5, 0, 0, key, 0);
-        }
+    const taken refused = {5, 0, 0, 0, {0}};
+    unsigned first_wrong = 0x20000; /* begun, b, m, in this order */
+    for (unsigned all = 0; all < 0x20000; all++) {
+        size_t begun = all >> 16;
+        uint8_t b = (uint8_t)(all >> 8), m = (uint8_t)all;
+        const uint8_t open[7] = {0x61, b, m, 0, 1, 0, 0}, shut[6] = {0x61, b, 0, 0, 0, 0}, *key = open + 1 - begun;
+        taken t = by_table(begun, b, m);
+        int right = reads(key, t.refusal || t.count ? begun + 6 : 2, 0, t);
+        if (b != 0 || m > 1) right &= reads(key, begun + 2, 1, refused); /* neither the component nor the path ends */
+        if (m == 0) right &= reads(key, begun + 1, 1, refused);          /* 00 at the end, or a byte and no end */
+        if (t.refusal && m == 0)                                         /* 00 00 in a component ends neither the path nor it */
+            for (size_t len = begun + (b ? 3 : 2), more = 0; more < 3; more += 2) right &= reads(shut + 1 - begun, len + more, 0, refused);
+        if (!right && first_wrong == 0x20000) first_wrong = all;
     }
-    IS(ordinary, 255 * 255);
-    IS(begun, 255);
-    IS(zero_zero, 1);
-    IS(zero_one, 1);
-    IS(zero_two, 1);
-    IS(zero_other, 253);
-    free(last);
-    free(two);
+    IS(first_wrong, 0x20000);
+    IS(reads((const uint8_t *)"", 0, 1, refused), 1); /* no byte at all */
 }
 
 /* Ends at will: all bytes 7, all other ends 255. */

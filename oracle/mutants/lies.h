@@ -376,33 +376,41 @@ MAY static vb_encoded lie_encode(vb_subspace subspace, vb_path path, uint64_t ti
     return e;
 }
 
-/* A key from a position on, as a port would read it that takes 00 before ff for ff, or a lone 00 at the end for the path's end. */
-MAY static size_t misread(uint8_t *other, const uint8_t *key, size_t len, size_t from) {
+/* The bytes of a key, where its path begins at a position, that an honest port would have to be handed to answer what the lie is. */
+MAY static size_t misread(uint8_t *other, const uint8_t *key, size_t len, size_t from, int path_alone) {
     size_t n = 0;
-    for (size_t i = 0; i < len; i++)
-        if (LIE != READS_00_FF || i < from || i + 1 == len || key[i] != 0 || key[i + 1] != 0xff) other[n++] = key[i];
-    if (LIE == LONE_00_ENDS && n && other[n - 1] == 0) other[n++] = 0;
+    for (size_t i = 0; i < len; i++) {
+        int path = i >= from, before_00 = i + 1 < len && key[i + 1] == 0, behind_00 = i > from && key[i - 1] == 0;
+        if (LIE == READS_00_FF && path && key[i] == 0 && i + 1 < len && key[i + 1] == 0xff) continue;
+        if (LIE == ENDS_INSIDE && path && key[i] > 2 && before_00 && i + 2 < len && key[i + 2] == 0) continue;
+        other[n++] = key[i];
+        if (LIE == READS_00_03_INSIDE && behind_00 && i > from + 1 && key[i] == 3 && key[i - 2] > 2) other[n - 1] = 2;
+        if (LIE == PATH_READER_LIES && path_alone && behind_00 && key[i] == 3) other[n - 1] = 2;
+    }
     return n;
 }
 
-MAY static vb_stepped lie_read_component_at(const uint8_t *key, size_t key_len, size_t at) {
-    uint8_t other[VB_KEY_MOST + 2];
-    vb_stepped s = vb_read_component_at(key, key_len, at);
-    if (key_len <= VB_KEY_MOST && at <= key_len && s.refusal) s = vb_read_component_at(other, misread(other, key, key_len, at), at);
-    if (LIE == READS_00_02_AS_02) for (size_t i = 0; i < s.length; i++) s.bytes[i] = s.bytes[i] ? s.bytes[i] : 2;
-    return s;
-}
+#define MISREAD(ANSWER, NAME, FROM, ALONE, PARAMETERS, REST) \
+    MAY static ANSWER lie_##NAME PARAMETERS { \
+        uint8_t other[VB_KEY_MOST]; \
+        ANSWER a = vb_##NAME(key, key_len REST); \
+        return a.refusal && key_len <= VB_KEY_MOST && FROM <= key_len ? vb_##NAME(other, misread(other, key, key_len, FROM, ALONE) REST) : a; \
+    }
+#define COMMA_AT , at
+#define NOTHING
+MISREAD(vb_decoded, decode_spt_entry_key, 16, 0, (const uint8_t *key, size_t key_len), NOTHING)
+MISREAD(vb_decoded, decode_tsp_entry_key, 24, 0, (const uint8_t *key, size_t key_len), NOTHING)
+MISREAD(vb_decoded, read_spt_entry_key, 16, 0, (const uint8_t *key, size_t key_len), NOTHING)
+MISREAD(vb_decoded, read_tsp_entry_key, 24, 0, (const uint8_t *key, size_t key_len), NOTHING)
+MISREAD(vb_path_read, read_path_at, at, 1, (const uint8_t *key, size_t key_len, size_t at), COMMA_AT)
+MISREAD(vb_stepped, read_component_at, at, 0, (const uint8_t *key, size_t key_len, size_t at), COMMA_AT)
 
-MAY static vb_decoded lie_decode_tsp_entry_key(const uint8_t *key, size_t key_len) {
-    uint8_t other[VB_KEY_MOST + 2];
-    vb_decoded d = vb_decode_tsp_entry_key(key, key_len);
-    if (key_len <= VB_KEY_MOST && d.refusal) d = vb_decode_tsp_entry_key(other, misread(other, key, key_len, 24));
-    if (LIE == READS_00_02_AS_02 && d.path.count) for (size_t i = 0; i < d.path.ends[d.path.count - 1]; i++) d.path.bytes[i] = d.path.bytes[i] ? d.path.bytes[i] : 2;
-    return d;
-}
-
-#define vb_read_component_at lie_read_component_at
+#define vb_decode_spt_entry_key lie_decode_spt_entry_key
 #define vb_decode_tsp_entry_key lie_decode_tsp_entry_key
+#define vb_read_spt_entry_key lie_read_spt_entry_key
+#define vb_read_tsp_entry_key lie_read_tsp_entry_key
+#define vb_read_path_at lie_read_path_at
+#define vb_read_component_at lie_read_component_at
 #define vb_path_cmp lie_path_cmp
 #define vb_entry_compare lie_entry_compare
 #define vb_entry_prunes lie_prunes

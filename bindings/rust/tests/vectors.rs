@@ -151,5 +151,5 @@ fn the_fixed_vectors_of_calls_that_need_no_store() {
         }
         assert!(want.is_empty(), "{name}");
     }
-    assert_eq!((answered, of_another_form), (1988, 31));
+    assert_eq!((answered, of_another_form), (1996, 31));
 }

@@ -55,16 +55,16 @@ pathEnds = record { next = says (end-of-path 2); bytes = replicate (capacity .mc
 abbrev pub notRead : StepRead
 notRead = record { next = refuses 5; bytes = replicate (capacity .mcl) 0 }
 
--- How a path's bytes are read: behind 16 bytes of subspace and before a timestamp, behind 8 bytes of timestamp and 16 of subspace, and by the reader of
--- components alone.
-abbrev pub Reads : (path timestamp : List ℕ) → Decoded → StepRead → Type 0
-Reads path timestamp key step =
-    (decoded (readSpt field (replicate 16 0 ++ (path ++ timestamp))) ≡ key) × (decoded (readTsp field (replicate 24 0 ++ path)) ≡ key)
-    × (componentRead field 0 path ≡ step)
+-- What is answered where a path's bytes stand behind 16 bytes 00 of subspace and before the bytes of a timestamp; behind 24 bytes 00 of timestamp and
+-- subspace; and alone, by the reader of components.
+abbrev pub Reads : (pathBytes timeBytes : List ℕ) → Decoded → StepRead → Type 0
+Reads pathBytes timeBytes answer step =
+    (decoded (readSpt field (replicate 16 0 ++ (pathBytes ++ timeBytes))) ≡ answer) × (decoded (readTsp field (replicate 24 0 ++ pathBytes)) ≡ answer)
+    × (componentRead field 0 pathBytes ≡ step)
 
--- Timestamp 0. A key that is cut has none.
-abbrev pub timestamp-0 : List ℕ
-timestamp-0 = replicate 8 0
+-- The bytes of timestamp 0. A subspace-first key that is cut behind its path bytes has none.
+abbrev pub time-0 : List ℕ
+time-0 = replicate 8 0
 
 pub record Examples : Type 0 where
   pub empty-path : pathKey [] ≡ 0x00 ∷ 0x00 ∷ []
@@ -83,14 +83,17 @@ pub record Examples : Type 0 where
   pub area-at-empty : AreaPaths [] (record { start = pathOf []; end = pathOf []; «open» = true })
   pub order-traps : ([61] ≺ (0x61 ∷ []) ∷ [] ∷ []) × ((0x61 ∷ []) ∷ [] ∷ [] ≺ (0x61 ∷ []) ∷ (0xff ∷ []) ∷ [])
       × ((0x61 ∷ []) ∷ (0xff ∷ []) ∷ [] ≺ [6100]) × ([6100] ≺ (0x62 ∷ []) ∷ [])
-  pub ordinary-byte : Reads (0x61 ∷ 0x00 ∷ 0x01 ∷ 0x00 ∷ 0x00 ∷ []) timestamp-0 (decodedTo [61]) (readTo (0x61 ∷ []) 3)
-  pub zero-then-00 : Reads (0x00 ∷ 0x00 ∷ []) timestamp-0 (decodedTo []) pathEnds
-  pub zero-then-01 : Reads (0x00 ∷ 0x01 ∷ 0x00 ∷ 0x00 ∷ []) timestamp-0 (decodedTo ([] ∷ [])) (readTo [] 2)
-  pub zero-then-02 : Reads (0x00 ∷ 0x02 ∷ 0x00 ∷ 0x01 ∷ 0x00 ∷ 0x00 ∷ []) timestamp-0 (decodedTo ((0x00 ∷ []) ∷ [])) (readTo (0x00 ∷ []) 4)
-  pub zero-then-other : Reads (0x00 ∷ 0x03 ∷ 0x00 ∷ 0x01 ∷ 0x00 ∷ 0x00 ∷ []) timestamp-0 notDecoded notRead
-      × Reads (0x00 ∷ 0xff ∷ 0x00 ∷ 0x01 ∷ 0x00 ∷ 0x00 ∷ []) timestamp-0 notDecoded notRead
-  pub zero-at-the-end : Reads (0x61 ∷ 0x00 ∷ []) [] notDecoded notRead
+  pub ordinary : Reads (0x61 ∷ 0x00 ∷ 0x01 ∷ 0x00 ∷ 0x00 ∷ []) time-0 (decodedTo [61]) (readTo (0x61 ∷ []) 3)
+  pub zero-zero : Reads (0x00 ∷ 0x00 ∷ []) time-0 (decodedTo []) pathEnds
+  pub zero-one : Reads (0x00 ∷ 0x01 ∷ 0x00 ∷ 0x00 ∷ []) time-0 (decodedTo ([] ∷ [])) (readTo [] 2)
+  pub zero-two : Reads (0x00 ∷ 0x02 ∷ 0x00 ∷ 0x01 ∷ 0x00 ∷ 0x00 ∷ []) time-0 (decodedTo ((0x00 ∷ []) ∷ [])) (readTo (0x00 ∷ []) 4)
+  pub zero-other : Reads (0x00 ∷ 0x03 ∷ 0x00 ∷ 0x01 ∷ 0x00 ∷ 0x00 ∷ []) time-0 notDecoded notRead
+      × Reads (0x00 ∷ 0xff ∷ 0x00 ∷ 0x01 ∷ 0x00 ∷ 0x00 ∷ []) time-0 notDecoded notRead
+      × Reads (0x61 ∷ 0x00 ∷ 0x03 ∷ 0x00 ∷ 0x01 ∷ 0x00 ∷ 0x00 ∷ []) time-0 notDecoded notRead
+  pub zero-last : Reads (0x00 ∷ []) [] notDecoded notRead
+      × Reads (0x61 ∷ 0x00 ∷ []) [] notDecoded notRead
       × Reads (0x61 ∷ 0x62 ∷ 0x63 ∷ 0x64 ∷ 0x65 ∷ 0x66 ∷ 0x67 ∷ 0x00 ∷ []) [] notDecoded notRead
-  pub reading-traps : Reads (0x61 ∷ 0x00 ∷ 0x00 ∷ []) timestamp-0 notDecoded notRead
-      × Reads (0x61 ∷ []) timestamp-0 notDecoded notRead
-      × Reads (replicate 64 0x61 ++ (0x00 ∷ 0x02 ∷ 0x00 ∷ 0x01 ∷ 0x00 ∷ 0x00 ∷ [])) timestamp-0 notDecoded notRead
+  pub reading-traps : Reads (0x61 ∷ 0x00 ∷ 0x00 ∷ []) time-0 notDecoded notRead
+      × Reads (0x61 ∷ []) time-0 notDecoded notRead
+      × Reads (replicate 64 0x61 ++ (0x00 ∷ 0x02 ∷ 0x00 ∷ 0x01 ∷ 0x00 ∷ 0x00 ∷ [])) time-0 notDecoded notRead
+      × Reads [] [] notDecoded notRead

@@ -43,7 +43,7 @@ module _ (a b : List ℕ) (m : length a ≡ 2) (n : length b ≡ 2) where
   unfolding sameNumber sameList
   marks-differ e = rw (pair-is a m, pair-is b n) (rw (ne-eqb (getD a 0 0) (getD b 0 0) e))
 
--- The case of a byte: itself, the last one, or by the byte behind it.
+-- Which case a byte is: an ordinary one, the last one, or by the byte behind it.
 pub case-ordinary : (b : ℕ) (k : List ℕ) → (b ≡ 0 → ⊥) → escapeCase b k ≡ escape.Ordinary b
 unfolding escapeCase
 case-ordinary zero k h = absurd (h refl)

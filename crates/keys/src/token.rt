@@ -38,27 +38,27 @@ enum EscapeCase {
     ZeroLast,
 }
 
-// Which case a byte is, by the bytes behind it: 00 and the next one are compared with the marks.
-fn escape_case(b: u8, behind: &[u8]) -> EscapeCase
-    ensures { λ r. ⌜ r ≡ escapeCase b (now (behind .entry)) ⌝ }
+// Which case a byte is, by the rest of the bytes behind it: 00 and the next one are compared with the marks.
+fn escape_case(b: u8, rest: &[u8]) -> EscapeCase
+    ensures { λ r. ⌜ r ≡ escapeCase b (now (rest .entry)) ⌝ }
 {
     if b != 0 {
         return EscapeCase::Ordinary(b);
     }
-    if behind.len() == 0 {
-        return EscapeCase::ZeroLast;
+    if rest.len() != 0 {
+        let m = rest[0];
+        if same_mark([b, m], PATH_END) {
+            return EscapeCase::ZeroZero;
+        }
+        if same_mark([b, m], COMPONENT_END) {
+            return EscapeCase::ZeroOne;
+        }
+        if same_mark([b, m], ESCAPED_ZERO) {
+            return EscapeCase::ZeroTwo;
+        }
+        return EscapeCase::ZeroOther;
     }
-    let m = behind[0];
-    if same_mark([b, m], PATH_END) {
-        return EscapeCase::ZeroZero;
-    }
-    if same_mark([b, m], COMPONENT_END) {
-        return EscapeCase::ZeroOne;
-    }
-    if same_mark([b, m], ESCAPED_ZERO) {
-        return EscapeCase::ZeroTwo;
-    }
-    EscapeCase::ZeroOther
+    EscapeCase::ZeroLast
 }
 
 // The token at a position. Past the end of the key stands nothing: 5.

@@ -190,6 +190,9 @@ impl Gen {
                 let i = self.r.at(k.len());
                 k[i] = byte
             }
+            // In a component that has begun: 00 and 03 or more, and a lone 00 at the end.
+            18 => drop(k.splice(to..to, [0x61, 0, byte.max(3), 0, 1])),
+            19 => drop(k.splice(to.., [0x61, 0])),
             _ => {}
         }
         k

@@ -3,6 +3,7 @@
 //! byte for byte with what the model says, and the Rust's trees record by record, with the tally that is counted in them. In a run that
 //! makes a call of 02's U4, which the Rust has not, the Rust is not asked, and the model judges alone.
 pub mod arrivals;
+pub mod reading;
 pub mod run;
 pub mod table;
 use crate::answer::{Answer, Records};

@@ -2,7 +2,7 @@
 use crate::answer::Answer;
 use crate::call::Call;
 use crate::step::{on_store, Front, Step};
-use super::arrivals;
+use super::{arrivals, reading};
 use model::*;
 
 #[derive(Default)]
@@ -117,7 +117,7 @@ impl Table {
     pub fn all(&self, arrivals: bool, others: bool) -> Vec<(String, u64)> {
         let calls = CALLS.iter().map(|c| format!("call {c}"));
         let fours = CALLS.iter().filter(|c| **c != "open").map(|c| format!("refused 4 in {c}"));
-        let rows: Vec<String> = calls.chain(fours).chain(ROWS.iter().map(|r| r.to_string())).filter(|_| others).collect();
+        let rows: Vec<String> = calls.chain(fours).chain(ROWS.iter().chain(&reading::ROWS).map(|r| r.to_string())).filter(|_| others).collect();
         let more = arrivals::ROWS.iter().filter(|_| arrivals).map(|r| r.to_string());
         rows.into_iter().chain(more).map(|r| { let n = self.get(&r); (r, n) }).collect()
     }
@@ -175,7 +175,10 @@ impl Table {
                 }
             }
             Call::Above(_) => self.add("least path above: none", *answer == Answer::Above(None)),
-            Call::Decode(..) | Call::Decode01(..) => self.add("key that no encoder writes", *answer == Answer::Refused(5)),
+            Call::Decode(time_first, k) | Call::Decode01(time_first, k) => {
+                self.add("key that no encoder writes", *answer == Answer::Refused(5));
+                reading::cases(*time_first, k).into_iter().for_each(|row| self.add(row, true));
+            }
             Call::Key(..) => self.add("key of 298 bytes", matches!(answer, Answer::Keys(k, _) if k.len() == 298)),
             _ => {}
         }
