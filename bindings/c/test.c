@@ -408,12 +408,12 @@ static void keys(void) {
     IS(vb_read_path_at(NULL, 0, 0).refusal, 5);
 }
 
-/* What the bytes of a path are read as: `count` components, of which the first has the first `length` of these bytes and the others none; or 5. The first
+/* What the bytes of a path are read as: `count` components, of which the first has the first `length` of `bytes` and the others none; or 5. The first
    component, or the path's end, takes `took` bytes. */
 typedef struct { uint8_t refusal; size_t count, length, took; uint8_t bytes[4]; } taken;
 
-/* Whether every call that reads a path answers so: both decoders and both readers of keys of subspace 0 and timestamp 0 (cut: without its bytes behind the path),
-   the reader of a path, and the reader of a component. */
+/* Whether every call that is handed the bytes of a key answers so: both decoders and both readers of keys, of subspace 0 and timestamp 0 (with `cut` the
+   subspace-first key stops behind the path's bytes), the reader of a path, and the reader of a component. */
 static int reads(const uint8_t *path_bytes, size_t len, int cut, taken t) {
     uint8_t want[VB_MPL] = {0}, *spt = (uint8_t *)lent(16 + len + (cut ? 0 : 8)), *tsp = (uint8_t *)lent(24 + len);
     size_t spt_len = 16 + len + (cut ? 0 : 8);
@@ -439,7 +439,7 @@ static int reads(const uint8_t *path_bytes, size_t len, int cut, taken t) {
     return right;
 }
 
-/* What the escape table says of the bytes b, m, 00 01 00 00, where a component begins or behind a byte 61 of it. */
+/* What the escape table says of the bytes b, m, 00 01 00 00, where a component begins or behind its first byte, 61. */
 static taken by_table(size_t begun, uint8_t b, uint8_t m) {
     const taken refused = {5, 0, 0, 0, {0}};
     taken t = {0, 1, begun, begun + 4, {0x61}};
@@ -447,7 +447,7 @@ static taken by_table(size_t begun, uint8_t b, uint8_t m) {
     t.bytes[begun + 1] = m;
     if (b != 0 && m != 0) t.length += 2;                            /* ordinary bytes */
     else if (b != 0) return refused;                                /* 00 then 00, in a component that has begun */
-    else if (m == 0 && begun) return refused;                       /* the same */
+    else if (m == 0 && begun) return refused;                       /* 00 then 00, behind the 61 */
     else if (m == 0) t.count = 0, t.took = 2;                       /* 00 then 00: the path's end */
     else if (m == 1) t.count = 2, t.took = begun + 2;               /* 00 then 01: the component's end, and behind it an empty one */
     else if (m == 2) t.length += 1;                                 /* 00 then 02: the byte 00 */
@@ -467,7 +467,7 @@ static void escape_table(void) {
         int right = reads(key, t.refusal || t.count ? begun + 6 : 2, 0, t);
         if (b != 0 || m > 1) right &= reads(key, begun + 2, 1, refused); /* neither the component nor the path ends */
         if (m == 0) right &= reads(key, begun + 1, 1, refused);          /* 00 at the end, or a byte and no end */
-        if (t.refusal && m == 0)                                         /* 00 00 in a component ends neither the path nor it */
+        if (t.refusal && m == 0)                                         /* 00 00 in a component ends neither the path nor the component */
             for (size_t len = begun + (b ? 3 : 2), more = 0; more < 3; more += 2) right &= reads(shut + 1 - begun, len + more, 0, refused);
         if (!right && first_wrong == 0x20000) first_wrong = all;
     }

@@ -376,7 +376,8 @@ MAY static vb_encoded lie_encode(vb_subspace subspace, vb_path path, uint64_t ti
     return e;
 }
 
-/* The bytes of a key, where its path begins at a position, that an honest port would have to be handed to answer what the lie is. */
+/* Writes to `other` the key to which an honest port answers what the lying one answers to `key`, and answers its length. The path begins at `from`; `path_alone`: the call is
+   vb_read_path_at. */
 MAY static size_t misread(uint8_t *other, const uint8_t *key, size_t len, size_t from, int path_alone) {
     size_t n = 0;
     for (size_t i = 0; i < len; i++) {

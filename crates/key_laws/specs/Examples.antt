@@ -38,20 +38,23 @@ abbrev pub [61] : Components
 abbrev pub [6100] : Components
 [6100] = (0x61 ∷ 0x00 ∷ []) ∷ []
 
--- What a decoder answers to the key of the first subspace, a path and timestamp 0; and to bytes that are no key: 5, and all else 0.
+-- What a decoder answers to the key of the first subspace, a path and timestamp 0.
 abbrev pub decodedTo : Components → Decoded
 decodedTo p = record { refusal = 0; subspace = firstSubspace; path = pathOf p; timestamp = 0 }
 
+-- What a decoder answers to bytes that are no key: 5, and all else 0.
 abbrev pub notDecoded : Decoded
 notDecoded = record { refusal = 5; subspace = firstSubspace; path = pathOf []; timestamp = 0 }
 
--- What the reader of components answers at position 0: a component and the position behind it; the position behind the path's end; or 5.
+-- What the reader of components answers at position 0 where a component stands: its length, the position behind it, its bytes.
 abbrev pub readTo : List ℕ → ℕ → StepRead
 readTo c position = record { next = says (component (length c) position); bytes = c ++ replicate (capacity .mcl - length c) 0 }
 
+-- What it answers where the path ends: the position behind the end.
 abbrev pub pathEnds : StepRead
 pathEnds = record { next = says (end-of-path 2); bytes = replicate (capacity .mcl) 0 }
 
+-- What it answers where neither stands: 5.
 abbrev pub notRead : StepRead
 notRead = record { next = refuses 5; bytes = replicate (capacity .mcl) 0 }
 

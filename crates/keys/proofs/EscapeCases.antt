@@ -70,7 +70,7 @@ other-mark (suc (suc zero)) f g h = absurd (h refl)
 other-mark (suc (suc (suc m))) f g h = refl
 
 module _ (b : ℕ) (k : List ℕ) (z : b ≡ 0) (l : 0 < length k) where
-  -- Whether the byte and the next one are the mark that ends with a number.
+  -- Whether the byte and the next one are the mark 00 n: t says.
   abbrev Marks : ℕ → Bool → Type 0
   Marks n t = sameComponent (b ∷ getD k 0 0 ∷ []) (0 ∷ n ∷ []) ≡ t
 

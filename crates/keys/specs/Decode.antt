@@ -31,7 +31,7 @@ tokenSays token.ComponentEnd = says component-mark
 tokenSays token.PathEnd = says path-mark
 tokenSays (token.Refused n) = refuses n
 
--- The escape table, by the byte behind a 00: 00 00 ends a path, 00 01 a component, 00 02 is the byte 00. Else 5.
+-- The escape table of a 00, by the byte behind it: 00 00 ends a path, 00 01 a component, 00 02 is the byte 00. Else 5.
 unfoldable pub mark : ℕ → Said Symbol
 mark zero = says path-mark
 mark (suc zero) = says component-mark

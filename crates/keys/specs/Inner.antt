@@ -12,7 +12,7 @@ use Rattle.keys.specs.declared.decode.Part.the-variants as part
 use Rattle.keys.specs.declared.token.EscapeCase.{EscapeCase}
 use Rattle.keys.specs.declared.token.EscapeCase.the-variants as escape
 
--- The cases of the escape table, by a byte and the rest of the bytes behind it: an ordinary byte; 00 then 00, 01, 02 or anything else; 00 at the end.
+-- The cases of the escape table, by a byte and the bytes behind it: an ordinary byte; 00 then 00, 01, 02 or anything else; 00 at the end.
 unfoldable pub escapeCase : ℕ → List ℕ → EscapeCase
 escapeCase (suc b) k = escape.Ordinary (suc b)
 escapeCase zero (zero ∷ k) = escape.ZeroZero

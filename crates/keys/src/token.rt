@@ -38,7 +38,7 @@ enum EscapeCase {
     ZeroLast,
 }
 
-// Which case a byte is, by the rest of the bytes behind it: 00 and the next one are compared with the marks.
+// Which case a byte is, by the bytes behind it. A 00 and the next byte are compared with the marks.
 fn escape_case(b: u8, rest: &[u8]) -> EscapeCase
     ensures { λ r. ⌜ r ≡ escapeCase b (now (rest .entry)) ⌝ }
 {

@@ -6,7 +6,7 @@ pub const ROWS: [&str; 9] = [
     "read: 00 then 00, a component has begun", "read: 00 then anything else, a component has begun", "read: 00 at the end, a component has begun",
 ];
 
-/// The rows that a key's path meets. A key of fewer than 24 bytes is not read.
+/// The rows of the cases that a reader meets in a key's path. A key of fewer than 24 bytes is not read.
 pub fn cases(time_first: bool, k: &[u8]) -> Vec<&'static str> {
     let mut met = vec![];
     if k.len() < 24 {
