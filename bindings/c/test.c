@@ -412,14 +412,17 @@ static void keys(void) {
    component, or the path's end, takes `took` bytes. */
 typedef struct { uint8_t refusal; size_t count, length, took; uint8_t bytes[4]; } taken;
 
-/* Whether every call that is handed the bytes of a key answers so: both decoders and both readers of keys, of subspace 0 and timestamp 0 (with `cut` the
-   subspace-first key stops behind the path's bytes), the reader of a path, and the reader of a component. */
+/* Whether every call that is handed the bytes of a key answers so: both decoders and both readers of keys, of subspace 7 and timestamp 5 (with `cut` the
+   subspace-first key stops behind the path's bytes), the reader of a path, and the reader of a component. Refused, all else is 0. */
 static int reads(const uint8_t *path_bytes, size_t len, int cut, taken t) {
     uint8_t want[VB_MPL] = {0}, *spt = (uint8_t *)lent(16 + len + (cut ? 0 : 8)), *tsp = (uint8_t *)lent(24 + len);
     size_t spt_len = 16 + len + (cut ? 0 : 8);
     int right = 1;
     memset(spt, 0, spt_len);
     memset(tsp, 0, 24 + len);
+    spt[15] = tsp[23] = 7;
+    if (!cut) spt[spt_len - 1] = 5;
+    tsp[7] = 5;
     memcpy(spt + 16, path_bytes, len);
     memcpy(tsp + 24, path_bytes, len);
     memcpy(want, t.bytes, t.length);
@@ -429,6 +432,7 @@ static int reads(const uint8_t *path_bytes, size_t len, int cut, taken t) {
     for (int i = 0; i < 5; i++) {
         vb_path q = i < 4 ? d[i].path : p.path;
         right &= (i < 4 ? d[i].refusal : p.refusal) == t.refusal && q.count == t.count && memcmp(q.bytes, want, VB_MPL) == 0;
+        if (i < 4) right &= d[i].subspace.high == 0 && d[i].subspace.low == (t.refusal ? 0 : 7) && d[i].timestamp == (t.refusal ? 0 : 5);
         for (size_t k = 0; k < VB_MCC; k++) right &= q.ends[k] == (k < t.count ? t.length : 0);
     }
     right &= p.next == (t.refusal ? 0 : 24 + len);

@@ -86,6 +86,7 @@ pub record Examples : Type 0 where
   pub area-at-empty : AreaPaths [] (record { start = pathOf []; end = pathOf []; «open» = true })
   pub order-traps : ([61] ≺ (0x61 ∷ []) ∷ [] ∷ []) × ((0x61 ∷ []) ∷ [] ∷ [] ≺ (0x61 ∷ []) ∷ (0xff ∷ []) ∷ [])
       × ((0x61 ∷ []) ∷ (0xff ∷ []) ∷ [] ≺ [6100]) × ([6100] ≺ (0x62 ∷ []) ∷ [])
+  -- The cases of the escape table (02, U5), then traps of reading.
   pub ordinary : Reads (0x61 ∷ 0x00 ∷ 0x01 ∷ 0x00 ∷ 0x00 ∷ []) time-0 (decodedTo [61]) (readTo (0x61 ∷ []) 3)
   pub zero-zero : Reads (0x00 ∷ 0x00 ∷ []) time-0 (decodedTo []) pathEnds
   pub zero-one : Reads (0x00 ∷ 0x01 ∷ 0x00 ∷ 0x00 ∷ []) time-0 (decodedTo ([] ∷ [])) (readTo [] 2)

@@ -69,18 +69,18 @@ other-mark (suc zero) f g h = absurd (g refl)
 other-mark (suc (suc zero)) f g h = absurd (h refl)
 other-mark (suc (suc (suc m))) f g h = refl
 
-module _ (b : ℕ) (k : List ℕ) (z : b ≡ 0) (l : 0 < length k) where
-  -- Whether the byte and the next one are the mark 00 n: t says.
-  abbrev Marks : ℕ → Bool → Type 0
-  Marks n t = sameComponent (b ∷ getD k 0 0 ∷ []) (0 ∷ n ∷ []) ≡ t
+-- Whether a byte and the first one behind it are the mark 00 n: t says.
+abbrev Marks : ℕ → List ℕ → ℕ → Bool → Type 0
+Marks b k n t = sameComponent (b ∷ getD k 0 0 ∷ []) (0 ∷ n ∷ []) ≡ t
 
+module _ (b : ℕ) (k : List ℕ) (z : b ≡ 0) (l : 0 < length k) where
   here : escapeCase b k ≡ escapeCase 0 (getD k 0 0 ∷ [])
   here = ap (λ (b : ℕ). escapeCase b k) z ∙ by-mark k l
 
-  pub case-mark : (n : ℕ) → Marks n true → escapeCase b k ≡ escapeCase 0 (n ∷ [])
+  pub case-mark : (n : ℕ) → Marks b k n true → escapeCase b k ≡ escapeCase 0 (n ∷ [])
   case-mark n e = here ∙ ap (λ (m : ℕ). escapeCase 0 (m ∷ [])) (mark-is b (getD k 0 0) n e)
 
-  pub case-other : Marks 0 false → Marks 1 false → Marks 2 false → escapeCase b k ≡ escape.ZeroOther
+  pub case-other : Marks b k 0 false → Marks b k 1 false → Marks b k 2 false → escapeCase b k ≡ escape.ZeroOther
   case-other f g h = here ∙ other-mark (getD k 0 0) (mark-not b (getD k 0 0) 0 z f) (mark-not b (getD k 0 0) 1 z g) (mark-not b (getD k 0 0) 2 z h)
 
 -- The token of each case.
