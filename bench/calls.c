@@ -1,36 +1,13 @@
 /* One call of the door, for a count of its instructions: `calls CALL ENTRIES MORE SUBSPACES` builds a store of so many entries, their paths with so
    many components of 16 bytes more, in so many subspaces by turns, and makes the call once in `measured`. `calls` alone names the calls. With one subspace the entries are
-   those of times.c. The call `again` files a stored entry once more: from edition 3 on it must be held. With VB_NO_TALLY it is for an archive of edition 1, whose calls take no tally;
-   with VB_NO_ARRIVALS for one up to edition 4, which has no call about available lengths: the last two are then left out. */
-#ifdef VB_NO_TALLY /* the header's declarations of these go to other names */
-#define vb_open tallied_open
-#define vb_ingest_entry tallied_ingest_entry
-#define vb_ingest_entry_numbers tallied_ingest_entry_numbers
-#define vb_forget_entry tallied_forget_entry
-#define vb_forget_area tallied_forget_area
-#endif
-#include "virebony.h"
-#ifdef VB_NO_TALLY
-#undef vb_open
-#undef vb_ingest_entry
-#undef vb_ingest_entry_numbers
-#undef vb_forget_entry
-#undef vb_forget_area
-#define BUFFERS uint8_t *spt, size_t spt_len, uint32_t *spt_dir, size_t spt_dir_len, uint8_t *tsp, size_t tsp_len, uint32_t *tsp_dir, size_t tsp_dir_len
-vb_opened vb_open(const uint8_t namespace_id[16], size_t limit, BUFFERS);
-vb_ingested vb_ingest_entry(vb_state state, BUFFERS, vb_pair *prune, size_t prune_len, vb_entry entry, const uint8_t token[64], uint8_t prevent_pruning);
-vb_ingested vb_ingest_entry_numbers(vb_state state, BUFFERS, uint32_t *prune, size_t prune_len, vb_entry entry, const uint8_t token[64], uint8_t prevent_pruning);
-vb_entry_forgotten vb_forget_entry(vb_state state, BUFFERS, vb_subspace subspace, vb_path path, uint8_t expects, const uint8_t expected_digest[32]);
-vb_area_forgotten vb_forget_area(vb_state state, BUFFERS, vb_area area, uint8_t protects, vb_area protected_area);
-#define TALLIED
-#else
-#define TALLIED , tally, ITEM * state.limit
-#endif
+   those of times.c. The call `again` files a stored entry once more: from edition 3 on it must be held. For older archives: editions.h;
+   with VB_NO_ARRIVALS the last two are left out. */
+#include "editions.h"
 #include <stdio.h>
 #include <stdlib.h>
 #include <string.h>
 
-enum { MOST = 1024, RECORD = 410, ITEM = 28 };
+enum { MOST = VB_LIMIT_MOST };
 static vb_state state;
 static uint8_t tree[2][RECORD * MOST], tally[ITEM * MOST];
 static uint32_t dir[2][2 * MOST];
@@ -40,7 +17,7 @@ static uint8_t token[64];
 static size_t entries, subspaces;
 static int more;
 #define READ tree[0], RECORD * state.limit, dir[0], 2 * state.limit, tree[1], RECORD * state.limit, dir[1], 2 * state.limit
-#define STORE READ TALLIED
+#define STORE READ TALLIED(tally, ITEM * state.limit)
 
 /* Entry n: a component of 4 bytes that ascend with n, `more` components of 16, one of two times. */
 static vb_entry entry(uint64_t n) {
@@ -77,10 +54,10 @@ __attribute__((noinline)) static size_t measured(int call) {
     vb_interest quarter = {all, entries / 4, UINT64_MAX};
     switch (call) {
     case 0: return vb_count_area(state, READ, none).refusal;
-    case 1: return vb_ingest_entry_numbers(state, STORE, numbers, 2 * entries, first, token, 0).state.count;
-    case 2: return vb_ingest_entry(state, STORE, prune, entries, first, token, 0).state.count;
-    case 3: return vb_ingest_entry(state, STORE, prune, entries, mid, token, 0).state.count;
-    case 4: mid.timestamp = 200; return vb_ingest_entry(state, STORE, prune, entries, mid, token, 0).pruned;
+    case 1: return vb_ingest_entry_numbers(state, STORE, numbers, 2 * entries, first, token, 0 FROM).state.count;
+    case 2: return vb_ingest_entry(state, STORE, prune, entries, first, token, 0 FROM).state.count;
+    case 3: return vb_ingest_entry(state, STORE, prune, entries, mid, token, 0 FROM).state.count;
+    case 4: mid.timestamp = 200; return vb_ingest_entry(state, STORE, prune, entries, mid, token, 0 FROM).pruned;
     case 5: return vb_forget_entry(state, STORE, first.subspace_id, first.path, 0, first.payload_digest).state.count;
     case 6: return vb_forget_area(state, STORE, half, 0, half).forgotten;
     case 7: return vb_count_area(state, READ, all).count;
@@ -115,7 +92,7 @@ int main(int argc, char **argv) {
     state.limit = entries;
     state = vb_open(namespace_id, entries, STORE).state;
     for (size_t k = 0; k < entries; k++) {
-        vb_ingested r = vb_ingest_entry(state, STORE, prune, entries, entry(k), token, 0);
+        vb_ingested r = vb_ingest_entry(state, STORE, prune, entries, entry(k), token, 0 FROM);
         if (r.refusal | r.obsolete) return 1;
         state = r.state;
     }
@@ -129,5 +106,5 @@ int main(int argc, char **argv) {
     const size_t wanted[] = {4, entries, entries, entries, 1, entries - 1, entries / 2, entries, 1, 1, entries / 2, 101, 0, 0};
     if (measured(call) != wanted[call]) return 1;
     if (call >= RECORD_LENGTH && available() != (call == FORGET_PAYLOAD ? 0 : 2)) return 1;
-    return call == 3 && vb_edition() > 2 && !vb_ingest_entry(state, STORE, prune, entries, entry(entries / 2), token, 0).held;
+    return call == 3 && vb_edition() > 2 && !vb_ingest_entry(state, STORE, prune, entries, entry(entries / 2), token, 0 FROM).held;
 }

@@ -1,21 +1,21 @@
 /* Times the validation of a store of 1,024 entries for eight kinds of paths, from short ones to such as are made to be dear. Each path ends with
    the entry's number, in four bytes, in two where the path is short. Microseconds, the best of 200 rounds; with an argument, so many rounds. With two, the kind's number from 0 on and any word:
-   one call, for a count of the instructions in `measured`. */
+   one call, for a count of the instructions in `measured`. For older archives: editions.h. */
 #define _POSIX_C_SOURCE 199309L
-#include "virebony.h"
+#include "editions.h"
 #include <stdio.h>
 #include <stdlib.h>
 #include <string.h>
 #include <time.h>
 
-enum { LIMIT = 1024, RECORD = 410, ITEM = 28, KINDS = 8 };
+enum { LIMIT = VB_LIMIT_MOST, KINDS = 8 };
 static vb_state state;
 static uint8_t tree[2][RECORD * LIMIT], tally[ITEM * LIMIT];
 static uint32_t dir[2][2 * LIMIT];
 static vb_pair prune[LIMIT];
 static uint8_t token[64];
 #define READ tree[0], sizeof tree[0], dir[0], 2 * LIMIT, tree[1], sizeof tree[1], dir[1], 2 * LIMIT
-#define STORE READ, tally, sizeof tally
+#define STORE READ TALLIED(tally, sizeof tally)
 
 /* Components, bytes of each, and which bytes are 00: none, every other one, or all. */
 static const struct { const char *name; size_t components, bytes, zeros; } kinds[KINDS] = {
@@ -68,7 +68,7 @@ static void fill(int kind) {
         memset(&e, 0, sizeof e);
         e.path = path(n, kind), e.payload_length = 3;
         e.timestamp = kind == 1 ? (n + UINT64_C(1)) * UINT64_C(0x9e3779b97f4a7c15) % UINT64_C(100000000000) : 100 + n % 2;
-        vb_ingested r = vb_ingest_entry(state, STORE, prune, LIMIT, e, token, 0);
+        vb_ingested r = vb_ingest_entry(state, STORE, prune, LIMIT, e, token, 0 FROM);
         must("an ingestion", r.refusal | r.obsolete, 0);
         state = r.state;
     }

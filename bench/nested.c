@@ -1,15 +1,16 @@
 /* Times stores of 1,024 entries in which 0, 1, 4 or 8 entries cover all the others: validation, and the ingestion of an entry at the empty path into
    such a store with one entry less. All other entries have seven components alike, of 1 or of 16 bytes, and one of their own; the covering ones are
    the first beginnings of these paths, each older than all that it covers. Microseconds, the best of 200 rounds; with an argument, so many rounds.
-   With three, the bytes of a component, how many cover, and v or i for the call: one call, for a count of the instructions in `measured`. */
+   With three, the bytes of a component, how many cover, and v or i for the call: one call, for a count of the instructions in `measured`. For older archives:
+   editions.h. */
 #define _POSIX_C_SOURCE 199309L
-#include "virebony.h"
+#include "editions.h"
 #include <stdio.h>
 #include <stdlib.h>
 #include <string.h>
 #include <time.h>
 
-enum { LIMIT = 1024, RECORD = 410, ITEM = 28, LAST = 7 };
+enum { LIMIT = VB_LIMIT_MOST, LAST = 7 };
 typedef struct {
     vb_state state;
     uint8_t tree[2][RECORD * LIMIT], tally[ITEM * LIMIT];
@@ -19,7 +20,7 @@ static Store store, filled;
 static vb_pair prune[LIMIT];
 static uint8_t token[64];
 #define READ store.tree[0], sizeof store.tree[0], store.dir[0], 2 * LIMIT, store.tree[1], sizeof store.tree[1], store.dir[1], 2 * LIMIT
-#define STORE READ, store.tally, sizeof store.tally
+#define STORE READ TALLIED(store.tally, sizeof store.tally)
 
 static double now(void) {
     struct timespec t;
@@ -50,7 +51,7 @@ static vb_entry entry(size_t bytes, size_t components, const uint8_t *own, uint6
 }
 
 static void ingest(vb_entry e) {
-    vb_ingested r = vb_ingest_entry(store.state, STORE, prune, LIMIT, e, token, 0);
+    vb_ingested r = vb_ingest_entry(store.state, STORE, prune, LIMIT, e, token, 0 FROM);
     must("an ingestion", r.refusal | r.obsolete, 0);
     store.state = r.state;
 }
@@ -69,7 +70,7 @@ static void fill(size_t bytes, size_t covering, size_t n) {
 
 /* Validation is a count that is refused with 4 once 1, 2 and 3 have been ruled out. */
 __attribute__((noinline)) static size_t measured(char call) {
-    if (call == 'i') return vb_ingest_entry(store.state, STORE, prune, LIMIT, entry(0, 0, 0, 50), token, 0).state.count;
+    if (call == 'i') return vb_ingest_entry(store.state, STORE, prune, LIMIT, entry(0, 0, 0, 50), token, 0 FROM).state.count;
     vb_area none;
     memset(&none, 0, sizeof none);
     none.path.count = LAST + 2;

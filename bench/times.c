@@ -1,15 +1,15 @@
 /* Times the store's calls through the door, beside memcmp and memmove of the same bytes. The validation of a store is vb_count_area with an illegal path:
    it is refused with 4 once 1, 2 and 3 have been ruled out. Microseconds, the best of 200 rounds: the noise of a shared machine only adds. With an
-   argument, so many rounds. With VB_NO_ARRIVALS for an archive up to edition 4, which has no call about available lengths: these are then 0. */
+   argument, so many rounds. For older archives: editions.h; with VB_NO_ARRIVALS the columns of these calls are 0. */
 #define _POSIX_C_SOURCE 199309L
-#include "virebony.h"
+#include "editions.h"
 #include <stdbool.h>
 #include <stdio.h>
 #include <stdlib.h>
 #include <string.h>
 #include <time.h>
 
-enum { MOST = 1024, RECORD = 410, ITEM = 28 };
+enum { MOST = VB_LIMIT_MOST };
 typedef struct {
     vb_state state;
     uint8_t tree[2][RECORD * MOST], tally[ITEM * MOST];
@@ -20,7 +20,7 @@ static vb_pair prune[MOST];
 static uint8_t token[64];
 static volatile size_t sink;
 #define READ store.tree[0], RECORD * store.state.limit, store.dir[0], 2 * store.state.limit, store.tree[1], RECORD * store.state.limit, store.dir[1], 2 * store.state.limit
-#define STORE READ, store.tally, ITEM * store.state.limit
+#define STORE READ TALLIED(store.tally, ITEM * store.state.limit)
 
 static double now(void) {
     struct timespec t;
@@ -59,7 +59,7 @@ static void must(const char *what, size_t got, size_t want) {
 static bool says_held;
 
 static void ingest(uint64_t n, int more, bool held) {
-    vb_ingested r = vb_ingest_entry(store.state, STORE, prune, store.state.limit, entry(n, more), token, 0);
+    vb_ingested r = vb_ingest_entry(store.state, STORE, prune, store.state.limit, entry(n, more), token, 0 FROM);
     must("an ingestion", r.refusal | r.obsolete, 0);
     if (says_held) must("an ingestion's verdict", r.held, held);
     store.state = r.state;
@@ -127,7 +127,7 @@ static void times(size_t n, int more) {
     must("what is left", vb_find_entry(store.state, READ, mid.subspace_id, mid.path, nothing).lengthy.available, 0);
     record = recording, unrecord = unrecording;
 #endif
-    BEST(move, , memmove(store.tree[0], store.tree[0] + 144, used))
+    BEST(move, , memmove(store.tree[0], store.tree[0] + full.dir[0][1], used))
     printf("| %zu | %zu | %u | %.1f | %.1f | %.1f | %.1f | %.1f | %.1f | %.1f | %.1f | %.1f | %.1f | %.1f | %.1f | %.1f |\n", n, subspaces, full.dir[0][1], check, cmp, in, again, forget, area, count, small,
            step, interest, record, unrecord, move);
 }

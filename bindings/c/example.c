@@ -1,5 +1,6 @@
-/* Opens a store, files five readings and the last of them again, records how much of two photographs has arrived, lists what the store then holds and what of it
-   is all there, asks the tally for a recorder's, and drops an area. Build: cc example.c libvirebony.a */
+/* Opens a store, files five readings, one of them from another tablet, and the last of them again, records how much of two photographs has arrived, lists what
+   the store then holds and what of it is all there, looks up where two came from, asks the tally for a recorder's, and drops an area.
+   Build: cc example.c libvirebony.a */
 #include "virebony.h"
 #include <stdio.h>
 #include <string.h>
@@ -56,7 +57,13 @@ static void print_recorder(uint64_t low, size_t count) {
     else printf("recorder %llu has %u, the newest at %llu\n", (unsigned long long)low, (unsigned)number(item + 16, 4), (unsigned long long)number(item + 20, 8));
 }
 
-/* The entries of an area, but for those that `ignore` passes over: where each record lies, and how much of the payload is there (the value's last 8 bytes). */
+static void print_origin(vb_origin from) {
+    if (from.remote) printf("from session %llu\n", (unsigned long long)from.session);
+    else puts("local");
+}
+
+/* The entries of an area, but for those that `ignore` passes over: where each record lies, and what the end of its value says: how much of the payload is there,
+   and where the entry came from. */
 static void list(vb_state state, vb_area area, vb_ignore ignore) {
     for (size_t place = 0;; place++) {
         vb_listed l = vb_query_area_place(state, READ, area, ignore, place);
@@ -64,10 +71,13 @@ static void list(vb_state state, vb_area area, vb_ignore ignore) {
         place = l.place;
         vb_part r = vb_query_area(state, READ, area, ignore, place);
         vb_decoded d = vb_decode_spt_entry_key(spt + r.offset, r.length - VB_VALUE);
+        const uint8_t *value = spt + r.offset + r.length - VB_VALUE;
+        const vb_origin from = {value[VB_VALUE_ORIGIN], number(value + VB_VALUE_SESSION, 8)};
         printf("%zu: ", place);
         print_path(d.path);
-        printf(" at %llu, %zu bytes from %zu on, %llu of the payload's\n", (unsigned long long)d.timestamp, r.length, r.offset,
-               (unsigned long long)number(spt + r.offset + r.length - 8, 8));
+        printf(" at %llu, %zu bytes from %zu on, %llu of the payload's, ", (unsigned long long)d.timestamp, r.length, r.offset,
+               (unsigned long long)number(value + VB_VALUE_AVAILABLE, 8));
+        print_origin(from);
     }
 }
 
@@ -77,7 +87,8 @@ int main(void) {
     vb_opened opened = vb_open(namespace_id, LIMIT, STORE);
     if (vb_edition() != VB_EDITION || opened.refusal) return 1;
     vb_state state = opened.state;
-    for (uint64_t i = 0; i < 6; i++) { /* the fourth prunes the first two, the last is the fifth again */
+    const vb_origin local = {0, 0}, remote = {1, 31};
+    for (uint64_t i = 0; i < 6; i++) { /* the fourth prunes the first two; the last is the fifth again, which another tablet had too, and stays local */
         vb_entry e;
         memset(&e, 0, sizeof e);
         memcpy(e.namespace_id, namespace_id, 16);
@@ -85,7 +96,7 @@ int main(void) {
         e.timestamp = 100 + (i < 5 ? i : 4);
         e.subspace_id.low = 9; /* the recorder */
         e.payload_length = 5000;
-        vb_ingested r = vb_ingest_entry(state, STORE, pruned, LIMIT, e, token, 0);
+        vb_ingested r = vb_ingest_entry(state, STORE, pruned, LIMIT, e, token, 0, i == 2 || i == 5 ? remote : local);
         printf("%s: %s, %zu pruned\n", paths[i], r.refusal ? vb_refusal_text(r.refusal) : r.obsolete ? "obsolete" : r.held ? "held already" : "taken", r.pruned);
         state = r.state;
     }
@@ -104,6 +115,12 @@ int main(void) {
     list(state, all, none);
     puts("all there:");
     list(state, all, incomplete);
+    static const char *const asked[] = {"ward/4", "ward/3/ann"};
+    for (int i = 0; i < 2; i++) {
+        vb_entry_found found = vb_find_entry(state, READ, recorder, path_of(asked[i]), none);
+        printf("%s: ", asked[i]);
+        print_origin(found.lengthy.origin);
+    }
     print_recorder(8, state.count);
     print_recorder(9, state.count);
     all.path = path_of("ward/3");

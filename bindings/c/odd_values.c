@@ -1,6 +1,7 @@
 /* Values that no line of text can say, and refusal 4 of every call of the keys' layer that takes a path, with answers written by hand from document 01:
    garbage behind a path's count and total, ends that make no path, open ends with a path that is none, ranges that end before they start, key
-   buffers one byte short; and such values where an available length is recorded or forgotten, from document 02's U4. It prints how many answers were compared; the first wrong one is shown and ends it. */
+   buffers one byte short; such values where an available length is recorded or forgotten, from document 02's U4; and every byte as an origin's kind, from its
+   U6. It prints how many answers were compared; the first wrong one is shown and ends it. */
 #include "virebony.h"
 #include <stdio.h>
 #include <stdlib.h>
@@ -207,7 +208,9 @@ static void written(size_t bytes, vb_path p, int refusal, size_t length) {
     }
 }
 
-/* One entry, at the empty path, of payload length 3, in a store of one: its record has 26 + 112 bytes. */
+/* One entry, at the empty path, of payload length 3, in a store of one: its record has 26 + 121 bytes. The last byte of its available length is the 112th of the
+   value, and behind it are the origin's kind and session. */
+enum { RECORD = 26 + VB_VALUE, ARRIVED = 26 + VB_VALUE_AVAILABLE + 7, KIND = 26 + VB_VALUE_ORIGIN, SESSION = 26 + VB_VALUE_SESSION };
 static uint8_t spt[VB_RECORD_MOST], tsp[VB_RECORD_MOST], tally[VB_ITEM];
 static uint32_t spt_dir[2], tsp_dir[2];
 #define TREES spt, sizeof spt, spt_dir, 2, tsp, sizeof tsp, tsp_dir, 2
@@ -219,8 +222,8 @@ static void recorded(vb_state s, vb_path p, uint8_t expects, const uint8_t *dige
     IS(memcmp(r.state.namespace_id, s.namespace_id, 16), 0);
     IS(r.state.count, s.count);
     IS(r.state.limit, s.limit);
-    IS(spt[137], after);
-    IS(tsp[137], after);
+    IS(spt[ARRIVED], after);
+    IS(tsp[ARRIVED], after);
 }
 
 static void forgotten(vb_state s, vb_path p, uint8_t expects, const uint8_t *digest, uint8_t refusal, uint8_t after) {
@@ -229,8 +232,67 @@ static void forgotten(vb_state s, vb_path p, uint8_t expects, const uint8_t *dig
     IS(memcmp(r.state.namespace_id, s.namespace_id, 16), 0);
     IS(r.state.count, s.count);
     IS(r.state.limit, s.limit);
-    IS(spt[137], after);
-    IS(tsp[137], after);
+    IS(spt[ARRIVED], after);
+    IS(tsp[ARRIVED], after);
+}
+
+/* An origin with garbage between its two fields. */
+static vb_origin origin(uint8_t between, uint8_t remote, uint64_t session) {
+    vb_origin o;
+    memset(&o, between, sizeof o);
+    o.remote = remote, o.session = session;
+    return o;
+}
+
+/* Every byte as `remote`: all but 0 mean yes, and 1 is written; the session of a local one is not looked at, and 0 is written. Whatever lies between the two fields
+   plays no part. Read back, every kind but 0 and 1 is no store's, whatever the session, and neither is 0 with a session. */
+static void origins(void) {
+    const uint8_t namespace_id[16] = {0}, token[64] = {7}, digest[32] = {0};
+    static const uint64_t sessions[] = {0, 1, 255, 256, UINT64_C(1) << 32, UINT64_C(0x8000000000000001), UINT64_MAX};
+    static const uint8_t between[] = {0, 1, 0x55, 255};
+    static vb_pairs by_value;
+    vb_entry e;
+    memset(&e, 0, sizeof e);
+    e.subspace_id = subspace(0, 5), e.path = garbage(), e.payload_length = 3;
+    vb_ignore none;
+    none.incomplete_payloads = none.empty_payloads = 0;
+    for (int b = 0; b < 256; b++)
+        for (int n = 0; n < 7; n++) {
+            const vb_origin from = origin(between[(b + n) % 4], (uint8_t)b, sessions[n]);
+            const uint64_t session = b ? sessions[n] : 0;
+            vb_pair pruned[1];
+            uint32_t numbers[2];
+            vb_state s = vb_open(namespace_id, 1, TREES, tally, sizeof tally).state;
+            vb_ingested r = n % 3 == 0   ? vb_ingest_entry(s, TREES, tally, sizeof tally, pruned, 1, e, token, 0, from)
+                            : n % 3 == 1 ? vb_ingest_entry_numbers(s, TREES, tally, sizeof tally, numbers, 2, e, token, 0, from)
+                                         : vb_ingest_entry_by_value(s, TREES, tally, sizeof tally, by_value, e, token, 0, from).ingested;
+            IS(r.refusal | r.obsolete | r.held | r.pruned, 0);
+            s = r.state;
+            IS(spt[KIND], b != 0);
+            IS(tsp[KIND], b != 0);
+            for (int i = 0; i < 8; i++) {
+                IS(spt[SESSION + i], (uint8_t)(session >> (8 * (7 - i))));
+                IS(tsp[SESSION + i], (uint8_t)(session >> (8 * (7 - i))));
+            }
+            vb_entry_found f = vb_find_entry(s, TREES, subspace(0, 5), empty(), none);
+            IS(f.found, 1);
+            IS(f.lengthy.origin.remote, b != 0);
+            IS(f.lengthy.origin.session, session);
+            spt[KIND] = tsp[KIND] = (uint8_t)b; /* the byte itself in both trees */
+            for (int i = 0; i < 8; i++) spt[SESSION + i] = tsp[SESSION + i] = (uint8_t)(sessions[n] >> (8 * (7 - i)));
+            const int well_formed = b == 1 || (b == 0 && sessions[n] == 0);
+            f = vb_find_entry(s, TREES, subspace(0, 5), garbage(), none);
+            IS(f.refusal, well_formed ? 0 : 3);
+            IS(f.found, well_formed);
+            IS(f.lengthy.origin.remote, well_formed && b == 1);
+            IS(f.lengthy.origin.session, well_formed ? sessions[n] : 0);
+            recorded(s, empty(), 0, digest, 2, well_formed ? 0 : 3, well_formed ? 2 : 0);
+            IS(spt[KIND], b);
+            IS(tsp[KIND], b);
+            r = vb_ingest_entry(s, TREES, tally, sizeof tally, pruned, 1, e, token, 0, from);
+            IS(r.refusal, well_formed ? 0 : 3);
+            IS(r.held, well_formed);
+        }
 }
 
 /* Garbage behind the path, digests that play no part, every byte but 0 as yes, paths that are none, lengths up to the greatest. */
@@ -243,10 +305,11 @@ static void arrivals(void) {
     memset(&e, 0, sizeof e), memcpy(e.namespace_id, namespace_id, 16), memcpy(e.payload_digest, right, 32);
     e.subspace_id = subspace(0, 5), e.path = garbage(), e.timestamp = 6, e.payload_length = 3;
     vb_state s = vb_open(namespace_id, 1, TREES, tally, sizeof tally).state;
-    vb_ingested r = vb_ingest_entry(s, TREES, tally, sizeof tally, pruned, 1, e, token, 0);
+    vb_ingested r = vb_ingest_entry(s, TREES, tally, sizeof tally, pruned, 1, e, token, 0, origin(0, 0, 0));
     IS(r.refusal | r.obsolete | r.held, 0);
     s = r.state;
-    IS(spt_dir[1], 138);
+    IS(spt_dir[1], RECORD);
+    IS(spt_dir[1], 147);
     for (int yes = 1; yes < 256; yes++) {
         recorded(s, garbage(), (uint8_t)yes, right, 2, 0, 2);
         recorded(s, garbage(), (uint8_t)yes, wrong, 1, 9, 2);
@@ -285,6 +348,7 @@ int main(void) {
     for (int i = 0; i < ILLEGAL; i++) refusal_four(illegal(i));
     ranges();
     areas();
+    origins();
     arrivals();
     written(1, empty(), 2, 0);
     written(297, empty(), 2, 0);

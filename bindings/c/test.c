@@ -157,12 +157,94 @@ static vb_range range(vb_path from, vb_path to, uint8_t open) {
 
 static vb_ignore ignore(uint8_t incomplete, uint8_t empty) { vb_ignore i; i.incomplete_payloads = incomplete; i.empty_payloads = empty; return i; }
 
+static vb_origin origin(uint8_t remote, uint64_t session) { vb_origin o; memset(&o, 0x55, sizeof o); o.remote = remote; o.session = session; return o; }
+static vb_origin local(void) { return origin(0, 0); }
+static vb_origin remote(uint64_t session) { return origin(1, session); }
+
 static uint8_t token[64];
 
-static vb_ingested ingest(kept *k, vb_entry e, uint8_t prevent) {
-    vb_ingested r = vb_ingest_entry(k->state, STORE(k), k->prune, k->limit, e, token, prevent);
+static vb_ingested ingest_from(kept *k, vb_entry e, uint8_t prevent, vb_origin from) {
+    vb_ingested r = vb_ingest_entry(k->state, STORE(k), k->prune, k->limit, e, token, prevent, from);
     k->state = r.state;
     return r;
+}
+
+static vb_ingested ingest(kept *k, vb_entry e, uint8_t prevent) { return ingest_from(k, e, prevent, local()); }
+
+/* The bytes of records: at the empty path, at one of one component of a byte, at one of two. 26, 29 and 32 of key, and 121 of value. */
+enum { NONE = 147, ONE = 150, TWO = 153 };
+/* Where in a record of ONE bytes the last byte of the available length lies: its value from 29 on, therein 104 to 111, and behind it nine bytes of origin. */
+enum { ARRIVED = 140 };
+
+/* A lookup that shows nothing: every field is 0. */
+static void shows_nothing(vb_entry_found f, uint8_t refusal) {
+    const vb_entry *e = &f.lengthy.entry;
+    IS(f.refusal, refusal);
+    IS(f.found, 0);
+    for (int i = 0; i < 16; i++) IS(e->namespace_id[i], 0);
+    for (int i = 0; i < 32; i++) IS(e->payload_digest[i], 0);
+    for (int i = 0; i < 64; i++) IS(f.lengthy.token[i], 0);
+    same_path(e->path, "");
+    IS(e->subspace_id.high | e->subspace_id.low | e->timestamp | e->payload_length, 0);
+    IS(f.lengthy.available, 0);
+    IS(f.lengthy.origin.remote, 0);
+    IS(f.lengthy.origin.session, 0);
+}
+
+/* Every call that takes a store, over so many bytes of either tree: refused so, with the state as it was handed in. What else they are handed is legal with
+   `legal`, and else has a path that is none, which 1, 2 and 3 go before. */
+static void all_refuse(kept *k, vb_state s, size_t spt_len, size_t tsp_len, int legal, uint8_t want) {
+#define LENT k->spt, spt_len, k->spt_dir, 2 * k->limit, k->tsp, tsp_len, k->tsp_dir, 2 * k->limit
+#define LENT_TALLY LENT, k->tally, VB_ITEM * k->limit
+    static vb_pairs by_value;
+    static const uint8_t digest[32] = {0};
+    const vb_path p = legal ? path("61") : illegal(0);
+    const vb_area all = area(1, 0, legal ? path("") : p, times(0, 0, 1));
+    const vb_range whole = range(legal ? path("") : p, path(""), 1);
+    vb_interest most;
+    most.area = all;
+    most.max_count = most.max_size = UINT64_MAX;
+    vb_entry e = entry(1, "61", 5, 3, 9);
+    e.path = p;
+    memset(&by_value, 0xdd, sizeof by_value);
+    const vb_pairs_ingested v = vb_ingest_entry_by_value(s, LENT_TALLY, by_value, e, token, 0, remote(9));
+    IS(memcmp(v.pairs, by_value.pairs, sizeof v.pairs), 0);
+    const vb_ingested filed[3] = {vb_ingest_entry(s, LENT_TALLY, k->prune, k->limit, e, token, 0, remote(9)),
+                                  vb_ingest_entry_numbers(s, LENT_TALLY, (uint32_t *)k->prune, 2 * k->limit, e, token, 0, remote(9)), v.ingested};
+    for (int i = 0; i < 3; i++) {
+        IS(filed[i].refusal, want);
+        IS(filed[i].obsolete | filed[i].held | filed[i].pruned | filed[i].newer.timestamp | filed[i].token[0], 0);
+        IS(filed[i].state.count, s.count);
+        IS(filed[i].state.limit, s.limit);
+    }
+    const vb_entry_forgotten g = vb_forget_entry(s, LENT_TALLY, subspace(1), p, 0, digest);
+    IS(g.refusal, want);
+    IS(g.state.count, s.count);
+    const vb_area_forgotten a = vb_forget_area(s, LENT_TALLY, all, 0, all);
+    IS(a.refusal, want);
+    IS(a.forgotten, 0);
+    IS(a.state.count, s.count);
+    const vb_available_recorded r[2] = {vb_record_available_length(s, LENT, subspace(1), p, 1, digest, UINT64_MAX), vb_forget_payload(s, LENT, subspace(1), p, 1, digest)};
+    for (int i = 0; i < 2; i++) {
+        IS(r[i].refusal, want);
+        IS(r[i].state.count, s.count);
+        IS(r[i].state.limit, s.limit);
+    }
+    shows_nothing(vb_find_entry(s, LENT, subspace(1), p, ignore(0, 0)), want);
+    const vb_listed l[2] = {vb_query_area_place(s, LENT, all, ignore(0, 0), 0), vb_query_range_place(s, LENT, whole, ignore(0, 0), 0)};
+    const vb_part q[2] = {vb_query_area(s, LENT, all, ignore(0, 0), 0), vb_query_range(s, LENT, whole, ignore(0, 0), 0)};
+    for (int i = 0; i < 2; i++) {
+        IS(l[i].refusal, want);
+        IS(l[i].found | l[i].place | q[i].offset | q[i].length, 0);
+    }
+    const vb_counted c[2] = {vb_count_area(s, LENT, all), vb_summarise(s, LENT, whole)};
+    for (int i = 0; i < 2; i++) {
+        IS(c[i].refusal, want);
+        IS(c[i].count, 0);
+    }
+    IS(vb_area_of_interest_to_range(s, LENT, most).refusal, want);
+#undef LENT_TALLY
+#undef LENT
 }
 
 static void paths(void) {
@@ -563,11 +645,8 @@ static void openings(void) {
 
     const vb_entry e = entry(1, "61", 5, 3, 9);
     const vb_area all = area(1, 0, path(""), times(0, 0, 1));
-    const vb_range whole = range(path(""), path(""), 1);
     vb_interest most;
-    most.area = all;
     most.max_count = most.max_size = UINT64_MAX;
-    static vb_pairs by_value;
     const uint8_t digest[32] = {0};
     const kept before = copy_of(&k);
     for (int want = 1; want <= 3; want++) {
@@ -575,24 +654,7 @@ static void openings(void) {
         if (want == 1) s.limit = 0, s.count = SIZE_MAX;
         if (want == 2) s.limit = 4, s.count = 5;
         if (want == 3) s.count = 1;
-        IS(vb_ingest_entry(s, STORE(&k), k.prune, 3, e, token, 0).refusal, want);
-        IS(vb_ingest_entry(s, STORE(&k), k.prune, 3, e, token, 0).state.count, s.count);
-        IS(vb_ingest_entry_numbers(s, STORE(&k), (uint32_t *)k.prune, 6, e, token, 0).refusal, want);
-        IS(vb_ingest_entry_by_value(s, STORE(&k), by_value, e, token, 0).ingested.refusal, want);
-        IS(vb_forget_entry(s, STORE(&k), subspace(1), path("61"), 0, digest).refusal, want);
-        IS(vb_forget_area(s, STORE(&k), all, 0, all).refusal, want);
-        IS(vb_record_available_length(s, READ(&k), subspace(1), illegal(0), 1, digest, UINT64_MAX).refusal, want);
-        IS(vb_record_available_length(s, READ(&k), subspace(1), illegal(0), 1, digest, UINT64_MAX).state.count, s.count);
-        IS(vb_forget_payload(s, READ(&k), subspace(1), illegal(0), 1, digest).refusal, want);
-        IS(vb_forget_payload(s, READ(&k), subspace(1), illegal(0), 1, digest).state.limit, s.limit);
-        IS(vb_find_entry(s, READ(&k), subspace(1), path("61"), ignore(0, 0)).refusal, want);
-        IS(vb_query_area_place(s, READ(&k), all, ignore(0, 0), 0).refusal, want);
-        IS(vb_query_area(s, READ(&k), all, ignore(0, 0), 0).length, 0);
-        IS(vb_query_range_place(s, READ(&k), whole, ignore(0, 0), 0).refusal, want);
-        IS(vb_query_range(s, READ(&k), whole, ignore(0, 0), 0).length, 0);
-        IS(vb_count_area(s, READ(&k), all).refusal, want);
-        IS(vb_summarise(s, READ(&k), whole).refusal, want);
-        IS(vb_area_of_interest_to_range(s, READ(&k), most).refusal, want);
+        for (int legal = 0; legal < 2; legal++) all_refuse(&k, s, VB_RECORD_MOST * 3, VB_RECORD_MOST * 3, legal, (uint8_t)want);
     }
     vb_area bad = all;
     bad.path = illegal(1);
@@ -601,11 +663,11 @@ static void openings(void) {
     vb_entry bad_entry = e;
     bad_entry.path = illegal(1);
     bad_entry.namespace_id[0] = 1;
-    IS(vb_ingest_entry(o.state, STORE(&k), k.prune, 3, bad_entry, token, 0).refusal, 4);
-    IS(vb_ingest_entry(o.state, STORE(&k), k.prune, 1, e, token, 0).refusal, 2);
-    IS(vb_ingest_entry(o.state, STORE(&k), NULL, 0, e, token, 0).refusal, 2);
-    IS(vb_ingest_entry(o.state, STORE(&k), k.prune, 3, e, token, 0).refusal, 6);
-    IS(vb_ingest_entry_numbers(o.state, STORE(&k), (uint32_t *)k.prune, 3, e, token, 0).refusal, 2);
+    IS(vb_ingest_entry(o.state, STORE(&k), k.prune, 3, bad_entry, token, 0, local()).refusal, 4);
+    IS(vb_ingest_entry(o.state, STORE(&k), k.prune, 1, e, token, 0, local()).refusal, 2);
+    IS(vb_ingest_entry(o.state, STORE(&k), NULL, 0, e, token, 0, local()).refusal, 2);
+    IS(vb_ingest_entry(o.state, STORE(&k), k.prune, 3, e, token, 0, local()).refusal, 6);
+    IS(vb_ingest_entry_numbers(o.state, STORE(&k), (uint32_t *)k.prune, 3, e, token, 0, local()).refusal, 2);
     IS(vb_forget_entry(o.state, STORE(&k), subspace(1), illegal(0), 0, digest).refusal, 4);
     IS(vb_forget_area(o.state, STORE(&k), all, 1, bad).refusal, 4);
     IS(vb_forget_area(o.state, STORE(&k), bad, 0, all).refusal, 4);
@@ -633,7 +695,7 @@ static void ingestion(void) {
     IS(r.refusal | r.obsolete | r.held | r.pruned, 0);
     IS(r.state.count, 1);
     IS(k.spt_dir[0], 0);
-    IS(k.spt_dir[1], 144); /* key 16 + 8 + 8, value 112 */
+    IS(k.spt_dir[1], TWO);
     IS(k.prune[0].offset, 0xeeeeeeee);
     kept before = copy_of(&k);
     r = ingest(&k, entry(1, "61", 6, 3, 9), 1);
@@ -654,7 +716,7 @@ static void ingestion(void) {
     IS(r.pruned, 1);
     IS(r.state.count, 1);
     IS(k.prune[0].offset, 0);
-    IS(k.prune[0].length, 144);
+    IS(k.prune[0].length, TWO);
     IS(k.prune[1].offset, 0xeeeeeeee);
     r = ingest(&k, entry(1, "61/62", 6, 3, 9), 255); /* of equal rank: two */
     IS(r.refusal | r.obsolete | r.held | r.pruned, 0);
@@ -670,7 +732,7 @@ static void ingestion(void) {
     drop(&before);
     IS(ingest(&k, entry(1, "", 6, 3, 9), 0).refusal, 0);
     IS(k.state.count, 1);
-    IS(k.prune[0].length, 16 + 5 + 8 + 112);
+    IS(k.prune[0].length, ONE);
     drop(&k);
 
     k = store_of(3); /* over numbers, and over pairs by value */
@@ -680,19 +742,19 @@ static void ingestion(void) {
     IS(ingest(&k, entry(1, "61/62", 5, 3, 9), 0).refusal, 0);
     IS(ingest(&k, entry(1, "61/63", 5, 3, 9), 0).refusal, 0);
     kept second = copy_of(&k);
-    r = vb_ingest_entry_numbers(k.state, STORE(&k), numbers, 6, entry(1, "61", 6, 3, 9), token, 0);
+    r = vb_ingest_entry_numbers(k.state, STORE(&k), numbers, 6, entry(1, "61", 6, 3, 9), token, 0, local());
     IS(r.pruned, 2);
     IS(numbers[0], 0);
-    IS(numbers[1], 144);
-    IS(numbers[2], 144);
-    IS(numbers[3], 144);
+    IS(numbers[1], TWO);
+    IS(numbers[2], TWO);
+    IS(numbers[3], TWO);
     IS(numbers[4], 0xeeeeeeee);
-    vb_pairs_ingested v = vb_ingest_entry_by_value(second.state, STORE(&second), by_value, entry(1, "61", 6, 3, 9), token, 0);
+    vb_pairs_ingested v = vb_ingest_entry_by_value(second.state, STORE(&second), by_value, entry(1, "61", 6, 3, 9), token, 0, local());
     IS(v.ingested.pruned, 2);
     IS(v.ingested.state.count, 1);
     IS(v.pairs[0].offset, 0);
-    IS(v.pairs[1].offset, 144);
-    IS(v.pairs[1].length, 144);
+    IS(v.pairs[1].offset, TWO);
+    IS(v.pairs[1].length, TWO);
     IS(v.pairs[2].offset, 0xdddddddd);
     IS(v.pairs[1023].length, 0xdddddddd);
     same_buffers(&second, &k);
@@ -855,10 +917,10 @@ static void tallies(void) {
     uint32_t *numbers = (uint32_t *)lent(40);
     static vb_pairs by_value;
     high.path = path(""), high.payload_length = 1;
-    vb_ingested r = vb_ingest_entry_numbers(k.state, STORE(&k), numbers, 10, high, token, 0);
+    vb_ingested r = vb_ingest_entry_numbers(k.state, STORE(&k), numbers, 10, high, token, 0, local());
     IS(r.pruned, 1);
     k.state = r.state;
-    IS(vb_ingest_entry_by_value(second.state, STORE(&second), by_value, high, token, 0).ingested.pruned, 1);
+    IS(vb_ingest_entry_by_value(second.state, STORE(&second), by_value, high, token, 0, local()).ingested.pruned, 1);
     same_item(&k, 0, 1, 0, 1, UINT64_MAX);
     items(&k, 1);
     same_buffers(&k, &second);
@@ -886,15 +948,15 @@ static void ties(void) {
     }
     unchanged(&k, &second); /* both lists of pairs are as they were lent */
     IS(k.prune[0].offset, 0xeeeeeeee);
-    const uint32_t pairs[] = {0, 141, 141, 144}; /* 29 bytes of key and 112 of value; 3 more for [62] */
+    const uint32_t pairs[] = {0, ONE, ONE, TWO};
     for (int i = 0; i < 4; i++) {
         IS(k.spt_dir[i], pairs[i]);
         IS(k.tsp_dir[i], pairs[i]);
     }
     same_triple(vb_decode_spt_entry_key(k.spt, 29), 0, "61", 1, 5);
-    same_triple(vb_decode_spt_entry_key(k.spt + 141, 32), 0, "61/62", 1, 5);
+    same_triple(vb_decode_spt_entry_key(k.spt + ONE, 32), 0, "61/62", 1, 5);
     same_triple(vb_decode_tsp_entry_key(k.tsp, 29), 0, "61", 1, 5);
-    same_triple(vb_decode_tsp_entry_key(k.tsp + 141, 32), 0, "61/62", 1, 5);
+    same_triple(vb_decode_tsp_entry_key(k.tsp + ONE, 32), 0, "61/62", 1, 5);
     same_item(&k, 0, 0, 1, 2, 5);
     is_taken(ingest(&k, entry(1, "", 6, 0, 0), 0), 2, 1); /* a later one above removes both */
     for (int i = 0; i < 2; i++) {
@@ -909,8 +971,8 @@ static void ties(void) {
     kept before = copy_of(&k);
     for (int prevent = 0; prevent < 2; prevent++) {
         IS(ingest(&k, entry(1, "61", 5, 3, 9), prevent).refusal, 8);
-        IS(vb_ingest_entry_numbers(k.state, STORE(&k), (uint32_t *)k.prune, 2, entry(1, "61", 5, 3, 9), token, prevent).refusal, 8);
-        IS(vb_ingest_entry_by_value(k.state, STORE(&k), by_value, entry(1, "61", 5, 3, 9), token, prevent).ingested.refusal, 8);
+        IS(vb_ingest_entry_numbers(k.state, STORE(&k), (uint32_t *)k.prune, 2, entry(1, "61", 5, 3, 9), token, prevent, local()).refusal, 8);
+        IS(vb_ingest_entry_by_value(k.state, STORE(&k), by_value, entry(1, "61", 5, 3, 9), token, prevent, local()).ingested.refusal, 8);
     }
     unchanged(&k, &before);
     drop(&before);
@@ -934,10 +996,10 @@ static void ties(void) {
     is_taken(ingest(&k, entry(1, "61/63", 5, 2, 9), 0), 0, 2);
     IS(ingest(&k, entry(1, "61", 5, 3, 9), 1).refusal, 7);
     second = copy_of(&k);
-    is_taken(vb_ingest_entry_numbers(second.state, STORE(&second), (uint32_t *)second.prune, 4, entry(1, "61", 5, 3, 9), token, 0), 1, 2);
+    is_taken(vb_ingest_entry_numbers(second.state, STORE(&second), (uint32_t *)second.prune, 4, entry(1, "61", 5, 3, 9), token, 0, local()), 1, 2);
     is_taken(ingest(&k, entry(1, "61", 5, 3, 9), 0), 1, 2);
-    IS(k.prune[0].offset, 144);
-    IS(k.prune[0].length, 144);
+    IS(k.prune[0].offset, TWO);
+    IS(k.prune[0].length, TWO);
     IS(k.prune[1].offset, 0xeeeeeeee);
     unchanged(&k, &second);
     IS(vb_find_entry(k.state, READ(&k), subspace(1), path("61/62"), ignore(0, 0)).found, 1);
@@ -968,7 +1030,7 @@ static void is_held(vb_ingested r, const kept *k) {
 }
 
 /* The same entry twice: [61] and [61][62], which tie, in a store of two, which is then full. A resend of either is held, with pruning prevented too, with
-   another token, with other bytes and ends behind its path, and where a part of its payload is there; nothing changes. */
+   another token and origin, with other bytes and ends behind its path, and where a part of its payload is there; nothing changes. */
 static void resends(void) {
     static vb_pairs by_value;
     uint8_t other[64];
@@ -976,7 +1038,7 @@ static void resends(void) {
     kept k = store_of(2);
     IS(ingest(&k, entry(1, "61", 5, 3, 9), 0).held, 0);
     IS(ingest(&k, entry(1, "61/62", 5, 3, 9), 0).held, 0);
-    k.spt[140] = k.tsp[140] = 2; /* of [61], available length 2 of 3 */
+    k.spt[ARRIVED] = k.tsp[ARRIVED] = 2; /* of [61], available length 2 of 3 */
     IS(vb_find_entry(k.state, READ(&k), subspace(1), path("61"), ignore(0, 0)).lengthy.available, 2);
     kept before = copy_of(&k);
     for (int i = 0; i < 2; i++) {
@@ -985,9 +1047,9 @@ static void resends(void) {
         memset(e.path.bytes + 2, 0x5a + i, sizeof e.path.bytes - 2);
         for (int prevent = 0; prevent < 2; prevent++) {
             is_held(ingest(&k, e, prevent), &before);
-            is_held(vb_ingest_entry(k.state, STORE(&k), k.prune, 2, e, other, prevent), &before);
-            is_held(vb_ingest_entry_numbers(k.state, STORE(&k), (uint32_t *)k.prune, 4, e, other, prevent), &before);
-            vb_pairs_ingested v = vb_ingest_entry_by_value(k.state, STORE(&k), by_value, e, other, prevent);
+            is_held(vb_ingest_entry(k.state, STORE(&k), k.prune, 2, e, other, prevent, remote(8)), &before);
+            is_held(vb_ingest_entry_numbers(k.state, STORE(&k), (uint32_t *)k.prune, 4, e, other, prevent, remote(8)), &before);
+            vb_pairs_ingested v = vb_ingest_entry_by_value(k.state, STORE(&k), by_value, e, other, prevent, remote(8));
             is_held(v.ingested, &before);
             IS(memcmp(v.pairs, by_value.pairs, sizeof v.pairs), 0);
         }
@@ -1008,9 +1070,9 @@ static uint8_t changes(int call, vb_state s, kept *k, vb_entry e, size_t tally_l
     static vb_pairs by_value;
     const vb_area at = area(0, 1, e.path, times(0, 0, 1));
     switch (call) {
-    case 0: return vb_ingest_entry(s, READ(k), k->tally, tally_len, k->prune, k->limit, e, token, 1).refusal;
-    case 1: return vb_ingest_entry_numbers(s, READ(k), k->tally, tally_len, (uint32_t *)k->prune, 2 * k->limit, e, token, 1).refusal;
-    case 2: return vb_ingest_entry_by_value(s, READ(k), k->tally, tally_len, by_value, e, token, 1).ingested.refusal;
+    case 0: return vb_ingest_entry(s, READ(k), k->tally, tally_len, k->prune, k->limit, e, token, 1, local()).refusal;
+    case 1: return vb_ingest_entry_numbers(s, READ(k), k->tally, tally_len, (uint32_t *)k->prune, 2 * k->limit, e, token, 1, local()).refusal;
+    case 2: return vb_ingest_entry_by_value(s, READ(k), k->tally, tally_len, by_value, e, token, 1, local()).ingested.refusal;
     case 3: return vb_forget_entry(s, READ(k), k->tally, tally_len, e.subspace_id, e.path, 1, e.payload_digest).refusal;
     default: return vb_forget_area(s, READ(k), k->tally, tally_len, at, 1, at).refusal;
     }
@@ -1081,24 +1143,25 @@ static uint64_t available(const kept *k, uint64_t in, const char *hex) {
     return f.lengthy.available;
 }
 
-/* How much has arrived. [61] at 5 and [61][62] at 6 in subspace 1, [61] in subspace 2, of payload lengths 3, 0 and the greatest: records of 141, 144 and 141 bytes,
-   in the subspace-first tree from 0, 141 and 285 on, in the time-first tree by their times 5, 6 and 4 from 141, 282 and 0 on. */
+/* How much has arrived. [61] at 5 and [61][62] at 6 in subspace 1, [61] in subspace 2, of payload lengths 3, 0 and the greatest: records of ONE, TWO and ONE bytes,
+   in the subspace-first tree from 0, ONE and ONE + TWO on, in the time-first tree by their times 5, 6 and 4 from ONE, 2 * ONE and 0 on. No byte of their origins,
+   which stand behind the available lengths, is 0; whatever is recorded, they stay. */
 static void arrivals(void) {
     kept k = store_of(4);
-    IS(ingest(&k, entry(1, "61", 5, 3, 9), 0).refusal, 0);
-    IS(ingest(&k, entry(1, "61/62", 6, 0, 9), 0).refusal, 0);
-    IS(ingest(&k, entry(2, "61", 4, UINT64_MAX, 9), 0).refusal, 0);
+    IS(ingest_from(&k, entry(1, "61", 5, 3, 9), 0, remote(UINT64_MAX)).refusal, 0);
+    IS(ingest_from(&k, entry(1, "61/62", 6, 0, 9), 0, remote(UINT64_C(0x1122334455667788))).refusal, 0);
+    IS(ingest_from(&k, entry(2, "61", 4, UINT64_MAX, 9), 0, remote(UINT64_MAX - 1)).refusal, 0);
     IS(k.state.count, 3);
     kept filed = copy_of(&k);
 
     static const struct { int digest; uint8_t available; } asks[] = {{-1, 3}, {9, 1}, {-1, 1}, {9, 0}, {9, 2}};
-    for (int i = 0; i < 5; i++) { /* the last byte of the record in either tree, and no other */
+    for (int i = 0; i < 5; i++) { /* the last byte of the available length in either tree, and no other */
         IS(arrived(&k, 0, 1, path("61"), asks[i].digest, asks[i].available), 0);
-        IS(k.spt[140], asks[i].available);
-        IS(k.tsp[281], asks[i].available);
+        IS(k.spt[ARRIVED], asks[i].available);
+        IS(k.tsp[ONE + ARRIVED], asks[i].available);
         IS(available(&k, 1, "61"), asks[i].available);
         kept want = copy_of(&filed);
-        want.spt[140] = want.tsp[281] = asks[i].available;
+        want.spt[ARRIVED] = want.tsp[ONE + ARRIVED] = asks[i].available;
         unchanged(&k, &want);
         drop(&want);
     }
@@ -1107,12 +1170,17 @@ static void arrivals(void) {
     IS(arrived(&k, 1, 1, path("61"), -1, 0), 0); /* nothing has arrived: done all the same */
     unchanged(&k, &filed);
     IS(arrived(&k, 0, 2, path("61"), -1, UINT64_C(0x0102030405060708)), 0);
-    for (int i = 0; i < 8; i++) {
-        IS(k.spt[285 + 141 - 8 + i], i + 1);
-        IS(k.tsp[141 - 8 + i], i + 1);
+    for (int greatest = 0; greatest < 2; greatest++) { /* all eight bytes, and no other */
+        kept want = copy_of(&filed);
+        for (int i = 0; i < 8; i++) want.spt[ONE + TWO + ARRIVED - 7 + i] = want.tsp[ARRIVED - 7 + i] = (uint8_t)(greatest ? 0xff : i + 1);
+        unchanged(&k, &want);
+        drop(&want);
+        IS(arrived(&k, 0, 2, path("61"), 9, UINT64_MAX), 0);
     }
-    IS(arrived(&k, 0, 2, path("61"), 9, UINT64_MAX), 0);
     IS(available(&k, 2, "61"), UINT64_MAX);
+    IS(arrived(&k, 1, 2, path("61"), 9, 0), 0);
+    unchanged(&k, &filed);
+    IS(arrived(&k, 0, 2, path("61"), 9, UINT64_MAX), 0);
     IS(arrived(&k, 0, 1, path("61/62"), 9, 0), 0); /* 0 of 0 */
 
     IS(arrived(&k, 0, 1, path("61"), -1, 2), 0);
@@ -1168,12 +1236,11 @@ static void arrivals(void) {
     IS(ingest(&k, entry(1, "61", 5, 4, 9), 0).refusal, 0); /* forgotten and filed again: 0 */
     IS(available(&k, 1, "61"), 0);
 
-    const uint32_t record = k.spt_dir[0] + k.spt_dir[1] - 1;
-    k.spt[record] = 1; /* in one tree only: no store */
+    k.spt[ARRIVED] = 1; /* in one tree only: no store */
     IS(arrived(&k, 0, 9, illegal(0), 8, UINT64_MAX), VB_NOT_WELL_FORMED);
     IS(arrived(&k, 1, 1, path("61"), 9, 0), VB_NOT_WELL_FORMED);
-    IS(k.spt[record], 1);
-    k.spt[record] = 0;
+    IS(k.spt[ARRIVED], 1);
+    k.spt[ARRIVED] = 0;
     for (int which = 0; which < 4; which++) /* a tree a byte too short, or a directory a number */
         for (int forgets = 0; forgets < 2; forgets++) {
             const size_t tree[2] = {VB_RECORD_MOST * k.limit - (which == 0), VB_RECORD_MOST * k.limit - (which == 2)};
@@ -1185,6 +1252,220 @@ static void arrivals(void) {
         }
     IS(arrived(&k, 0, 1, path("61"), 9, 4), 0);
     drop(&filed);
+    drop(&k);
+}
+
+/* The nine bytes at a record's end, in both trees; and what a lookup shows. */
+static void came_from(const kept *k, uint64_t in, const char *hex, size_t spt_place, size_t tsp_place, uint8_t kind, uint64_t session) {
+    const uint8_t *ends[2] = {k->spt + k->spt_dir[2 * spt_place] + k->spt_dir[2 * spt_place + 1], k->tsp + k->tsp_dir[2 * tsp_place] + k->tsp_dir[2 * tsp_place + 1]};
+    for (int t = 0; t < 2; t++) {
+        IS(ends[t][-9], kind);
+        for (int i = 0; i < 8; i++) IS(ends[t][i - 8], (uint8_t)(session >> (8 * (7 - i))));
+    }
+    vb_entry_found f = vb_find_entry(k->state, READ(k), subspace(in), path(hex), ignore(0, 0));
+    IS(f.refusal, 0);
+    IS(f.found, 1);
+    IS(f.lengthy.origin.remote, kind);
+    IS(f.lengthy.origin.session, session);
+    vb_part p = vb_query_area(k->state, READ(k), area(0, in, path(hex), times(0, 0, 1)), ignore(0, 0), spt_place); /* the listing shows the same bytes */
+    const uint8_t *value = k->spt + p.offset + p.length - VB_VALUE;
+    IS(value + VB_VALUE_ORIGIN == ends[0] - 9, 1);
+    IS(value + VB_VALUE_SESSION == ends[0] - 8, 1);
+}
+
+/* Files by one of the three calls. */
+static vb_ingested file_by(int call, kept *k, vb_entry e, vb_origin from) {
+    static vb_pairs by_value;
+    vb_ingested r = call == 0   ? vb_ingest_entry(k->state, STORE(k), k->prune, k->limit, e, token, 0, from)
+                    : call == 1 ? vb_ingest_entry_numbers(k->state, STORE(k), (uint32_t *)k->prune, 2 * k->limit, e, token, 0, from)
+                                : vb_ingest_entry_by_value(k->state, STORE(k), by_value, e, token, 0, from).ingested;
+    k->state = r.state;
+    return r;
+}
+
+/* Where entries came from: [61] at 5 and, of the origin of the line below, [62] at 4, which is the second by key and the first by time. */
+static void origins(void) {
+    static const struct { uint8_t remote; uint64_t session; uint8_t kind; uint64_t kept; } asks[] = {
+        {0, 0, 0, 0}, {0, 7, 0, 0}, {0, UINT64_MAX, 0, 0}, {1, 7, 1, 7}, {1, 0, 1, 0}, {1, UINT64_MAX, 1, UINT64_MAX},
+        {1, UINT64_C(0x0102030405060708), 1, UINT64_C(0x0102030405060708)}, {2, 7, 1, 7}, {128, 0, 1, 0}, {255, 7, 1, 7}, {255, UINT64_MAX, 1, UINT64_MAX}};
+    enum { ASKS = 11 };
+    uint8_t digest[32], other[64];
+    memset(digest, 9, 32), memset(other, 1, 64);
+    for (int call = 0; call < 3; call++)
+        for (int i = 0; i < ASKS; i++) {
+            const int n = (i + 1) % ASKS;
+            const vb_origin from = origin(asks[i].remote, asks[i].session), next = origin(asks[n].remote, asks[n].session);
+            kept k = store_of(3), first = store_of(3);
+            is_taken(file_by(call, &k, entry(1, "61", 5, 3, 9), next), 0, 1);
+            is_taken(file_by(call, &k, entry(1, "62", 4, 3, 9), from), 0, 2);
+            is_taken(ingest_from(&first, entry(1, "61", 5, 3, 9), 0, next), 0, 1);
+            is_taken(ingest_from(&first, entry(1, "62", 4, 3, 9), 0, from), 0, 2);
+            same_buffers(&k, &first);
+            came_from(&k, 1, "61", 0, 1, asks[n].kind, asks[n].kept);
+            came_from(&k, 1, "62", 1, 0, asks[i].kind, asks[i].kept);
+            for (int again = 0; again < 3; again++) { /* held, whatever origin comes now */
+                is_held(file_by(again, &k, entry(1, "61", 5, 3, 9), from), &k);
+                is_held(file_by(again, &k, entry(1, "62", 4, 3, 9), next), &k);
+                is_held(vb_ingest_entry(k.state, STORE(&k), k.prune, 3, entry(1, "62", 4, 3, 9), other, 1, origin(3, 99)), &k);
+                vb_ingested r = file_by(again, &k, entry(1, "61", 5, 2, 9), from); /* obsolete: no origin is shown, and none is kept */
+                IS(r.obsolete, 1);
+                IS(r.refusal | r.held | r.pruned, 0);
+                IS(r.newer.timestamp, 5);
+                IS(r.newer.payload_length, 3);
+                IS(r.token[0], 0x42);
+                same_path(r.newer.path, "61");
+                IS(vb_ingest_entry(k.state, STORE(&k), k.prune, 3, entry(1, "61", 6, 2, 9), token, 1, from).refusal, 7);
+            }
+            unchanged(&k, &first);
+            shows_nothing(vb_find_entry(k.state, READ(&k), subspace(1), path("62"), ignore(1, 0)), 0); /* hidden by the flag, absent, refused */
+            shows_nothing(vb_find_entry(k.state, READ(&k), subspace(1), path("63"), ignore(0, 0)), 0);
+            shows_nothing(vb_find_entry(k.state, READ(&k), subspace(2), path("62"), ignore(0, 0)), 0);
+            shows_nothing(vb_find_entry(k.state, READ(&k), subspace(1), illegal(2), ignore(0, 0)), 4);
+
+            IS(arrived(&k, 0, 1, path("62"), 9, 2), 0); /* what has arrived leaves them, also where the flag then shows the entry */
+            came_from(&k, 1, "62", 1, 0, asks[i].kind, asks[i].kept);
+            IS(arrived(&k, 0, 1, path("62"), -1, 3), 0);
+            came_from(&k, 1, "62", 1, 0, asks[i].kind, asks[i].kept);
+            IS(vb_find_entry(k.state, READ(&k), subspace(1), path("62"), ignore(1, 0)).lengthy.origin.session, asks[i].kept);
+            is_held(ingest_from(&k, entry(1, "62", 4, 3, 9), 0, next), &k);
+            IS(available(&k, 1, "62"), 3);
+            IS(arrived(&k, 1, 1, path("62"), 9, 0), 0);
+            unchanged(&k, &first);
+            drop(&first);
+
+            is_taken(file_by(call, &k, entry(1, "62", 5, 3, 9), remote(77)), 1, 2); /* what replaces an entry has its own */
+            came_from(&k, 1, "62", 1, 1, 1, 77);
+            came_from(&k, 1, "61", 0, 0, asks[n].kind, asks[n].kept);
+            k.state = vb_forget_entry(k.state, STORE(&k), subspace(1), path("62"), 1, digest).state;
+            shows_nothing(vb_find_entry(k.state, READ(&k), subspace(1), path("62"), ignore(0, 0)), 0);
+            is_taken(file_by(call, &k, entry(1, "62", 5, 3, 9), local()), 0, 2); /* forgotten and filed again */
+            came_from(&k, 1, "62", 1, 1, 0, 0);
+            is_taken(file_by(call, &k, entry(1, "62/63", 5, 3, 9), remote(78)), 0, 3); /* a tie below has its own too */
+            came_from(&k, 1, "62", 1, 1, 0, 0);
+            came_from(&k, 1, "62/63", 2, 2, 1, 78);
+            is_taken(file_by(call, &k, entry(1, "", 6, 0, 9), from), 3, 1);
+            came_from(&k, 1, "", 0, 0, asks[i].kind, asks[i].kept);
+            IS(k.spt_dir[1], NONE);
+            drop(&k);
+        }
+}
+
+/* Writes nine bytes to the end of a record, in the subspace-first tree (1), the time-first tree (2) or both (3); both trees have records of ONE bytes. */
+static void write_origin(kept *k, size_t spt_place, size_t tsp_place, int trees, uint8_t kind, uint64_t session) {
+    for (int t = 0; t < 2; t++) {
+        uint8_t *end = (t ? k->tsp + ONE * tsp_place : k->spt + ONE * spt_place) + ONE;
+        if (!(trees & (1 << t))) continue;
+        end[-9] = kind;
+        for (int i = 0; i < 8; i++) end[i - 8] = (uint8_t)(session >> (8 * (7 - i)));
+    }
+}
+
+/* Nine bytes that are no origin, or another in the other tree: no store, in every call. [61] at 5 is local, [62] at 4 and [63] at 3 came in sessions 7 and 0. */
+static void damaged_origins(void) {
+    const size_t full = VB_RECORD_MOST * 3;
+    static const uint8_t kinds[] = {0, 1, 1};
+    static const uint64_t sessions[] = {0, 7, 0};
+    static const struct { uint8_t kind; uint64_t session; } wrong[] = {
+        {2, 0}, {2, 7}, {3, 0}, {128, 7}, {255, 0}, {255, UINT64_MAX}, {0, 1}, {0, 7}, {0, UINT64_C(1) << 56}, {0, UINT64_C(1) << 63}, {0, UINT64_MAX}};
+    static const struct { uint8_t kind; uint64_t session; } right[] = {{0, 0}, {1, 0}, {1, 1}, {1, 7}, {1, UINT64_C(7) << 56}, {1, UINT64_MAX}};
+    kept k = store_of(3);
+    IS(ingest(&k, entry(1, "61", 5, 3, 9), 0).refusal, 0);
+    IS(ingest_from(&k, entry(1, "62", 4, 3, 9), 0, remote(7)).refusal, 0);
+    IS(ingest_from(&k, entry(1, "63", 3, 3, 9), 0, remote(0)).refusal, 0);
+    static const char *const at[] = {"61", "62", "63"};
+    for (size_t n = 0; n < 3; n++) {
+        came_from(&k, 1, at[n], n, 2 - n, kinds[n], sessions[n]);
+        for (int trees = 1; trees < 4; trees++) {
+            for (int w = 0; w < 11; w++) {
+                write_origin(&k, n, 2 - n, trees, wrong[w].kind, wrong[w].session);
+                kept before = copy_of(&k);
+                for (int legal = 0; legal < 2; legal++) all_refuse(&k, k.state, full, full, legal, VB_NOT_WELL_FORMED);
+                unchanged(&k, &before);
+                drop(&before);
+            }
+            for (unsigned kind = 2; kind < 256; kind++) { /* every other kind */
+                write_origin(&k, n, 2 - n, trees, (uint8_t)kind, 0);
+                IS(vb_find_entry(k.state, READ(&k), subspace(9), path("61"), ignore(0, 0)).refusal, VB_NOT_WELL_FORMED);
+                IS(changes(0, k.state, &k, entry(1, "64", 5, 3, 9), VB_ITEM * 3), VB_NOT_WELL_FORMED);
+            }
+            for (int bit = 0; bit < 64; bit++) { /* local, and any one bit of a session number */
+                write_origin(&k, n, 2 - n, trees, 0, UINT64_C(1) << bit);
+                IS(vb_find_entry(k.state, READ(&k), subspace(9), path("61"), ignore(0, 0)).refusal, VB_NOT_WELL_FORMED);
+            }
+            for (int w = 0; w < 6; w++) { /* any origin in both trees is well-formed, in one tree only if it is the other's */
+                write_origin(&k, n, 2 - n, 3, kinds[n], sessions[n]);
+                write_origin(&k, n, 2 - n, trees, right[w].kind, right[w].session);
+                kept before = copy_of(&k);
+                if (trees == 3 || (right[w].kind == kinds[n] && right[w].session == sessions[n])) {
+                    came_from(&k, 1, at[n], n, 2 - n, right[w].kind, right[w].session);
+                    IS(ingest(&k, entry(1, "64", 5, 3, 9), 0).refusal, VB_FULL);
+                    is_held(ingest(&k, entry(1, at[n], 5 - n, 3, 9), 0), &k);
+                } else for (int legal = 0; legal < 2; legal++) all_refuse(&k, k.state, full, full, legal, VB_NOT_WELL_FORMED);
+                unchanged(&k, &before);
+                drop(&before);
+            }
+        }
+        write_origin(&k, n, 2 - n, 3, kinds[n], sessions[n]);
+    }
+    IS(vb_count_area(k.state, READ(&k), area(1, 0, path(""), times(0, 0, 1))).count, 3);
+    drop(&k);
+}
+
+/* Takes the last nine bytes from each record of a tree, or gives each nine zeros. */
+static void recut(const kept *k, uint8_t *tree, uint32_t *dir, int longer) {
+    const size_t room = VB_RECORD_MOST * k->limit;
+    uint8_t *from = (uint8_t *)memcpy(lent(room), tree, room);
+    memset(tree, 0, room);
+    for (size_t i = 0, at = 0; i < k->state.count; i++) {
+        const uint32_t length = longer ? dir[2 * i + 1] + 9 : dir[2 * i + 1] - 9;
+        memcpy(tree + at, from + dir[2 * i], longer ? length - 9 : length);
+        dir[2 * i] = (uint32_t)at, dir[2 * i + 1] = length;
+        at += length;
+    }
+    free(from);
+}
+
+/* Trees that are shorter than 419 bytes for each entry of the limit, among them those of edition 5; and a store of edition 5 in longer ones. */
+static void edition_5(void) {
+    static const uint8_t namespace_id[16] = {0};
+    enum { RECORD_MOST_5 = 410, LIMIT = 3 };
+    const size_t room = VB_RECORD_MOST * LIMIT;
+    IS(VB_RECORD_MOST, 419);
+    IS(VB_RECORD_MOST, VB_KEY_MOST + VB_VALUE);
+    IS(VB_VALUE, VB_VALUE_SESSION + 8);
+    static const size_t cut[] = {RECORD_MOST_5 * LIMIT, VB_RECORD_MOST *LIMIT - 1, 0};
+    kept k = store_of(LIMIT);
+    for (int filed = 0; filed < 2; filed++) { /* of no entry, and of one */
+        kept before = copy_of(&k);
+        for (int i = 0; i < 3; i++)
+            for (int trees = 1; trees < 4; trees++) {
+                const size_t spt_len = trees & 1 ? cut[i] : room, tsp_len = trees & 2 ? cut[i] : room;
+                IS(vb_open(namespace_id, LIMIT, k.spt, spt_len, k.spt_dir, 2 * LIMIT, k.tsp, tsp_len, k.tsp_dir, 2 * LIMIT, k.tally, VB_ITEM * LIMIT).refusal, VB_SHORT_BUFFER);
+                for (int legal = 0; legal < 2; legal++) all_refuse(&k, k.state, spt_len, tsp_len, legal, VB_SHORT_BUFFER);
+            }
+        unchanged(&k, &before);
+        drop(&before);
+        IS(ingest(&k, entry(1, "61", 5, 3, 9), 0).held, filed); /* and of the whole length it is taken */
+    }
+    IS(ingest(&k, entry(1, "62", 4, 3, 9), 0).refusal, 0);
+    IS(ingest(&k, entry(2, "61/62", 6, 3, 9), 0).refusal, 0);
+    IS(arrived(&k, 0, 1, path("61"), 9, 2), 0);
+
+    kept now = copy_of(&k);
+    recut(&k, k.spt, k.spt_dir, 0), recut(&k, k.tsp, k.tsp_dir, 0); /* as edition 5 kept it */
+    IS(k.spt_dir[1], ONE - 9);
+    kept before = copy_of(&k);
+    for (int legal = 0; legal < 2; legal++) all_refuse(&k, k.state, room, room, legal, VB_NOT_WELL_FORMED);
+    unchanged(&k, &before);
+    drop(&before);
+    recut(&k, k.spt, k.spt_dir, 1), recut(&k, k.tsp, k.tsp_dir, 1); /* nine zeros behind each value: carried over */
+    unchanged(&k, &now);
+    came_from(&k, 1, "61", 0, 1, 0, 0);
+    came_from(&k, 1, "62", 1, 0, 0, 0);
+    came_from(&k, 2, "61/62", 2, 2, 0, 0);
+    IS(available(&k, 1, "61"), 2);
+    is_taken(ingest_from(&k, entry(2, "61", 7, 3, 9), 0, remote(5)), 1, 3);
+    drop(&now);
     drop(&k);
 }
 
@@ -1207,6 +1488,9 @@ int main(void) {
     resends();
     wrong_tallies();
     arrivals();
+    origins();
+    damaged_origins();
+    edition_5();
     printf("%u comparisons with answers written by hand\n", compared);
     return 0;
 }

@@ -13,8 +13,8 @@
    How to read a call. Structs go by value. A yes or no is a byte: handed in, every byte but 0 means yes; answered, it is 0 or 1. So no value is left
    without a meaning. `refusal` is 0, or the first number of VB_* below that applies, in the order that the call's comment lists. A refused call has changed
    no byte of any buffer; the state in its answer is the one that it was handed (all 0 for a refused opening), and all else in the answer is 0, but for a
-   prune list by value, which comes back as it was handed in, and a reader's position and what is left from it. An entry, subspace or path that is answered
-   where there is none is all 0. */
+   prune list by value, which comes back as it was handed in, and a reader's position and what is left from it. An entry, subspace, path or origin that is
+   answered where there is none is all 0. */
 #ifndef VIREBONY_H
 #define VIREBONY_H
 #include <stddef.h>
@@ -29,18 +29,27 @@ extern "C" {
 /* The edition of this header. 2 brought the tally; 3 brought `held`, and vb_entry_compare in place of vb_entry_is_newer_than; with 4 an ingestion removes
    older entries only, and no longer those of equal rank. A program of edition 2 would take an entry that is held for one that was taken; one of edition 3
    would take it that an entry of equal rank below a new one is gone. 5 brought how much of a payload has arrived: vb_record_available_length and
-   vb_forget_payload, with the refusals 11 and 12; no call of edition 4 answers otherwise. */
-#define VB_EDITION 5
+   vb_forget_payload, with the refusals 11 and 12; no call of edition 4 answers otherwise. 6 brought where an entry came from: vb_origin, which the three calls
+   that file take last and a lookup answers last. A record is nine bytes longer, so a store that edition 5 kept, with an entry, is refused with 2 or 3; docs/FORMAT.md tells how to
+   carry one over, with nine zeros behind each value. */
+#define VB_EDITION 6
 
 enum {
     VB_LIMIT_MOST = 1024, /* entries that a store may be opened for */
-    VB_RECORD_MOST = 410, /* bytes of a record: a tree has so many for each entry of the limit */
+    VB_RECORD_MOST = 419, /* bytes of a record: a tree has so many for each entry of the limit */
     VB_KEY_MOST = 298,    /* bytes of a key: what a buffer for a key must have */
-    VB_VALUE = 112,       /* bytes of a record's value: payload length 8, digest 32, token 64, available length 8 */
+    VB_VALUE = 121,       /* bytes of a record's value, its last ones: payload length 8, digest 32, token 64, available length 8, origin 9 */
     VB_ITEM = 28,         /* bytes of a tally's item: subspace 16, count 4, newest timestamp 8; a tally has so many for each entry of the limit */
     VB_MCL = 64,          /* bytes of a component */
     VB_MCC = 8,           /* components of a path */
-    VB_MPL = 128          /* bytes of a path */
+    VB_MPL = 128,         /* bytes of a path */
+    /* Where the parts of a value begin, counted from the value's own first byte. Numbers are big-endian. */
+    VB_VALUE_PAYLOAD_LENGTH = 0, /* 8 bytes */
+    VB_VALUE_DIGEST = 8,         /* 32 bytes */
+    VB_VALUE_TOKEN = 40,         /* 64 bytes */
+    VB_VALUE_AVAILABLE = 104,    /* 8 bytes: the available length */
+    VB_VALUE_ORIGIN = 112,       /* 1 byte: the origin's kind, 0 for local and 1 for remote */
+    VB_VALUE_SESSION = 113       /* 8 bytes: the origin's session, 0 for local */
 };
 
 /* Why a call was refused. */
@@ -113,6 +122,10 @@ typedef struct { vb_area area; uint64_t max_count, max_size; } vb_interest;
    empty payload, whose length is 0. */
 typedef struct { uint8_t incomplete_payloads, empty_payloads; } vb_ignore;
 
+/* Where an entry came from. If `remote` is yes, from another source, in the session with this number, which may be any; else it is local, and `session` is not
+   looked at. In an origin that is answered, `session` is 0 for local. */
+typedef struct { uint8_t remote; uint64_t session; } vb_origin;
+
 /* Kept by you from one call to the next, beside the buffers; hand in the one that the last call answered. */
 typedef struct { uint8_t namespace_id[16]; size_t count, limit; } vb_state;
 
@@ -130,9 +143,9 @@ typedef struct { vb_ingested ingested; vb_pair pairs[VB_LIMIT_MOST]; } vb_pairs_
 typedef struct { uint8_t refusal; vb_state state; } vb_entry_forgotten;
 typedef struct { uint8_t refusal; vb_state state; size_t forgotten; } vb_area_forgotten;
 typedef struct { uint8_t refusal; vb_state state; } vb_available_recorded;
-/* An entry as it is stored: with its token and how much of its payload is available, as vb_record_available_length and vb_forget_payload left it since the
-   entry was filed, and 0 if neither did. */
-typedef struct { vb_entry entry; uint8_t token[64]; uint64_t available; } vb_lengthy_entry;
+/* An entry as it is stored: with its token; how much of its payload is available, as vb_record_available_length and vb_forget_payload left it since the
+   entry was filed, and 0 if neither did; and the origin that it was filed with. */
+typedef struct { vb_entry entry; uint8_t token[64]; uint64_t available; vb_origin origin; } vb_lengthy_entry;
 typedef struct { uint8_t refusal, found; vb_lengthy_entry lengthy; } vb_entry_found;
 typedef struct { uint8_t refusal, found; size_t place; } vb_listed;
 typedef struct { size_t offset, length; } vb_part;
@@ -153,7 +166,7 @@ typedef struct { uint8_t refusal, component; size_t length; uint8_t bytes[VB_MCL
 /* ---- Calls ---- */
 
 /* The buffers of a store: the subspace-first tree and its directory, the time-first tree and its directory, and the tally. A tree has at least
-   410 * limit bytes, a directory at least 2 * limit numbers, a tally at least 28 * limit bytes; what lies beyond is neither read nor written. Calls that
+   419 * limit bytes, a directory at least 2 * limit numbers, a tally at least 28 * limit bytes; what lies beyond is neither read nor written. Calls that
    read a store are not lent the tally; nor are the two that write how much of a payload has arrived, which changes neither a tally nor a directory.
 
    The tally: for each subspace with entries, in ascending order, an item of 28 bytes, and zeros behind the last item up to 28 * limit. In an item bytes
@@ -163,7 +176,7 @@ typedef struct { uint8_t refusal, component; size_t length; uint8_t bytes[VB_MCL
    No call answers what an item says: read the bytes. No item has count 0, and a place behind the last item has; so a walk until a count of 0 finds a
    subspace's item, and so does halving over as many places as the state counts entries, where a place of count 0 stands above every subspace.
    example.c shows it. A store that was kept without its tally has it again by a walk over the subspace-first tree: of each record the first 16 bytes are
-   the subspace, and the 8 bytes before its last 112 the timestamp; records of one subspace stand together. */
+   the subspace, and the 8 bytes before its last 121 the timestamp; records of one subspace stand together. */
 #define VB_BUFFERS uint8_t *spt, size_t spt_len, uint32_t *spt_dir, size_t spt_dir_len, uint8_t *tsp, size_t tsp_len, uint32_t *tsp_dir, size_t tsp_dir_len, \
     uint8_t *tally, size_t tally_len
 /* The same four buffers for the two calls about available lengths: the trees are written, the directories are only read. */
@@ -176,19 +189,19 @@ uint32_t vb_edition(void);
 /* Opens a store of no entries, for at most `limit` of them: writes zeros up to the limit's room, in the tally too. Refused: 1, 2. */
 vb_opened vb_open(const uint8_t namespace_id[16], size_t limit, VB_BUFFERS);
 
-/* Files an entry with its token and available length 0. It is obsolete, and nothing changes, if a stored entry of the subspace, at a prefix of its
+/* Files an entry with its token, its origin and available length 0. It is obsolete, and nothing changes, if a stored entry of the subspace, at a prefix of its
    path or the path itself, is newer. It is held, and nothing changes, if an entry of the same subspace, path, timestamp, digest and length is stored: the
-   stored one keeps its token and available length, whatever token comes now. Else the entries of the subspace at its path or below that are older, by
+   stored one keeps its token, available length and origin, whatever token and origin come now. Else the entries of the subspace at its path or below that are older, by
    timestamp, then digest, then payload length, are removed; an entry of equal rank stays. The pairs of those removed, as they stood before the call, in key
    order, go to the front of `prune`, which has at least `limit` pairs; `pruned` says how many, and what lies behind stays.
    Refused: 1, 2, 3, 10, 4, 6, then obsolete, held, then 7 (with `prevent_pruning`), 8. */
-vb_ingested vb_ingest_entry(vb_state state, VB_BUFFERS, vb_pair *prune, size_t prune_len, vb_entry entry, const uint8_t token[64], uint8_t prevent_pruning);
+vb_ingested vb_ingest_entry(vb_state state, VB_BUFFERS, vb_pair *prune, size_t prune_len, vb_entry entry, const uint8_t token[64], uint8_t prevent_pruning, vb_origin origin);
 
 /* vb_ingest_entry over a prune list of at least 2 * limit numbers, offset and length by turns. Refused as there. */
-vb_ingested vb_ingest_entry_numbers(vb_state state, VB_BUFFERS, uint32_t *prune, size_t prune_len, vb_entry entry, const uint8_t token[64], uint8_t prevent_pruning);
+vb_ingested vb_ingest_entry_numbers(vb_state state, VB_BUFFERS, uint32_t *prune, size_t prune_len, vb_entry entry, const uint8_t token[64], uint8_t prevent_pruning, vb_origin origin);
 
 /* vb_ingest_entry over a prune list of 1024 pairs that goes in and comes back by value, 8 KB each way: for tests. Refused as there. */
-vb_pairs_ingested vb_ingest_entry_by_value(vb_state state, VB_BUFFERS, vb_pairs prune, vb_entry entry, const uint8_t token[64], uint8_t prevent_pruning);
+vb_pairs_ingested vb_ingest_entry_by_value(vb_state state, VB_BUFFERS, vb_pairs prune, vb_entry entry, const uint8_t token[64], uint8_t prevent_pruning, vb_origin origin);
 
 /* Drops the entry at a subspace and path, if there is one. With `expects`, only if its digest is the one expected; without, the 32 bytes
    play no part, but must be there. An absent entry answers done. Refused: 1, 2, 3, 10, 4, 9. */
@@ -200,8 +213,9 @@ vb_area_forgotten vb_forget_area(vb_state state, VB_BUFFERS, vb_area area, uint8
 
 /* Records how much of a payload has arrived: `available` becomes the available length of the entry at exactly this subspace and path, in both trees. Any
    number up to the payload length will do, a smaller one than before too. With `expects`, only if the entry's digest is the one expected; without, the 32
-   bytes play no part, but must be there. Of each tree the last 8 bytes of the entry's record are written, and nothing else; the state in the answer is the
-   one handed in. An absent entry is refused, unlike in vb_forget_entry, and so is a path that is only a prefix or an extension of a stored entry's.
+   bytes play no part, but must be there. Of each tree the 8 bytes of the entry's available length are written, before the nine of its origin, and nothing
+   else; the state in the answer is the one handed in. An absent entry is refused, unlike in vb_forget_entry, and so is a path that is only a prefix or an
+   extension of a stored entry's.
    Refused: 1, 2, 3, 4, 11, 9, 12. */
 vb_available_recorded vb_record_available_length(vb_state state, VB_TREES, vb_subspace subspace, vb_path path, uint8_t expects, const uint8_t expected_digest[32], uint64_t available);
 
@@ -215,7 +229,8 @@ vb_entry_found vb_find_entry(vb_state state, VB_CONST_BUFFERS, vb_subspace subsp
    go on at the place found plus 1 until nothing is found. Refused: 1, 2, 3, 4. Writes nothing. */
 vb_listed vb_query_area_place(vb_state state, VB_CONST_BUFFERS, vb_area area, vb_ignore ignore, size_t place);
 
-/* The record of the match that vb_query_area_place answers, `length` bytes from spt + offset on, key then value. No match, or refused as there: length 0. */
+/* The record of the match that vb_query_area_place answers, `length` bytes from spt + offset on, key then value: its last VB_VALUE bytes are the value, where
+   the available length and the origin stand at VB_VALUE_AVAILABLE and VB_VALUE_ORIGIN. No match, or refused as there: length 0. */
 vb_part vb_query_area(vb_state state, VB_CONST_BUFFERS, vb_area area, vb_ignore ignore, size_t place);
 
 /* The place of a 3d range's first match at or after a place, in key order, as vb_query_area_place does for an area. Refused: 1, 2, 3, 4. Writes nothing. */
@@ -308,6 +323,7 @@ VB_ASSERT(sizeof(vb_area) == 248 && offsetof(vb_area, subspace) == 8 && offsetof
 VB_ASSERT(sizeof(vb_range) == 472 && offsetof(vb_range, paths) == 40 && offsetof(vb_range, times) == 448, "vb_range");
 VB_ASSERT(sizeof(vb_interest) == 264 && offsetof(vb_interest, max_count) == 248, "vb_interest");
 VB_ASSERT(sizeof(vb_ignore) == 2, "vb_ignore");
+VB_ASSERT(sizeof(vb_origin) == 16 && offsetof(vb_origin, session) == 8, "vb_origin");
 VB_ASSERT(sizeof(vb_state) == 32 && offsetof(vb_state, count) == 16 && offsetof(vb_state, limit) == 24, "vb_state");
 VB_ASSERT(sizeof(vb_pair) == 8, "vb_pair");
 VB_ASSERT(sizeof(vb_pairs) == 8192, "vb_pairs");
@@ -318,9 +334,9 @@ VB_ASSERT(sizeof(vb_pairs_ingested) == 8584 && offsetof(vb_pairs_ingested, pairs
 VB_ASSERT(sizeof(vb_entry_forgotten) == 40, "vb_entry_forgotten");
 VB_ASSERT(sizeof(vb_area_forgotten) == 48 && offsetof(vb_area_forgotten, forgotten) == 40, "vb_area_forgotten");
 VB_ASSERT(sizeof(vb_available_recorded) == 40 && offsetof(vb_available_recorded, state) == 8, "vb_available_recorded");
-VB_ASSERT(sizeof(vb_lengthy_entry) == 352 && offsetof(vb_lengthy_entry, token) == 280 &&
-              offsetof(vb_lengthy_entry, available) == 344, "vb_lengthy_entry");
-VB_ASSERT(sizeof(vb_entry_found) == 360 && offsetof(vb_entry_found, lengthy) == 8, "vb_entry_found");
+VB_ASSERT(sizeof(vb_lengthy_entry) == 368 && offsetof(vb_lengthy_entry, token) == 280 && offsetof(vb_lengthy_entry, available) == 344 &&
+              offsetof(vb_lengthy_entry, origin) == 352, "vb_lengthy_entry");
+VB_ASSERT(sizeof(vb_entry_found) == 376 && offsetof(vb_entry_found, lengthy) == 8, "vb_entry_found");
 VB_ASSERT(sizeof(vb_listed) == 16 && offsetof(vb_listed, place) == 8, "vb_listed");
 VB_ASSERT(sizeof(vb_part) == 16, "vb_part");
 VB_ASSERT(sizeof(vb_counted) == 16 && offsetof(vb_counted, count) == 8, "vb_counted");

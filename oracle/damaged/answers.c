@@ -23,7 +23,7 @@ static size_t write_key(int t, const item *e, uint8_t *out) {
 
 static const item *left[LIMIT_LAST + 1];
 
-/* "ascending by that tree's keys; zeros follow up to 410 × limit" */
+/* "ascending by that tree's keys; zeros follow up to 410 × limit", which with U6 reads 419 */
 static void lay_trees(lent *after, size_t n) {
     for (int t = 0; t < 2; t++) {
         size_t at = 0;
@@ -51,12 +51,20 @@ static answer refused(answer a, int number) {
 
 static item new;
 
-/* The entry that a call hands in, with its token, as an item. */
+/* U6: "the origin its entry was inserted with: a kind (0 local, 1 remote) and a big-endian session number, which is 0 for local". Handed in, every byte but 0 says remote, and the session of
+   local is not looked at. */
+static void write_origin(vb_origin o, uint8_t *value) {
+    value[KIND_AT] = o.remote ? REMOTE : LOCAL;
+    put64(value + SESSION_AT, o.remote ? o.session : 0);
+}
+
+/* The entry that a call hands in, with its token and its origin, as an item. */
 static void take_new(const call *c) {
     static uint8_t value[VALUE_BYTES];
     take_subspace(c->entry.subspace_id, new.subspace), take_path(&c->entry.path, &new);
     new.time = c->entry.timestamp, new.value = value;
     put64(value, c->entry.payload_length), memcpy(value + DIGEST_AT, c->entry.payload_digest, 32), memcpy(value + TOKEN_AT, c->token, 64);
+    write_origin(c->origin, value);
 }
 
 /* "the same subspace, path, timestamp, digest and length" */
@@ -72,11 +80,12 @@ bool judge_above_tie(const call *c) {
 }
 
 held_how judge_held_how(const call *c) {
-    held_how how = {false, false, false};
+    held_how how = {false, false, false, false};
     take_new(c);
     for (size_t k = 0; k < judged_store->state.count; k++) {
         const item *e = judged_items + k;
-        if (same_entry(e, &new)) how.available = be64(e->value + AVAILABLE_AT), how.other_token = memcmp(e->value + TOKEN_AT, c->token, 64);
+        if (same_entry(e, &new))
+            how.available = be64(e->value + AVAILABLE_AT), how.other_token = memcmp(e->value + TOKEN_AT, c->token, 64), how.other_origin = memcmp(e->value + KIND_AT, new.value + KIND_AT, VALUE_BYTES - KIND_AT);
         else if (same_subspace(e, &new) && (prefixes(e, &new) || prefixes(&new, e)) && compared(e, &new) == SAME) how.beside_tie = true;
     }
     return how;
@@ -95,7 +104,7 @@ static answer ingested(const call *c, lent *after, answer a) {
         }
     }
     for (size_t k = 0; k < after->state.count; k++)
-        if (same_entry(judged_items + k, &new)) { /* "Nothing changes then, the token included" */
+        if (same_entry(judged_items + k, &new)) { /* "Nothing changes then, the token included"; nor the origin */
             a.held = 1;
             return a;
         }
@@ -190,6 +199,18 @@ recorded_how judge_recorded_how(const call *c) {
         }
     }
     return how;
+}
+
+bool judge_stored_origin(const call *c, vb_origin *origin) {
+    item at;
+    take_subspace(c->entry.subspace_id, at.subspace), take_path(&c->entry.path, &at);
+    for (size_t k = 0; k < judged_store->state.count; k++) {
+        const item *e = judged_items + k;
+        if (!same_subspace(e, &at) || !same_path(e, &at)) continue;
+        *origin = give_origin(e->value);
+        return true;
+    }
+    return false;
 }
 
 vb_entry judge_entry(size_t place) {

@@ -50,7 +50,7 @@ static answer told_ingested(vb_ingested r) {
 static answer by_value(const call *c, lent *s) {
     static vb_pairs pairs;
     memcpy(&pairs, s->prune, sizeof pairs);
-    vb_pairs_ingested r = vb_ingest_entry_by_value(s->state, CHANGED, pairs, c->entry, c->token, c->prevent_pruning);
+    vb_pairs_ingested r = vb_ingest_entry_by_value(s->state, CHANGED, pairs, c->entry, c->token, c->prevent_pruning, c->origin);
     memcpy(s->prune, r.pairs, sizeof r.pairs);
     return told_ingested(r.ingested);
 }
@@ -67,8 +67,8 @@ static answer make(const call *c, lent *s) {
         a.refusal = r.refusal, a.state = r.state;
         break;
     }
-    case INGEST: return told_ingested(vb_ingest_entry(s->state, CHANGED, (vb_pair *)s->prune, s->prune_numbers / 2, c->entry, c->token, c->prevent_pruning));
-    case INGEST_NUMBERS: return told_ingested(vb_ingest_entry_numbers(s->state, CHANGED, s->prune, s->prune_numbers, c->entry, c->token, c->prevent_pruning));
+    case INGEST: return told_ingested(vb_ingest_entry(s->state, CHANGED, (vb_pair *)s->prune, s->prune_numbers / 2, c->entry, c->token, c->prevent_pruning, c->origin));
+    case INGEST_NUMBERS: return told_ingested(vb_ingest_entry_numbers(s->state, CHANGED, s->prune, s->prune_numbers, c->entry, c->token, c->prevent_pruning, c->origin));
     case INGEST_BY_VALUE: return by_value(c, s);
     case FORGET_ENTRY: {
         vb_entry_forgotten r = vb_forget_entry(s->state, CHANGED, c->entry.subspace_id, c->entry.path, c->expects, c->entry.payload_digest);
@@ -116,8 +116,9 @@ static const char *const names[] = {"open", "ingest", "ingest, numbers", "ingest
 /* What came, by kind: each number of a refusal; answers of yes (obsolete, found); those of held; those that name something (pruned, forgotten, counted, a part,
    times that start elsewhere than the area's). */
 static long came[CALL_KINDS][13], yeses[CALL_KINDS], held_verdicts[CALL_KINDS], named[CALL_KINDS], calls;
-/* How an entry was held: with pruning prevented, by a full store, with another token, beside a tie, with an available length. */
-static long held_ways[5];
+/* How an entry was held: with pruning prevented, by a full store, with another token, beside a tie, with an available length, with another origin. */
+enum { HELD_WAYS = 6 };
+static long held_ways[HELD_WAYS];
 /* What became of an entry above one that ties with it: taken; with pruning prevented; while something older went; refused with 7, for something older; with 8. */
 static long tied_ways[5];
 /* What became of an available length: recorded, another than before; the same; a smaller one; the whole payload's; 0 of 0; though the digest, which was not expected, is
@@ -125,6 +126,34 @@ static long tied_ways[5];
    as well; refused with 12, being one too great; 12, being the greatest. */
 enum { ANOTHER, THE_SAME, SMALLER, WHOLE, NONE_OF_NONE, DIGEST_NOT_EXPECTED, BESIDE_WRONG_TALLY, BELOW_IS_STORED, ABOVE_IS_STORED, NEITHER_IS, NINE_AND_TOO_GREAT, ONE_TOO_GREAT, GREATEST, RECORD_WAYS };
 static long record_ways[2][RECORD_WAYS];
+
+/* Origins: an entry was filed as local; as local, with a session that is not looked at; as remote 0; as remote with another session below 2^63, from there on, the greatest; by
+   another yes than 1; in place of one with another origin. A lookup showed local, remote 0, remote with a number; nothing, since the flags hide a remote entry, or none stands there. A
+   length was recorded, or forgotten, of a remote entry. */
+enum { LOCAL_FILED, SESSION_NOT_LOOKED_AT, REMOTE_0_FILED, BELOW_2_63, FROM_2_63, THE_GREATEST, ANOTHER_YES, IN_PLACE_OF_ANOTHER, LOCAL_SHOWN, REMOTE_0_SHOWN, SESSION_SHOWN, REMOTE_HIDDEN, NONE_THERE,
+       REMOTE_RECORDED, REMOTE_UNRECORDED, ORIGINS };
+static long origins[ORIGINS];
+
+/* Counts the origins of a call that was not refused, on the store that the judge has read. */
+static void count_origins(const call *c, const answer *want) {
+    const vb_origin o = c->origin, shown = want->lengthy.origin;
+    vb_origin stored;
+    bool there = judge_stored_origin(c, &stored), remote = there && stored.remote;
+    switch (c->kind) {
+    case INGEST: case INGEST_NUMBERS: case INGEST_BY_VALUE:
+        if (want->yes || want->held) break;
+        origins[LOCAL_FILED] += !o.remote, origins[SESSION_NOT_LOOKED_AT] += !o.remote && o.session, origins[REMOTE_0_FILED] += o.remote && !o.session;
+        origins[BELOW_2_63] += o.remote && o.session && !(o.session >> 63), origins[FROM_2_63] += o.remote && o.session >> 63;
+        origins[THE_GREATEST] += o.remote && o.session == UINT64_MAX, origins[ANOTHER_YES] += o.remote > 1;
+        origins[IN_PLACE_OF_ANOTHER] += there && (remote != (o.remote != 0) || (remote && stored.session != o.session));
+        break;
+    case FIND_ENTRY:
+        origins[LOCAL_SHOWN] += want->yes && !shown.remote, origins[REMOTE_0_SHOWN] += want->yes && shown.remote && !shown.session, origins[SESSION_SHOWN] += want->yes && shown.session;
+        origins[REMOTE_HIDDEN] += !want->yes && remote, origins[NONE_THERE] += !there;
+        break;
+    default: origins[c->kind == FORGET_PAYLOAD ? REMOTE_UNRECORDED : REMOTE_RECORDED] += remote;
+    }
+}
 
 /* Counts the ways of a recording, or of a forgetting of one, on the store that the judge has read. */
 static void count_record_ways(const call *c, const answer *want) {
@@ -164,14 +193,16 @@ static answer judged_call(const call *c, int damage) {
     if (want.held) {
         held_how how = judge_held_how(c);
         held_ways[0] += c->prevent_pruning != 0, held_ways[1] += store.state.count == store.state.limit, held_ways[2] += how.other_token;
-        held_ways[3] += how.beside_tie, held_ways[4] += how.available;
+        held_ways[3] += how.beside_tie, held_ways[4] += how.available, held_ways[5] += how.other_origin;
     }
     bool taken = c->kind > OPEN && c->kind < FORGET_ENTRY && !want.refusal && !want.yes && !want.held;
     if ((taken || want.refusal == 7 || want.refusal == 8) && judge_above_tie(c)) {
         tied_ways[0] += taken, tied_ways[1] += taken && c->prevent_pruning, tied_ways[2] += taken && want.number;
         tied_ways[3] += want.refusal == 7, tied_ways[4] += want.refusal == 8;
     }
-    if (c->kind == RECORD_AVAILABLE || c->kind == FORGET_PAYLOAD) count_record_ways(c, &want);
+    bool records = c->kind == RECORD_AVAILABLE || c->kind == FORGET_PAYLOAD;
+    if (records) count_record_ways(c, &want);
+    if (!want.refusal && (records || c->kind == FIND_ENTRY || (c->kind > OPEN && c->kind < FORGET_ENTRY))) count_origins(c, &want);
     named[c->kind] += want.number || want.part.length || (c->kind == INTEREST && !want.refusal && want.range.times.start != c->area.times.start);
     return got;
 }
@@ -237,13 +268,26 @@ static void reach(void) {
     if (refusal) printf("fault: a reached store is refused with %d, seed %llx\n", refusal, (unsigned long long)seed), exit(1);
 }
 
-static long refused[4], short_lists, short_tallies, wrong_tallies, full, most_full, kinds[DAMAGES][2];
+static long refused[4], short_lists, short_tallies, wrong_tallies, full, most_full, kinds[DAMAGES][2], origin_damages[ORIGIN_WAYS][WHERE];
+
+static const char *const origin_ways[] = {"kind 2", "kind 255", "another kind", "local with a session", "another session", "remote 0 for local"};
+static const char *const where_names[] = {"the subspace-first tree alone", "the time-first tree alone", "both trees"};
+
+/* A store of which an entry's origin was damaged, counted; by 02's words it is well-formed only where both trees have the same legal origin. */
+static void count_origin_damage(int worst) {
+    bool sound = origin_where == BOTH && (origin_way == ANOTHER_SESSION || origin_way == REMOTE_0);
+    origin_damages[origin_way][origin_where]++;
+    if (worst == (sound ? 0 : 3)) return;
+    printf("fault: a store gets %d of the judge, whose damage is %s in %s; seed %llx\n", worst, origin_ways[origin_way], where_names[origin_where], (unsigned long long)seed);
+    exit(1);
+}
 
 static void every_call(int damage) {
     copy(&before, &now);
     lent was = in_buffers(&before);
     int worst = judge_reads(&was);
     refused[worst]++, kinds[damage][!worst]++;
+    if (origin_way < ORIGIN_WAYS) count_origin_damage(worst);
     full += !worst && store.state.count == store.state.limit, most_full += !worst && store.state.count == VB_LIMIT_MOST;
     short_lists += !worst && store.prune_numbers < 2 * store.state.limit;
     short_tallies += !worst && store.tally_bytes < VB_ITEM * store.state.limit, wrong_tallies += judge_refuses(FORGET_AREA, &was) == 10;
@@ -275,11 +319,12 @@ static int table(bool enough) {
         puts("");
         for (const char *p = can[k]; *p; p++) missing += !(*p == 'y' ? yeses[k] : *p == 'h' ? held_verdicts[k] : *p == '+' ? named[k] : came[k][*p == 't' ? 10 : *p == 'e' ? 11 : *p == 'w' ? 12 : *p - '0']);
     }
-    printf("held: with pruning prevented %ld, by a full store %ld, with another token %ld, beside a tie %ld, with an available length %ld\n", held_ways[0], held_ways[1],
-           held_ways[2], held_ways[3], held_ways[4]);
+    printf("held: with pruning prevented %ld, by a full store %ld, with another token %ld, beside a tie %ld, with an available length %ld, with another origin %ld\n", held_ways[0], held_ways[1],
+           held_ways[2], held_ways[3], held_ways[4], held_ways[5]);
     printf("above a tie: taken %ld, with pruning prevented %ld, while something older went %ld; refused with 7 %ld, with 8 %ld\n", tied_ways[0], tied_ways[1], tied_ways[2],
            tied_ways[3], tied_ways[4]);
-    for (int i = 0; i < 5; i++) missing += !held_ways[i], missing += !tied_ways[i];
+    for (int i = 0; i < HELD_WAYS; i++) missing += !held_ways[i];
+    for (int i = 0; i < 5; i++) missing += !tied_ways[i];
     for (int forgets = 0; forgets < 2; forgets++) {
         const long *w = record_ways[forgets];
         printf("%s: another length than before %ld, the same %ld, smaller %ld, the whole %ld, 0 of 0 %ld, with another digest that was not expected %ld, beside a wrong or short tally %ld; "
@@ -288,6 +333,17 @@ static int table(bool enough) {
                w[ABOVE_IS_STORED], w[NEITHER_IS], w[NINE_AND_TOO_GREAT], w[ONE_TOO_GREAT], w[GREATEST]);
         for (int i = 0; i < (forgets ? NINE_AND_TOO_GREAT : RECORD_WAYS); i++) missing += !w[i] && !(forgets && i == WHOLE); /* 0 is never too great, nor a whole payload */
     }
+    printf("origins: filed as local %ld, of these with a session %ld; as remote 0 %ld, remote below 2^63 %ld, from there on %ld, of these the greatest %ld; by another yes than 1 %ld; in place of another origin %ld; "
+           "lookups show local %ld, remote 0 %ld, remote with a number %ld, nothing for a remote entry %ld, nothing where none stands %ld; lengths of remote entries recorded %ld, forgotten %ld\n",
+           origins[LOCAL_FILED], origins[SESSION_NOT_LOOKED_AT], origins[REMOTE_0_FILED], origins[BELOW_2_63], origins[FROM_2_63], origins[THE_GREATEST], origins[ANOTHER_YES], origins[IN_PLACE_OF_ANOTHER],
+           origins[LOCAL_SHOWN], origins[REMOTE_0_SHOWN], origins[SESSION_SHOWN], origins[REMOTE_HIDDEN], origins[NONE_THERE], origins[REMOTE_RECORDED], origins[REMOTE_UNRECORDED]);
+    for (int i = 0; i < ORIGINS; i++) missing += !origins[i];
+    fputs("damaged origins, in the subspace-first tree alone, in the time-first, in both:", stdout);
+    for (int i = 0; i < ORIGIN_WAYS; i++) {
+        printf("%s %s %ld, %ld, %ld", i ? ";" : "", origin_ways[i], origin_damages[i][0], origin_damages[i][1], origin_damages[i][2]);
+        for (int t = 0; t < WHERE; t++) missing += !origin_damages[i][t];
+    }
+    puts("; the last two in both are well-formed, all others 3");
     if (missing && enough) printf("fault: %d kinds of answers never came\n", missing);
     return missing && enough;
 }
@@ -302,9 +358,13 @@ int main(int argc, char **argv) {
         copy(&reached, &now);
         for (int i = 0; i < 20 && done < stores; i++) {
             int kind = (int)below(DAMAGES);
+            origin_way = ORIGIN_WAYS;
             damage(kind);
             if (kind < TALLY_DAMAGES && !judge_reads(&store) && !one_in(4)) right_tally();
-            if (one_in(8) && !judge_reads(&store) && store.prune_numbers >= 2 * store.state.limit) damage((int)below(DAMAGES));
+            if (one_in(8) && !judge_reads(&store) && store.prune_numbers >= 2 * store.state.limit) {
+                origin_way = ORIGIN_WAYS;
+                damage((int)below(DAMAGES));
+            }
             /* where the damage had nothing to change, the store is not counted */
             if (differ(&now, &reached) || memcmp(&store, &at, sizeof at)) every_call(kind), done++;
             store = at;

@@ -13,7 +13,35 @@ static uint32_t odd_number(uint32_t x) {
     }
 }
 
-enum { TALLY_DAMAGES = 23, DAMAGES = 29 }; /* those from TALLY_DAMAGES on change the tally only */
+enum { ORIGIN_DAMAGES = 23, TALLY_DAMAGES = 29, DAMAGES = 35 }; /* those from TALLY_DAMAGES on change the tally only */
+
+/* What is done to an entry's origin, and in which tree: the last two leave every value legal, and the store well-formed if both trees are changed alike. */
+enum origin_damage { KIND_2, KIND_255, ANOTHER_KIND, LOCAL_WITH_A_SESSION, ANOTHER_SESSION, REMOTE_0, ORIGIN_WAYS };
+enum where { SUBSPACE_FIRST_ALONE, TIME_FIRST_ALONE, BOTH, WHERE };
+static int origin_way = ORIGIN_WAYS, origin_where; /* what was done to the store as it is, if anything of this */
+
+/* The origin's nine bytes in a value. */
+static void put_origin(uint8_t *value, uint8_t kind, uint64_t session) { value[VB_VALUE_ORIGIN] = kind, put64(value + VB_VALUE_SESSION, session); }
+
+/* Damages the origin of one entry, whose two values are handed in. */
+static void damage_origin(enum origin_damage way, enum where where, uint8_t *values[2]) {
+    uint64_t any = one_in(2) ? 0 : one_in(2) ? below(9) : random64(), some = one_in(2) ? 1ull << below(64) : one_in(2) ? UINT64_MAX : 1 + random64() / 2;
+    uint8_t kind = (uint8_t)(3 + below(252));
+    uint64_t seven = one_in(2) ? 7 : random64();
+    for (int t = 0; t < 2; t++) {
+        bool changed = where == BOTH || (int)where == t;
+        switch (way) {
+        case KIND_2: case KIND_255: case ANOTHER_KIND:
+            if (changed) put_origin(values[t], way == KIND_2 ? 2 : way == KIND_255 ? 255 : kind, any);
+            break;
+        case LOCAL_WITH_A_SESSION:
+            if (changed) put_origin(values[t], 0, some);
+            break;
+        case ANOTHER_SESSION: put_origin(values[t], 1, changed ? seven + 1 : seven); break;
+        default: put_origin(values[t], changed, 0); /* remote 0, and local in the other */
+        }
+    }
+}
 
 static void damage(int kind) {
     int t = (int)below(2);
@@ -130,8 +158,8 @@ static void damage(int kind) {
         if (n) {
             uint64_t x = one_in(4) ? random64() : below(5);
             int both = !one_in(3);
-            if (both || t == 0) put64(r->b + key + 104, x);
-            if (both || t == 1) put64(o->b + key + 104, x);
+            if (both || t == 0) put64(r->b + key + VB_VALUE_AVAILABLE, x);
+            if (both || t == 1) put64(o->b + key + VB_VALUE_AVAILABLE, x);
         }
         put_together();
         break;
@@ -167,26 +195,34 @@ static void damage(int kind) {
             for (uint64_t i = first; i < n; i++) store.dir[t][2 * i]++;
         }
         break;
-    case 23: /* a byte of an item: of its subspace, its count or its timestamp */
+    case 23: case 24: case 25: case 26: case 27: case 28: /* an entry's origin, in one tree or in both */
+        if (n) {
+            uint8_t *values[] = {r->b + key, o->b + key};
+            origin_way = kind - ORIGIN_DAMAGES, origin_where = (int)below(WHERE);
+            damage_origin(origin_way, origin_where, values);
+        }
+        put_together();
+        break;
+    case 29: /* a byte of an item: of its subspace, its count or its timestamp */
         if (items) store.tally[VB_ITEM * from + (one_in(2) ? below(VB_ITEM) : 16 + below(VB_ITEM - 16))] ^= 1 << below(8);
         break;
-    case 24: /* two items change places */
+    case 30: /* two items change places */
         memcpy(other, store.tally + VB_ITEM * from, VB_ITEM);
         memcpy(store.tally + VB_ITEM * from, store.tally + VB_ITEM * to, VB_ITEM);
         memcpy(store.tally + VB_ITEM * to, other, VB_ITEM);
         break;
-    case 25: /* an item left out */
+    case 31: /* an item left out */
         if (items) {
             memmove(store.tally + VB_ITEM * from, store.tally + VB_ITEM * (from + 1), VB_ITEM * (items - from - 1));
             memset(store.tally + VB_ITEM * (items - 1), 0, VB_ITEM);
         }
         break;
-    case 26: { /* a byte behind the last item, the first one or the last one of the room among them */
+    case 32: { /* a byte behind the last item, the first one or the last one of the room among them */
         size_t behind = VB_ITEM * (store.state.limit - items);
         if (behind) store.tally[VB_ITEM * items + (one_in(3) ? 0 : one_in(2) ? behind - 1 : below(behind))] = 1 + below(255);
         break;
     }
-    case 27: /* a tally too short */
+    case 33: /* a tally too short */
         store.tally_bytes = one_in(2) ? VB_ITEM * store.state.limit - 1 : below(VB_ITEM * store.state.limit);
         break;
     default: /* the tally of another store: without an entry, with one twice, or with another time for one */

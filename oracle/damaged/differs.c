@@ -18,7 +18,9 @@ static const char *entries_differ(const vb_lengthy_entry *x, const vb_lengthy_en
     if (a->payload_length != b->payload_length) return "the entry's payload length";
     if (memcmp(a->payload_digest, b->payload_digest, 32)) return "the entry's digest";
     if (memcmp(x->token, y->token, 64)) return "the entry's token";
-    return x->available == y->available ? NULL : "the entry's available length";
+    if (x->available != y->available) return "the entry's available length";
+    if (x->origin.remote != y->origin.remote) return "the entry's origin, local or remote";
+    return x->origin.session == y->origin.session ? NULL : "the entry's origin, its session";
 }
 
 static const char *ranges_differ(const vb_range *a, const vb_range *b) {
@@ -41,7 +43,7 @@ static const char *shown(const call *c, const answer *got) {
         const item *e = judged_items + k;
         vb_lengthy_entry one;
         give_entry(e, &one);
-        one.available = 0; /* is not told */
+        one.available = 0, memset(&one.origin, 0, sizeof one.origin); /* are not told */
         if (same_subspace(e, &new) && prefixes(e, &new) && compared(e, &new) == NEWER && !entries_differ(&one, &got->lengthy)) return NULL;
     }
     return "the newer entry shown";

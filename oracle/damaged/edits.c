@@ -1,19 +1,22 @@
 /* Random edits of a store through the door, each beside a plain copy in C: two lists of records, sorted by key, into which a record is put, or out of which
-   some are taken, by plain memmove, or in which the last 8 bytes of one are written. After each edit both trees, both directories and the tally are compared byte for byte, and the pairs of what was
-   pruned; then a byte behind the last record, an offset, a byte of a key's end and an available length in one tree are damaged in turn, and each must be refused with 3, and a
-   byte of the tally, which must be refused with 10. Ends with 1 at the first difference. */
+   some are taken, by plain memmove, or in which the available length of one is written. After each edit both trees, both directories and the tally are compared byte for byte, and the pairs of what was
+   pruned, and a lookup shows the origin of the copy; then a byte behind the last record, an offset, a byte of a key's end, an available length in one tree, an origin's kind and its session, in
+   one tree or in both, are damaged in turn, and each must be refused with 3, and a byte of the tally, which must be refused with 10. Ends with 1 at the first difference. */
 #include "virebony.h"
 #include <stdbool.h>
 #include <stdio.h>
 #include <stdlib.h>
 #include <string.h>
 
-enum { MOST = 40, RECORD = 410, VALUE = 112, ITEM = 28, SUBSPACES = 4 };
+enum { MOST = 40, RECORD = 419, VALUE = 121, ITEM = 28, SUBSPACES = 4 };
+/* Bytes of the origin at a record's end, and how far from that end the last byte of the available length stands. */
+enum { ORIGIN = 9, LENGTH_BEFORE = ORIGIN + 1 };
 
 /* A path is one component `n` and `more` components of 16 bytes, so one prefixes another if `n` is the same and `more` not greater. */
 typedef struct {
     uint64_t n, time;
     int more, subspace;
+    vb_origin origin; /* as it was handed in */
     size_t len[2];
     uint8_t record[2][RECORD];
 } Copy;
@@ -55,7 +58,9 @@ static void write_records(Copy *c) {
         if (!t) p = put64(p, c->time);
         p = put64(p, 7);
         for (int i = 0; i < 96; i++) *p++ = i;
-        c->len[t] = put64(p, 0) - c->record[t];
+        p = put64(p, 0);
+        *p++ = c->origin.remote != 0;
+        c->len[t] = put64(p, c->origin.remote ? c->origin.session : 0) - c->record[t];
     }
 }
 
@@ -116,7 +121,7 @@ static int record(const Copy *at, bool other_digest, const uint64_t *length, lon
     if (other_digest) return kinds[14] += length && *length > 7, 9;
     if (length && *length > 7) return kinds[15]++, 12;
     for (int t = 0; t < 2; t++) {
-        uint8_t *last = c->record[t] + c->len[t] - 1; /* lengths are at most 7, so that seven of the 8 bytes are 0 */
+        uint8_t *last = c->record[t] + c->len[t] - LENGTH_BEFORE; /* lengths are at most 7, so that seven of the 8 bytes are 0 */
         if (t) kinds[length ? *length > *last ? 9 : *length < *last ? 10 : 11 : *last ? 16 : 17]++;
         *last = (uint8_t)(length ? *length : 0);
     }
@@ -163,6 +168,52 @@ static const char *laid(void) {
     return state.count == copied ? NULL : "the count";
 }
 
+/* A lookup of a stored entry shows its origin, of a place where none stands local. */
+static const char *looked_up(void) {
+    static const vb_ignore none;
+    Copy at = {0};
+    at.subspace = rand() % SUBSPACES, at.more = rand() % 4;
+    if (copied && rand() % 8) at = copies[rand() % copied];
+    bool stored = false;
+    for (size_t k = 0; k < copied; k++)
+        if (covers(copies + k, &at) && copies[k].more == at.more) stored = true, at = copies[k];
+    vb_entry e = entry(&at);
+    vb_entry_found f = vb_find_entry(state, READ, e.subspace_id, e.path, none);
+    bool remote = stored && at.origin.remote;
+    if (f.refusal || f.found != stored) return "a lookup";
+    return f.lengthy.origin.remote == remote && f.lengthy.origin.session == (remote ? at.origin.session : 0) ? NULL : "the origin that a lookup shows";
+}
+
+/* The origin's nine bytes of a copy's record, in a tree of the store. */
+static uint8_t *origin_in(int t, const Copy *c) {
+    for (size_t k = 0; k < copied; k++)
+        if (dir[t][2 * k + 1] == c->len[t] && !memcmp(tree[t] + dir[t][2 * k], c->record[t], c->len[t])) return tree[t] + dir[t][2 * k] + dir[t][2 * k + 1] - ORIGIN;
+    abort();
+}
+
+/* Origins that no value may have, in one tree or in both, and legal ones that differ between the trees: 3. A legal one in both trees: none. */
+static const char *damaged_origin(const Copy *c, vb_area all) {
+    uint8_t *nine[] = {origin_in(0, c), origin_in(1, c)}, kept[ORIGIN];
+    memcpy(kept, nine[0], sizeof kept);
+    int t = rand() % 2;
+    bool remote = kept[0];
+    nine[t][0] = (uint8_t)(2 + rand() % 254);
+    if (vb_count_area(state, READ, all).refusal != 3) return "another kind in one tree";
+    nine[!t][0] = nine[t][0];
+    if (vb_count_area(state, READ, all).refusal != 3) return "another kind in both trees";
+    nine[0][0] = nine[1][0] = 0, nine[0][1 + rand() % 8] |= 1, memcpy(nine[1], nine[0], sizeof kept);
+    if (vb_count_area(state, READ, all).refusal != 3) return "local with a session in both trees";
+    nine[0][0] = nine[1][0] = 1;
+    if (vb_count_area(state, READ, all).refusal) return "remote with a session in both trees";
+    nine[t][1 + rand() % 8] ^= 1 << rand() % 8;
+    if (vb_count_area(state, READ, all).refusal != 3) return "another session in one tree";
+    memcpy(nine[0], kept, sizeof kept), memcpy(nine[1], kept, sizeof kept);
+    memset(nine[t], 0, sizeof kept), nine[t][0] = !remote; /* local for remote, remote 0 for local */
+    if (vb_count_area(state, READ, all).refusal != 3) return "local in one tree and remote in the other";
+    memcpy(nine[t], kept, sizeof kept);
+    return NULL;
+}
+
 static const char *damaged(void) {
     int t = rand() % 2;
     size_t end = copied ? dir[t][2 * copied - 2] + dir[t][2 * copied - 1] : 0, k = copied ? rand() % copied : 0;
@@ -188,12 +239,19 @@ static const char *damaged(void) {
     if (vb_count_area(state, READ, all).refusal != 3) return "a byte of a key's end";
     tree[t][last] = 0;
     vb_entry e = entry(copies + rand() % copied);
-    last = dir[t][2 * k] + dir[t][2 * k + 1] - 1;
+    last = dir[t][2 * k] + dir[t][2 * k + 1] - LENGTH_BEFORE;
     tree[t][last] ^= 1;
     if (vb_record_available_length(state, READ, e.subspace_id, e.path, 0, e.payload_digest, 8).refusal != 3) return "a recording, an available length in one tree";
     if (vb_forget_payload(state, READ, e.subspace_id, e.path, 0, e.payload_digest).refusal != 3) return "a forgetting of a payload, an available length in one tree";
     tree[t][last] ^= 1;
-    return NULL;
+    return damaged_origin(copies + k, all);
+}
+
+/* Local, also with a session, which is not looked at; remote 0, a small number, a great one, the greatest. */
+static vb_origin some_origin(void) {
+    static const uint64_t sessions[] = {0, 0, 1, 7, 256, 1ull << 63, UINT64_MAX, 0x0102030405060708};
+    vb_origin o = {rand() % 3 == 0 ? 0 : (uint8_t)(rand() % 2 ? 1 : 1 + rand() % 255), sessions[rand() % 8]};
+    return o;
 }
 
 static const char *ingest(long *kinds) {
@@ -204,7 +262,12 @@ static const char *ingest(long *kinds) {
         c = copies[rand() % copied];
         if (rand() % 2) c.more = rand() % 4;
     }
+    c.origin = some_origin();
     write_records(&c);
+    const Copy *there = NULL; /* what stands at its place */
+    for (size_t k = 0; k < copied; k++)
+        if (covers(copies + k, &c) && copies[k].more == c.more) there = copies + k;
+    bool other_origin = there && memcmp(there->record[0] + there->len[0] - ORIGIN, c.record[0] + c.len[0] - ORIGIN, ORIGIN);
     bool above_tie = false;
     for (size_t k = 0; k < copied; k++) above_tie |= covers(&c, copies + k) && copies[k].more > c.more && copies[k].time == c.time;
     vb_entry e = entry(&c);
@@ -212,12 +275,14 @@ static const char *ingest(long *kinds) {
     size_t pruned = 0;
     for (int i = 0; i < 64; i++) token[i] = 32 + i;
     int said = put_in(&c, &pruned);
-    vb_ingested r = vb_ingest_entry(state, STORE, prune, state.limit, e, token, 0);
+    vb_ingested r = vb_ingest_entry(state, STORE, prune, state.limit, e, token, 0, c.origin);
     if (r.obsolete != (said == -1) || r.held != (said == -2) || r.refusal != (said > 0 ? said : 0)) return "a verdict";
     if (!said && (r.pruned != pruned || memcmp(prune, want_prune, pruned * sizeof *prune))) return "a pair";
     state = r.state;
     kinds[said == -1 ? 1 : said == -2 ? 6 : said ? 2 : pruned ? 3 : 0]++;
     kinds[7] += above_tie && !said, kinds[8] += above_tie && said > 0;
+    kinds[18] += !said && !c.origin.remote, kinds[19] += !said && !c.origin.remote && c.origin.session, kinds[20] += !said && c.origin.remote && !c.origin.session;
+    kinds[21] += !said && c.origin.remote && c.origin.session, kinds[22] += !said && other_origin, kinds[23] += said == -2 && other_origin;
     return NULL;
 }
 
@@ -266,7 +331,8 @@ static const char *arrive(long *kinds) {
 
 int main(void) {
     static const uint8_t namespace_id[16];
-    long done = 0, kinds[18] = {0};
+    enum { KINDS = 24 };
+    long done = 0, kinds[KINDS] = {0};
     for (int seed = 0; seed < 220; seed++) {
         srand(seed);
         copied = 0, state.limit = 1 + rand() % MOST;
@@ -274,6 +340,7 @@ int main(void) {
         for (int s = 0; s < 400; s++) {
             const char *wrong = rand() % 4 == 0 ? arrive(kinds) : rand() % 3 ? ingest(kinds) : forget(kinds);
             if (!wrong) wrong = laid();
+            if (!wrong) wrong = looked_up();
             if (!wrong) wrong = damaged();
             if (wrong) return printf("%s, seed %d, step %d\n", wrong, seed, s), 1;
             done++;
@@ -283,7 +350,9 @@ int main(void) {
            kinds[0], kinds[1], kinds[6], kinds[2], kinds[3], kinds[4], kinds[5], kinds[7], kinds[8]);
     printf("available lengths: %ld greater than before, %ld smaller, %ld the same, %ld forgotten, %ld forgotten that were 0; refused: 11 with an extension stored %ld, with a prefix %ld, "
            "9 that would be 12 too %ld, 12 %ld\n", kinds[9], kinds[10], kinds[11], kinds[16], kinds[17], kinds[12], kinds[13], kinds[14], kinds[15]);
-    for (int i = 0; i < 18; i++)
+    printf("origins: %ld put in as local, %ld of them with a session, %ld as remote 0, %ld as remote with a number, %ld in place of another; %ld held with another\n", kinds[18], kinds[19], kinds[20],
+           kinds[21], kinds[22], kinds[23]);
+    for (int i = 0; i < KINDS; i++)
         if (!kinds[i]) return printf("an edit of kind %d never came\n", i), 1;
     return 0;
 }

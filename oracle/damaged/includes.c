@@ -45,6 +45,14 @@ static vb_subspace give_subspace(const uint8_t in[16]) {
     return s;
 }
 
+/* U6: "Lookups show the origin as local, or remote with its session" */
+vb_origin give_origin(const uint8_t *value) {
+    vb_origin o;
+    memset(&o, 0, sizeof o);
+    if (value[KIND_AT] == REMOTE) o.remote = 1, o.session = be64(value + SESSION_AT);
+    return o;
+}
+
 void give_entry(const item *e, vb_lengthy_entry *out) {
     memset(out, 0, sizeof *out);
     memcpy(out->entry.namespace_id, judged_store->state.namespace_id, 16);
@@ -55,6 +63,7 @@ void give_entry(const item *e, vb_lengthy_entry *out) {
     memcpy(out->entry.payload_digest, e->value + DIGEST_AT, 32);
     memcpy(out->token, e->value + TOKEN_AT, 64);
     out->available = be64(e->value + AVAILABLE_AT);
+    out->origin = give_origin(e->value);
 }
 
 /* Order, areas and ranges */

@@ -7,12 +7,16 @@ enum {
     COMPONENT_MOST = 64, /* "MCL = 64 bytes a component, MCC = 8 components, MPL = 128 bytes a path" */
     COMPONENTS_MOST = 8,
     PATH_MOST = 128,
-    KEY_LEAST = 26, /* "Key length is 26 to 298, a record at most 410" */
-    RECORD_BYTES = 410,
-    VALUE_BYTES = 112, /* "payload length 8, digest 32, token 64, available length 8" */
+    KEY_LEAST = 26, /* "Key length is 26 to 298"; U6: "A record is then at most 419 bytes" */
+    RECORD_BYTES = 419,
+    VALUE_BYTES = 121, /* "payload length 8, digest 32, token 64, available length 8"; U6: "Each value gains nine bytes at its end", "a kind (0 local, 1 remote) and a big-endian session number" */
     DIGEST_AT = 8,
     TOKEN_AT = 40,
     AVAILABLE_AT = 104,
+    KIND_AT = 112,
+    SESSION_AT = 113,
+    LOCAL = 0,
+    REMOTE = 1,
     LIMIT_LAST = 1024,
     ITEM_BYTES = 28, /* "16 bytes subspace, 4 bytes count, 8 bytes newest timestamp, big-endian" */
     COUNT_AT = 16,
@@ -48,6 +52,7 @@ void put64(uint8_t *p, uint64_t x);
 void take_path(const vb_path *p, item *e);
 void give_path(const item *e, vb_path *p);
 void take_subspace(vb_subspace s, uint8_t out[16]);
+vb_origin give_origin(const uint8_t *value);
 void give_entry(const item *e, vb_lengthy_entry *out);
 int subspace_first(const void *x, const void *y);
 int time_first(const void *x, const void *y);

@@ -1,4 +1,4 @@
-/* A judge of the store's calls, written from document 01 and from 02's U1 (the tally), U2 (the same entry twice), U3 (ties) and U4 (how much has arrived), and sharing no
+/* A judge of the store's calls, written from document 01 and from 02's U1 (the tally), U2 (the same entry twice), U3 (ties), U4 (how much has arrived) and U6 (where an entry came from), and sharing no
    code and no number with the port or with whoever makes the calls: of the header it uses the shapes of values only. It reads a store once, as it was lent, and then says of each call on it
    what the answer is and what every byte of the buffers is afterwards. */
 #ifndef JUDGE_H
@@ -25,6 +25,7 @@ typedef struct {
     enum call_kind kind;
     vb_entry entry; /* its subspace, path and digest are also those of a forgetting, of a recording and of a lookup */
     uint8_t token[64], prevent_pruning, expects, protects;
+    vb_origin origin; /* of an ingestion */
     vb_area area, protected_area;
     vb_range range;
     vb_ignore ignore;
@@ -51,8 +52,9 @@ answer judge_answers(const call *c, lent *after);
 /* The first field in which an answer is not the judge's, or NULL. Of an obsolete verdict: whether the entry shown is one that 01 allows. */
 const char *judge_differs(const call *c, const answer *want, const answer *got);
 
-/* Of an ingestion that is held on the store that was read: whether an entry that ties with it is stored, a part of its payload is there, the token is another. */
-typedef struct { bool beside_tie, available, other_token; } held_how;
+/* Of an ingestion that is held on the store that was read: whether an entry that ties with it is stored, a part of its payload is there, the token is another, the origin is
+   another. */
+typedef struct { bool beside_tie, available, other_token, other_origin; } held_how;
 held_how judge_held_how(const call *c);
 
 /* Of an ingestion with a legal path on the store that was read, which is well-formed: whether an entry at a proper extension of its path ties with it. */
@@ -62,6 +64,9 @@ bool judge_above_tie(const call *c);
    prefix; how much of its payload was there, how long it is, and whether its digest is another. */
 typedef struct { bool stored, extension, prefix, other_digest; uint64_t before, length; } recorded_how;
 recorded_how judge_recorded_how(const call *c);
+
+/* The origin of the entry at the subspace and path of a call, which are legal, in the store that was read, which is well-formed; false if none stands there. */
+bool judge_stored_origin(const call *c, vb_origin *origin);
 
 /* An entry of the store that was read, which is well-formed, by its place. */
 vb_entry judge_entry(size_t place);

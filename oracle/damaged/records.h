@@ -90,7 +90,7 @@ static void write_record(Rec *p, vb_subspace subspace, const uint8_t *bytes, con
 /* Components of which one bound is met, or passed by one: a total of 128 or 129, eight or nine components, 64 or 65 bytes in one. How many. */
 static size_t bound_path(uint8_t bytes[VB_MPL + 1], size_t ends[VB_MCC + 1]) {
     size_t over = below(2), parts;
-    for (size_t i = 0; i <= VB_MPL; i++) bytes[i] = SOME[1 + below(4)]; /* few bytes 00: the record has at most 410 bytes */
+    for (size_t i = 0; i <= VB_MPL; i++) bytes[i] = SOME[1 + below(4)]; /* few bytes 00: the record has at most VB_RECORD_MOST bytes */
     switch (below(3)) {
     case 0: ends[0] = 43, ends[1] = 86, ends[2] = 128 + over, parts = 3; break;
     case 1: parts = 8 + over; for (size_t i = 0; i < parts; i++) ends[i] = i / 2; break;

@@ -1,21 +1,29 @@
 /* Stores and calls on which a plausible wrong port fails, each answer written by hand from 01, and from 02: U1 for the tally, U2 for the same entry twice, U3 for ties, U4
-   for how much has arrived. Ends with 1 if one is not as written. */
+   for how much has arrived, U6 for where an entry came from. Ends with 1 if one is not as written. */
 #include "virebony.h"
 #include <stdbool.h>
 #include <stdio.h>
 #include <string.h>
 
-enum { MOST = 8, RECORD = 410, ITEM = 28, ANY = 1 };
+/* Bytes of a record at most, of its value, of the origin at the value's end, of an item of the tally; and of a record before values had an origin. */
+enum { MOST = 8, RECORD = 419, VALUE = 121, ORIGIN = 9, ITEM = 28, RECORD_BEFORE = 410, ANY = 1 };
+enum {
+    KEY = 29,                                 /* bytes of the key of a path of one component of one byte: subspace 16, component 1 and its end 2, the path's end 2, time 8 */
+    LENGTH_AT = KEY + VB_VALUE_AVAILABLE + 7, /* the last byte of the available length, the kind and the last byte of the session of a first record that has such a key */
+    KIND_AT = KEY + VB_VALUE_ORIGIN,
+    SESSION_AT = KEY + VB_VALUE_SESSION + 7
+};
 #define GREATEST UINT64_MAX
 
 static vb_state state;
 static uint8_t tree[2][RECORD * MOST + 8], tally[ITEM * MOST + 8], token[64];
+static vb_origin origin; /* what the next entries are filed with: local, unless a trap says otherwise */
 static uint32_t dir[2][2 * MOST + 8];
 static vb_pair prune[MOST + 4];
-/* Bytes lent of the subspace-first tree and of the tally, pairs of the prune list. */
-static size_t room = sizeof tree[0], tally_room = sizeof tally, lent = MOST;
+/* Bytes lent of the subspace-first tree, of the time-first tree and of the tally, pairs of the prune list. */
+static size_t room = sizeof tree[0], other_room = sizeof tree[1], tally_room = sizeof tally, lent = MOST;
 static int wrong, asked;
-#define READ tree[0], room, dir[0], 2 * MOST + 8, tree[1], sizeof tree[1], dir[1], 2 * MOST + 8
+#define READ tree[0], room, dir[0], 2 * MOST + 8, tree[1], other_room, dir[1], 2 * MOST + 8
 #define STORE READ, tally, tally_room
 
 static void expect(const char *what, uint64_t got, uint64_t want) {
@@ -84,7 +92,7 @@ static void fresh(size_t limit) {
 }
 
 static void ingests(const char *what, vb_entry e, bool prevent, int refusal, bool obsolete, size_t pruned) {
-    vb_ingested r = vb_ingest_entry(state, STORE, prune, lent, e, token, prevent);
+    vb_ingested r = vb_ingest_entry(state, STORE, prune, lent, e, token, prevent, origin);
     expect(what, r.refusal, refusal);
     expect(what, r.obsolete, obsolete);
     expect(what, r.held, false);
@@ -110,7 +118,7 @@ static bool as_it_was(void) {
 /* The verdict held: nothing else in the answer but the state that was handed in, and no byte of any buffer is another. */
 static void holds(const char *what, vb_entry e, bool prevent) {
     keep();
-    vb_ingested r = vb_ingest_entry(state, STORE, prune, lent, e, token, prevent);
+    vb_ingested r = vb_ingest_entry(state, STORE, prune, lent, e, token, prevent, origin);
     expect(what, r.held, true);
     expect(what, r.refusal | r.obsolete | r.pruned, 0);
     expect(what, r.state.count, state.count), expect(what, r.state.limit, state.limit);
@@ -191,7 +199,7 @@ static void item(const char *what, size_t place, uint64_t high, uint64_t low, ui
 /* [61][62] stored, then [61] equal in timestamp, digest and length, pruning prevented: both stand, no pair is written, and the calls after it don't answer 3. The
    other way round it is the same in every byte. The keys have 29 and 32 bytes. */
 static void ties(void) {
-    static const uint32_t pairs[] = {0, 29 + 112, 29 + 112, 32 + 112};
+    static const uint32_t pairs[] = {0, 29 + VALUE, 29 + VALUE, 32 + VALUE};
     fresh(4), in("a", 5, 3, 1), in("a/b", 5, 3, 1), keep();
     fresh(4), in("a/b", 5, 3, 1);
     ingests("a tie above, prevented", named(entry("a", 5, 3, 1)), true, 0, false, 0);
@@ -212,7 +220,7 @@ static void ties(void) {
 static void line_of_ties(void) {
     static const char *const line[] = {"a", "a/b", "a/b/c"};
     static const int orders[][3] = {{0, 1, 2}, {0, 2, 1}, {1, 0, 2}, {1, 2, 0}, {2, 0, 1}, {2, 1, 0}};
-    static const uint32_t pairs[] = {0, 138, 138, 141, 279, 144, 423, 147};
+    static const uint32_t pairs[] = {0, 26 + VALUE, 26 + VALUE, 29 + VALUE, 55 + 2 * VALUE, 32 + VALUE, 87 + 3 * VALUE, 35 + VALUE};
     for (int o = 0; o < 6; o++) {
         fresh(5);
         for (int i = 0; i < 3; i++) in(line[orders[o][i]], 5, 3, 1);
@@ -241,12 +249,13 @@ static void full_of_ties(void) {
 }
 
 /* Below [61] at 5, of length 3 and digest 1, stand [61][62], which ties, [61][63], [61][64] and [61][65], older by length, digest and time, and [61][66], [61][67] and
-   [61][68], newer by these. It is refused with 7 if pruning is prevented; else the three older go, and theirs are the pairs. Each record has 144 bytes. */
+   [61][68], newer by these. It is refused with 7 if pruning is prevented; else the three older go, and theirs are the pairs. Each key has 32 bytes. */
 static void beside_ties(void) {
+    const uint32_t record = 32 + VALUE;
     fresh(8), in("a/b", 5, 3, 1), in("a/c", 5, 2, 1), in("a/d", 5, 9, 0), in("a/e", 4, 9, 9), in("a/f", 5, 4, 1), in("a/g", 5, 0, 2), in("a/h", 6, 0, 0);
     ingests("three would go", named(entry("a", 5, 3, 1)), true, 7, false, 0);
     ingests("three go", named(entry("a", 5, 3, 1)), false, 0, false, 3);
-    for (uint32_t i = 0; i < 3; i++) expect("its pair", prune[i].offset, 144 * (i + 1)), expect("its pair", prune[i].length, 144);
+    for (uint32_t i = 0; i < 3; i++) expect("its pair", prune[i].offset, record * (i + 1)), expect("its pair", prune[i].length, record);
     expect("no fourth pair", prune[3].offset, 0x07070707);
     item("five are tallied", 0, 0, 1, 5, 6, true);
     static const char *const left[] = {"a", "a/b", "a/f", "a/g", "a/h"};
@@ -259,7 +268,7 @@ static void beside_ties(void) {
     item("there two", 1, 0, 2, 2, 5, true);
     fresh(3), in("a/b", 5, 3, 1), in("a/c", 5, 2, 1); /* one that ties, and an older one */
     ingests("one goes", named(entry("a", 5, 3, 1)), false, 0, false, 1);
-    expect("that of [61][63]", prune[0].offset, 144), expect("and no other", prune[1].offset, 0x07070707);
+    expect("that of [61][63]", prune[0].offset, record), expect("and no other", prune[1].offset, 0x07070707);
     ingests("a later one, prevented", named(entry("a", 6, 0, 0)), true, 7, false, 0);
     ingests("a later one removes both", named(entry("a", 6, 0, 0)), false, 0, false, 2);
 }
@@ -272,7 +281,7 @@ static void full(void) {
     memset(token, 9, sizeof token);
     vb_entry again = named(entry("a", 5, 3, 1)), elsewhere = again;
     holds("resent, prevented", again, true), holds("resent", again, false);
-    expect("the old token stays", tree[0][29 + 40], 1);
+    expect("the old token stays", tree[0][KEY + VB_VALUE_TOKEN], 1);
     elsewhere.namespace_id[15] = 1;
     ingests("resent, another namespace", elsewhere, false, 6, false, 0);
     tally[27] ^= 1;
@@ -287,7 +296,7 @@ static void full(void) {
     static const struct { uint64_t time, length; uint8_t digest; } near[] = {{5, 4, 1}, {5, 3, 2}, {6, 3, 1}};
     for (int i = 0; i < 3; i++) ingests("no resend, prevented", named(entry("a", near[i].time, near[i].length, near[i].digest)), true, 7, false, 0);
     ingests("no resend: another length", named(entry("a", 5, 4, 1)), false, 0, false, 1);
-    expect("the new token", tree[0][29 + 40], 9);
+    expect("the new token", tree[0][KEY + VB_VALUE_TOKEN], 9);
     expect("one is left", state.count, 1);
     ingests("what was stored is now obsolete", again, true, 0, true, 0);
     vb_entry older = named(entry("a", 4, 3, 1));
@@ -309,7 +318,7 @@ static void resends(void) {
     memset(token, 9, sizeof token);
     holds("resent above a tie", named(entry("a", 5, 3, 1)), false);
     records("two of three", path("a"), 1, 2, 0);
-    expect("in both trees", tree[0][29 + 111], 2), expect("in both trees", tree[1][29 + 111], 2);
+    expect("in both trees", tree[0][LENGTH_AT], 2), expect("in both trees", tree[1][LENGTH_AT], 2);
     for (int i = 0; i < 2; i++) {
         vb_entry again = named(entry(i ? "a/b" : "a", 5, 3, 1));
         holds("resent beside a tie", again, i), holds("resent beside a tie", again, !i);
@@ -340,8 +349,8 @@ static void lengths(void) {
     for (int i = 0; i < 6; i++) {
         keep();
         records("up to the payload length", path("a"), i % 2 ? 1 : -1, taken[i], 0);
-        expect("in the subspace-first tree", tree[0][140], taken[i]), expect("in the time-first tree", tree[1][140], taken[i]);
-        was.trees[140] = was.trees[sizeof tree[0] + 140] = (uint8_t)taken[i];
+        expect("in the subspace-first tree", tree[0][LENGTH_AT], taken[i]), expect("in the time-first tree", tree[1][LENGTH_AT], taken[i]);
+        was.trees[LENGTH_AT] = was.trees[sizeof tree[0] + LENGTH_AT] = (uint8_t)taken[i];
         expect("and no other byte", as_it_was(), true);
         has("it is shown", "a", taken[i]);
     }
@@ -359,7 +368,8 @@ static void lengths(void) {
     expect("no byte changed", as_it_was(), true);
     static const uint64_t great[] = {GREATEST, GREATEST - 1, 1ull << 63, 0x0102030405060708};
     for (int i = 0; i < 4; i++) records("of 2^64 - 1", path("c"), -1, great[i], 0), has("of 2^64 - 1", "c", great[i]);
-    for (int i = 0; i < 8; i++) expect("big-endian", tree[0][3 * 141 - 8 + i], i + 1), expect("big-endian", tree[1][3 * 141 - 8 + i], i + 1);
+    const size_t third = 2 * (KEY + VALUE) + KEY + VB_VALUE_AVAILABLE;
+    for (size_t i = 0; i < 8; i++) expect("big-endian", tree[0][third + i], i + 1), expect("big-endian", tree[1][third + i], i + 1);
     unrecords("forgotten", path("c"), 1, 0), expect("every byte again", as_it_was(), true);
     unrecords("two of three are forgotten", path("a"), -1, 0), has("none is left", "a", 0);
     keep(), unrecords("and once more", path("a"), 1, 0), expect("no byte changed", as_it_was(), true);
@@ -402,7 +412,7 @@ static void exact(void) {
 
 /* The flag of lookups and listings: 2 of 3 is passed over, 3 of 3 is not, 0 of 0 is complete, and empty. Counts have all. */
 static void flagged(void) {
-    const size_t record = 16 + 3 + 2 + 8 + 112;
+    const size_t record = 16 + 3 + 2 + 8 + VALUE;
     fresh(4), in("a", 5, 3, 1), in("b", 5, 0, 1), in("c", 5, 3, 1);
     lists("0 of 0 alone", ignore(true, false), 0, true, 1, record), lists("no other", ignore(true, false), 2, false, 0, 0);
     records("2 of 3", path("c"), -1, 2, 0), lists("2 of 3 is passed over", ignore(true, false), 2, false, 0, 0);
@@ -472,11 +482,11 @@ static void turned_away_lengths(void) {
     records("another namespace", path("a"), 1, 2, 0);
     state.namespace_id[15] ^= 1;
     for (int t = 0; t < 2; t++) {
-        tree[t][140] = 1;
+        tree[t][LENGTH_AT] = 1;
         keep();
         records("one tree only", path("a"), 1, 2, 3), unrecords("one tree only", path("a"), 1, 3), counts("one tree only", all(), 3, 0);
         expect("no byte changed", as_it_was(), true);
-        tree[t][140] = 2;
+        tree[t][LENGTH_AT] = 2;
     }
     room = RECORD * 2;
     records("buffers of the room alone", path("a"), 1, 3, 0), unrecords("buffers of the room alone", path("a"), 1, 0);
@@ -490,7 +500,7 @@ static void turned_away_lengths(void) {
    [61][62] of another subspace at 1, then [61] at 7: it removes [61] and [61][63] only. */
 static void pruned(void) {
     fresh(4), in("a/b", 5, 3, 1);
-    const uint32_t size = 16 + 3 + 3 + 2 + 8 + 112;
+    const uint32_t size = 16 + 3 + 3 + 2 + 8 + VALUE;
     expect("size of the record", dir[0][1], size);
     ingests("one is pruned", named(entry("a", 6, 3, 1)), false, 0, false, 1);
     expect("pair's offset", prune[0].offset, 0), expect("pair's length", prune[0].length, size);
@@ -525,7 +535,7 @@ static void interest(void) {
 /* A listing of an empty store, from the count, or from the greatest place: finished, the part empty, no wrap-around. Of fresh entries of
    lengths 0 and 3, ignoring empty ones hides the first, ignoring incomplete ones the second only, as 0 of 0 is complete; a count has both. */
 static void listings(void) {
-    const size_t record = 16 + 3 + 2 + 8 + 112;
+    const size_t record = 16 + 3 + 2 + 8 + VALUE;
     fresh(8), lists("empty store", ignore(false, false), 0, false, 0, 0);
     in("a", 5, 0, 1), in("b", 5, 3, 1);
     lists("first match", ignore(false, false), 0, true, 0, record);
@@ -538,7 +548,7 @@ static void listings(void) {
 }
 
 /* 3 for a byte 1 at the last place within the bounds of either tree, a number 1 behind the last pair, values that differ between the trees
-   in the token only, an available length above the payload's; not for what stands beyond the bounds. The greatest limit gets 1, as 410
+   in the token only, an available length above the payload's; not for what stands beyond the bounds. The greatest limit gets 1, as 419
    times it must not be formed; a count above the limit gets 3. An opening of limit 0 with short buffers gets 1; refused, its state is all 0
    and the buffers are untouched. */
 static void shapes(void) {
@@ -552,12 +562,12 @@ static void shapes(void) {
         counts("a number behind the pairs", all(), 3, 0);
         dir[t][2] = 0;
     }
-    tree[0][29 + 40] ^= 1;
+    tree[0][KEY + VB_VALUE_TOKEN] ^= 1;
     counts("another token", all(), 3, 0);
-    tree[0][29 + 40] ^= 1;
-    tree[0][29 + 111] = tree[1][29 + 111] = 4;
+    tree[0][KEY + VB_VALUE_TOKEN] ^= 1;
+    tree[0][LENGTH_AT] = tree[1][LENGTH_AT] = 4;
     counts("too much available", all(), 3, 0);
-    tree[0][29 + 111] = tree[1][29 + 111] = 3;
+    tree[0][LENGTH_AT] = tree[1][LENGTH_AT] = 3;
     counts("all available", all(), 0, 1);
     vb_state kept = state;
     state.limit = GREATEST;
@@ -656,7 +666,7 @@ static void most(void) {
         for (uint32_t i = 0; i < ALL; i++) {
             e.path.bytes[0] = (uint8_t)(i >> 8), e.path.bytes[1] = (uint8_t)i;
             e.subspace_id = subspace(many ? ALL - i : 5), e.timestamp = i;
-            vb_ingested r = vb_ingest_entry(s, MOST_STORE, pairs, ALL, e, token, 0);
+            vb_ingested r = vb_ingest_entry(s, MOST_STORE, pairs, ALL, e, token, 0, origin);
             expect("one of 1,024", r.refusal | r.obsolete, 0);
             s = r.state;
         }
@@ -742,10 +752,287 @@ static void turned_away(void) {
     expect("and clears", tally[0], 0);
 }
 
+/* Where an entry came from */
+
+static const vb_origin local;
+
+static vb_origin remote(uint64_t session) {
+    vb_origin o = {1, session};
+    return o;
+}
+
+/* As `in`, with an origin. */
+static void in_from(vb_origin o, const char *p, uint64_t time, uint64_t length, uint8_t digest) { origin = o, in(p, time, length, digest), origin = local; }
+
+/* The last nine bytes of the record at a place of either tree: a kind and a session, big-endian. */
+static void nine(const char *what, size_t place, uint8_t kind, uint64_t session) {
+    for (int t = 0; t < 2; t++) {
+        const uint8_t *end = tree[t] + dir[t][2 * place] + dir[t][2 * place + 1];
+        expect(what, end[-ORIGIN], kind);
+        for (int i = 0; i < 8; i++) expect(what, end[i - 8], session >> (56 - 8 * i) & 255);
+    }
+}
+
+/* Writes the nine bytes of the first record, whose key has 29 bytes: in the first tree by bit 0 of `trees`, in the second by bit 1. */
+static void put_nine(int trees, uint8_t kind, uint64_t session) {
+    for (int t = 0; t < 2; t++)
+        for (int i = 0; i < ORIGIN && trees >> t & 1; i++) tree[t][KIND_AT + i] = i ? (uint8_t)(session >> (64 - 8 * i)) : kind;
+}
+
+/* A lookup at a path of subspace 1: whether it finds, and which origin it shows. */
+static void shows(const char *what, const char *p, vb_ignore i, bool found, vb_origin o) {
+    vb_entry_found f = vb_find_entry(state, READ, subspace(1), path(p), i);
+    expect(what, f.refusal, 0), expect(what, f.found, found);
+    expect(what, f.lengthy.origin.remote, o.remote), expect(what, f.lengthy.origin.session, o.session);
+}
+
+/* Every call that is handed the store is refused so, a part is empty, the state is the one handed in, and no byte changes. */
+static void all_refuse(const char *what, int refusal) {
+    static vb_pairs pairs;
+    static const uint8_t digest[32];
+    const vb_entry e = named(entry("b", 9, 3, 1));
+    const vb_ignore none = ignore(false, false);
+    const vb_interest i = {all(), GREATEST, GREATEST};
+    keep();
+    vb_ingested by[] = {vb_ingest_entry(state, STORE, prune, lent, e, token, 0, origin), vb_ingest_entry_numbers(state, STORE, (uint32_t *)prune, 2 * lent, e, token, 0, origin),
+                        vb_ingest_entry_by_value(state, STORE, pairs, e, token, 0, origin).ingested};
+    for (int k = 0; k < 3; k++) expect(what, by[k].refusal, refusal), expect(what, by[k].state.count, state.count), expect(what, by[k].held | by[k].obsolete | by[k].pruned, 0);
+    expect(what, vb_forget_entry(state, STORE, subspace(1), path("a"), 0, digest).refusal, refusal);
+    expect(what, vb_forget_area(state, STORE, all(), 0, all()).refusal, refusal);
+    records(what, path("a"), -1, 2, refusal), unrecords(what, path("a"), -1, refusal);
+    vb_entry_found f = vb_find_entry(state, READ, subspace(1), path("a"), none);
+    expect(what, f.refusal, refusal), expect(what, f.found | f.lengthy.origin.remote | f.lengthy.origin.session, 0);
+    expect(what, vb_query_area_place(state, READ, all(), none, 0).refusal, refusal), expect(what, vb_query_range_place(state, READ, whole(), none, 0).refusal, refusal);
+    expect(what, vb_query_area(state, READ, all(), none, 0).length, 0), expect(what, vb_query_range(state, READ, whole(), none, 0).length, 0);
+    counts(what, all(), refusal, 0);
+    expect(what, vb_summarise(state, READ, whole()).refusal, refusal), expect(what, vb_area_of_interest_to_range(state, READ, i).refusal, refusal);
+    expect(what, as_it_was(), true);
+}
+
+/* [61] filed as remote 0, which is legal. Kind 0 with a number, kind 2, kind 255 and others: 3 in every call, in the subspace-first tree alone, in the time-first tree alone, in both. Of
+   all kinds with session 0, in both trees, 0 and 1 only are legal; of kind 0 with one bit of the session none. */
+static void unknown_kinds(void) {
+    static const struct { uint8_t kind; uint64_t session; } bad[] = {{0, 1}, {2, 0}, {255, 0}, {2, 7}, {3, 0}, {128, 0}, {254, 1}, {0, 256}, {0, 1ull << 63}, {0, GREATEST}};
+    fresh(2), in_from(remote(0), "a", 5, 3, 1);
+    counts("remote 0 is legal", all(), 0, 1), nine("remote 0", 0, 1, 0), shows("remote 0", "a", ignore(false, false), true, remote(0));
+    for (size_t k = 0; k < sizeof bad / sizeof *bad; k++)
+        for (int trees = 1; trees < 4; trees++) put_nine(trees, bad[k].kind, bad[k].session), all_refuse("another kind, or local with a number", 3), put_nine(3, 1, 0);
+    for (int kind = 0; kind < 256; kind++) put_nine(3, (uint8_t)kind, 0), counts("a kind with session 0", all(), kind < 2 ? 0 : 3, kind < 2);
+    for (int bit = 0; bit < 64; bit++) {
+        put_nine(3, 0, 1ull << bit), counts("local with a number", all(), 3, 0);
+        put_nine(3, 1, 1ull << bit), counts("remote with it", all(), 0, 1), shows("remote with it", "a", ignore(false, false), true, remote(1ull << bit));
+    }
+    put_nine(3, 0, 0), counts("local without", all(), 0, 1), shows("local without", "a", ignore(false, false), true, local);
+}
+
+/* Nine bytes that differ between the trees, legal in each: 3 in every call. Remote 7 against remote 8, local against remote 0, and remote against remote in each bit of the session. */
+static void trees_that_differ(void) {
+    fresh(2), in_from(remote(7), "a", 5, 3, 1);
+    for (int trees = 1; trees < 3; trees++) {
+        put_nine(trees, 1, 8), all_refuse("7 against 8", 3), put_nine(3, 1, 7);
+        put_nine(trees, 0, 0), all_refuse("local against remote 7", 3);
+        put_nine(3, 0, 0), put_nine(trees, 1, 0), all_refuse("local against remote 0", 3);
+        put_nine(3, 1, 7), counts("alike again", all(), 0, 1);
+        for (int bit = 0; bit < 64; bit++) put_nine(trees, 1, 7 ^ 1ull << bit), counts("a bit of the session", all(), 3, 0), put_nine(3, 1, 7);
+    }
+    shows("alike again", "a", ignore(false, false), true, remote(7));
+}
+
+/* A tree of 410 x limit bytes, as a store needed before its records had an origin, or of a byte less than 419 x limit: 2 in every call, and in an opening. With 419 x limit it is taken. */
+static void rooms(void) {
+    static const size_t short_rooms[] = {0, RECORD_BEFORE, RECORD_BEFORE * 2, RECORD_BEFORE * 2 + ORIGIN, RECORD * 2 - 1};
+    fresh(2), in_from(remote(7), "a", 5, 3, 1);
+    expect("nine bytes more", RECORD, RECORD_BEFORE + ORIGIN), expect("nine bytes more", RECORD, VB_RECORD_MOST), expect("nine bytes more", VALUE, VB_VALUE);
+    for (int t = 0; t < 2; t++)
+        for (int k = 0; k < 5; k++) {
+            size_t *lent_bytes = t ? &other_room : &room, kept = *lent_bytes;
+            *lent_bytes = short_rooms[k];
+            all_refuse("a short tree", 2);
+            open_store("opened with a short tree", 2, 2), expect("no byte changed", as_it_was(), true);
+            *lent_bytes = kept;
+        }
+    room = other_room = RECORD * 2;
+    counts("trees of the room alone", all(), 0, 1), in_from(remote(8), "b", 5, 3, 1), shows("trees of the room alone", "b", ignore(false, false), true, remote(8));
+    open_store("opened with the room alone", 2, 0);
+    room = other_room = sizeof tree[0];
+}
+
+/* Filed by vb_ingest_entry, over numbers, or with the prune list by value. */
+static void files(const char *what, int by, vb_entry e) {
+    static vb_pairs pairs;
+    vb_ingested r = by == 0 ? vb_ingest_entry(state, STORE, prune, lent, e, token, 0, origin) : by == 1 ? vb_ingest_entry_numbers(state, STORE, (uint32_t *)prune, 2 * lent, e, token, 0, origin)
+                  : vb_ingest_entry_by_value(state, STORE, pairs, e, token, 0, origin).ingested;
+    expect(what, r.refusal | r.obsolete | r.held, 0);
+    state = r.state;
+}
+
+/* Sessions of every size, above 2^63 too and all ff: big-endian at the record's end, in both trees, and so looked up and listed. A yes is any byte but 0, and the kind is 1; the session of
+   local is not looked at: nine zeros. By all three calls that file. */
+static void sessions(void) {
+    static const uint64_t some[] = {0, 1, 7, 255, 256, 1ull << 32, (1ull << 63) - 1, 1ull << 63, (1ull << 63) + 1, GREATEST - 1, GREATEST, 0x0102030405060708};
+    static const uint8_t yes[] = {0, 1, 2, 128, 255};
+    for (int by = 0; by < 3; by++)
+        for (int y = 0; y < 5; y++)
+            for (size_t k = 0; k < sizeof some / sizeof *some; k++) {
+                fresh(2);
+                origin.remote = yes[y], origin.session = some[k];
+                files("filed", by, named(entry("a", 5, 3, 1)));
+                origin = local;
+                nine("its last nine bytes", 0, y > 0, y ? some[k] : 0);
+                shows("looked up", "a", ignore(false, false), true, y ? remote(some[k]) : local);
+                vb_part p = vb_query_area(state, READ, all(), ignore(false, false), 0);
+                expect("listed", p.length, KEY + VALUE), expect("listed", tree[0][p.offset + p.length - ORIGIN], y > 0);
+                expect("listed", tree[0][p.offset + p.length - 1], y ? some[k] & 255 : 0);
+                expect("nothing has arrived", tree[0][LENGTH_AT] | tree[1][LENGTH_AT], 0);
+            }
+}
+
+/* Limit 1,024, and every record of 419 bytes: 128 bytes 00 in eight components, cut elsewhere in each, entry k from remote 2^64 - 1 - k. A tree has 429,056 bytes, all of them taken;
+   one of 429,055 or of 410 x 1,024 gets 2. One more gets 8. A newer one at the empty path removes all, and the pairs are 419 apart. */
+static void greatest_records(void) {
+    enum { ALL = 1024 };
+    static uint8_t trees[2][RECORD * ALL], items[ITEM * ALL];
+    static uint32_t dirs[2][2 * ALL];
+    static vb_pair pairs[ALL];
+    static const uint8_t namespace_id[16];
+#define LENT(N) trees[0], N, dirs[0], 2 * ALL, trees[1], sizeof trees[1], dirs[1], 2 * ALL
+#define OTHER_LENT(N) trees[0], sizeof trees[0], dirs[0], 2 * ALL, trees[1], N, dirs[1], 2 * ALL
+#define GREATEST_STORE LENT(sizeof trees[0]), items, sizeof items
+    expect("bytes of a tree", sizeof trees[0], 429056);
+    expect("429,055", vb_open(namespace_id, ALL, LENT(429055), items, sizeof items).refusal, 2), expect("429,055", vb_open(namespace_id, ALL, OTHER_LENT(429055), items, sizeof items).refusal, 2);
+    vb_state s = vb_open(namespace_id, ALL, GREATEST_STORE).state;
+    vb_entry e = entry("", 5, 3, 1);
+    e.path.count = 8;
+    for (size_t k = 0; k < ALL; k++) {
+        const size_t ends[] = {k / 32, 32, 32 + k % 32, 64, 80, 96, 112, 128};
+        memcpy(e.path.ends, ends, sizeof ends);
+        vb_ingested r = vb_ingest_entry(s, GREATEST_STORE, pairs, ALL, e, token, 0, remote(GREATEST - k));
+        expect("one of 1,024", r.refusal | r.obsolete | r.held | r.pruned, 0);
+        s = r.state;
+    }
+    expect("1,024 entries", s.count, ALL);
+    for (int t = 0; t < 2; t++) expect("the last record", dirs[t][2 * ALL - 2], 428637), expect("the last record", dirs[t][2 * ALL - 1], 419);
+    expect("429,056", vb_count_area(s, LENT(429056), all()).count, ALL);
+    expect("429,055", vb_count_area(s, LENT(429055), all()).refusal, 2), expect("429,055", vb_count_area(s, OTHER_LENT(429055), all()).refusal, 2);
+    expect("410 x 1,024", vb_count_area(s, LENT(RECORD_BEFORE * ALL), all()).refusal, 2), expect("410 x 1,024", vb_count_area(s, OTHER_LENT(RECORD_BEFORE * ALL), all()).refusal, 2);
+    vb_entry_found f = vb_find_entry(s, LENT(sizeof trees[0]), e.subspace_id, e.path, ignore(false, false)); /* the one that was filed last */
+    expect("its session", f.lengthy.origin.remote, 1), expect("its session", f.lengthy.origin.session, GREATEST - 1023);
+    expect("recorded", vb_record_available_length(s, LENT(sizeof trees[0]), e.subspace_id, e.path, 0, e.payload_digest, 2).refusal, 0);
+    f = vb_find_entry(s, LENT(sizeof trees[0]), e.subspace_id, e.path, ignore(false, false));
+    expect("2 of 3", f.lengthy.available, 2), expect("its session stays", f.lengthy.origin.session, GREATEST - 1023);
+    e.path.ends[6] = 113;
+    expect("one more", vb_ingest_entry(s, GREATEST_STORE, pairs, ALL, e, token, 0, local).refusal, 8);
+    e.path.count = 0, e.timestamp = 6;
+    vb_ingested r = vb_ingest_entry(s, GREATEST_STORE, pairs, ALL, e, token, 0, local);
+    expect("all go", r.pruned, ALL), expect("one is left", r.state.count, 1);
+    for (uint32_t k = 0; k < ALL; k++) expect("419 apart", pairs[k].offset, 419 * k), expect("419 apart", pairs[k].length, 419);
+    f = vb_find_entry(r.state, LENT(sizeof trees[0]), e.subspace_id, e.path, ignore(false, false));
+    expect("local", f.found, true), expect("local", f.lengthy.origin.remote | f.lengthy.origin.session, 0);
+}
+
+/* [61] filed as remote 7, then the same entry as local, as remote 8 and as remote 0: held, and remote 7 and the token stay. So do they beside an obsolete entry, 7 and 8. Forgotten and filed as
+   local it is local, and then a resend from remote 7 leaves it so. A newer one has its own, and so has one filed after an area's forgetting. [62] keeps its own all the while. */
+static void kept_origins(void) {
+    static const vb_origin others[] = {{0, 0}, {1, 8}, {1, 0}, {0, 7}, {255, GREATEST}};
+    const vb_ignore none = ignore(false, false);
+    fresh(2), in_from(remote(7), "a", 5, 3, 1), in_from(remote(3), "b", 5, 3, 1);
+    memset(token, 9, sizeof token);
+    for (int k = 0; k < 5; k++) {
+        origin = others[k];
+        holds("resent from elsewhere", named(entry("a", 5, 3, 1)), false), holds("resent from elsewhere, prevented", named(entry("a", 5, 3, 1)), true);
+        ingests("obsolete", named(entry("a", 4, 3, 1)), false, 0, true, 0), ingests("prevented", named(entry("a", 6, 3, 1)), true, 7, false, 0);
+        ingests("full", named(entry("c", 5, 3, 1)), false, 8, false, 0);
+        nine("remote 7 stays", 0, 1, 7), shows("remote 7 stays", "a", none, true, remote(7));
+        expect("its token too", tree[0][KEY + VB_VALUE_TOKEN], 1), expect("its token too", tree[1][KEY + VB_VALUE_TOKEN], 1);
+    }
+    origin = local;
+    forgets("forgotten", 1, "a", 0), shows("forgotten", "a", none, false, local), in("a", 5, 3, 1);
+    nine("filed again as local", 0, 0, 0), shows("filed again as local", "a", none, true, local);
+    origin = remote(7), holds("resent from remote 7", named(entry("a", 5, 3, 1)), false), origin = local;
+    nine("it stays local", 0, 0, 0), nine("[62] keeps its own", 1, 1, 3);
+    static const vb_origin newer[] = {{1, 9}, {0, 0}, {1, 0}, {1, GREATEST}};
+    for (int k = 0; k < 4; k++) {
+        origin = newer[k], ingests("a newer one", named(entry("a", 6 + (uint64_t)k, 3, 1)), false, 0, false, 1), origin = local;
+        shows("has its own", "a", none, true, newer[k]), shows("[62] keeps its own", "b", none, true, remote(3));
+    }
+    vb_area one = all();
+    one.path = path("a");
+    state = vb_forget_area(state, STORE, one, 0, one).state;
+    in_from(remote(8), "a", 5, 3, 1), nine("filed again as remote 8", 0, 1, 8), nine("[62] keeps its own", 1, 1, 3);
+    origin = remote(5), ingests("above both", named(entry("", 9, 3, 1)), false, 0, false, 2), origin = local;
+    nine("it has its own", 0, 1, 5), shows("it has its own", "", none, true, remote(5)), shows("gone", "b", none, false, local);
+}
+
+/* [61] filed as remote 01 02 03 04 05 06 07 08, of length 2^64 - 1: what is recorded stands before the nine bytes, in both trees, and they stay; so they do when it is forgotten. */
+static void recorded_origins(void) {
+    static const uint64_t lengths[] = {2, GREATEST, 0xf1f2f3f4f5f6f7f8, 0, 1};
+    const uint64_t session = 0x0102030405060708;
+    fresh(2), in_from(remote(session), "a", 5, GREATEST, 1), in_from(remote(7), "b", 5, 3, 1);
+    for (int k = 0; k < 5; k++) {
+        keep();
+        records("recorded", path("a"), 1, lengths[k], 0);
+        for (int t = 0; t < 2; t++)
+            for (int i = 0; i < 8; i++) was.trees[(size_t)t * sizeof tree[0] + LENGTH_AT - 7 + i] = (uint8_t)(lengths[k] >> (56 - 8 * i));
+        expect("eight bytes before the nine, and no other", as_it_was(), true);
+        nine("the nine stay", 0, 1, session), expect("at the record's end", tree[0][KEY + VALUE - 1], 8), expect("at the record's end", tree[0][SESSION_AT], 8);
+        shows("the origin stays", "a", ignore(false, false), true, remote(session)), has("so much has arrived", "a", lengths[k]);
+    }
+    unrecords("forgotten", path("a"), 1, 0), nine("the nine stay", 0, 1, session), has("none has arrived", "a", 0);
+    records("2 of 3", path("b"), 1, 2, 0), nine("the nine stay", 1, 1, 7), nine("and those of the other", 0, 1, session);
+}
+
+/* The empty path, [61], [61][62] and [61][62][63], tied, from four origins: the records have 147, 150, 153 and 156 bytes, nine more than the Rust's, and each offset has nine more for each
+   record before it. */
+static void pairs_with_origins(void) {
+    static const uint32_t pairs[] = {0, 147, 147, 150, 297, 153, 450, 156};
+    fresh(4), in_from(local, "", 5, 3, 1), in_from(remote(0), "a", 5, 3, 1), in_from(remote(7), "a/b", 5, 3, 1), in_from(remote(GREATEST), "a/b/c", 5, 3, 1);
+    for (int i = 0; i < 8; i++) expect("the directories", dir[0][i], pairs[i]), expect("the directories", dir[1][i], pairs[i]);
+    nine("local", 0, 0, 0), nine("remote 0", 1, 1, 0), nine("remote 7", 2, 1, 7), nine("remote 2^64 - 1", 3, 1, GREATEST);
+    ingests("the last two go", named(entry("a/b", 6, 3, 1)), false, 0, false, 2);
+    for (int i = 0; i < 2; i++) expect("their pairs", prune[i].offset, pairs[4 + 2 * i]), expect("their pairs", prune[i].length, pairs[5 + 2 * i]);
+    expect("no third pair", prune[2].offset, 0x07070707);
+    ingests("three go", named(entry("", 7, 3, 1)), false, 0, false, 3);
+    for (int i = 0; i < 3; i++) expect("their pairs", prune[i].offset, pairs[2 * i]), expect("their pairs", prune[i].length, pairs[1 + 2 * i]);
+    expect("no fourth pair", prune[3].offset, 0x07070707);
+}
+
+/* Where a lookup shows nothing its origin is local: the flags hide the entry, none stands there, or at an extension or a prefix only, or it is refused. */
+static void nothing_shown(void) {
+    fresh(4), in_from(remote(7), "a", 5, 3, 1), in_from(remote(8), "b", 5, 0, 1), in_from(remote(9), "c/d", 5, 3, 1), records("2 of 3", path("a"), 1, 2, 0);
+    shows("2 of 3 is hidden", "a", ignore(true, false), false, local), shows("2 of 3 is hidden", "a", ignore(true, true), false, local), shows("and shown", "a", ignore(false, true), true, remote(7));
+    shows("0 of 0 is hidden", "b", ignore(false, true), false, local), shows("0 of 0 is hidden", "b", ignore(true, true), false, local), shows("and shown", "b", ignore(true, false), true, remote(8));
+    shows("none stands there", "e", ignore(false, false), false, local), shows("nor above", "c", ignore(false, false), false, local), shows("nor below", "c/d/e", ignore(false, false), false, local);
+    vb_path illegal = path("a");
+    illegal.count = 9;
+    vb_entry_found f = vb_find_entry(state, READ, subspace(1), illegal, ignore(false, false));
+    expect("an illegal path", f.refusal, 4), expect("an illegal path", f.found | f.lengthy.origin.remote | f.lengthy.origin.session, 0);
+    state.limit = 0, f = vb_find_entry(state, READ, subspace(1), path("a"), ignore(false, false));
+    expect("a limit of 0", f.refusal, 1), expect("a limit of 0", f.lengthy.origin.remote | f.lengthy.origin.session, 0);
+}
+
+/* The same calls with other origins: every byte is the same but those nine of each record, and so is every verdict. */
+static void no_other_byte(void) {
+    static uint8_t trees[sizeof tree], items[sizeof tally];
+    static uint32_t dirs[2][2 * MOST + 8];
+    for (int round = 0; round < 3; round++) {
+        fresh(4), origin = round == 0 ? local : round == 1 ? remote(7) : remote(GREATEST);
+        in("a/b", 5, 3, 1), in("a", 5, 3, 1), in("c", 5, 3, 1), in("", 4, 3, 1);
+        ingests("a newer one", named(entry("a/b", 6, 3, 1)), false, 0, false, 1), ingests("an older one", named(entry("c", 4, 3, 1)), false, 0, true, 0);
+        holds("a resend", named(entry("a", 5, 3, 1)), false), ingests("full", named(entry("d", 5, 3, 1)), false, 8, false, 0), records("2 of 3", path("a"), 1, 2, 0);
+        origin = local;
+        for (int t = 0; t < 2; t++)
+            for (size_t k = 0; k < state.count; k++) memset(tree[t] + dir[t][2 * k] + dir[t][2 * k + 1] - ORIGIN, 0, ORIGIN);
+        if (!round) memcpy(trees, tree, sizeof tree), memcpy(items, tally, sizeof tally), memcpy(dirs, dir, sizeof dir);
+        expect("the same bytes but nine", !memcmp(trees, tree, sizeof tree), true), expect("the same tally", !memcmp(items, tally, sizeof tally), true);
+        expect("the same directories", !memcmp(dirs, dir, sizeof dir), true);
+    }
+}
+
 int main(void) {
     ties(), line_of_ties(), full_of_ties(), beside_ties(), full(), resends(), pruned(), interest(), listings(), shapes();
     zeros(), lowered(), moved_up(), halves(), most(), behind(), turned_away();
     lengths(), exact(), flagged(), filed(), turned_away_lengths();
+    unknown_kinds(), trees_that_differ(), rooms(), sessions(), greatest_records(), kept_origins(), recorded_origins(), pairs_with_origins(), nothing_shown(), no_other_byte();
     printf("traps: %d expectations, %d wrong\n", asked, wrong);
     return wrong != 0;
 }

@@ -56,6 +56,21 @@ static void random_digest(uint8_t *d) {
     }
 }
 
+/* Local, mostly with a session, which is not looked at; or remote, by any byte but 0, with a session that is 0, small, from 2^63 on, the greatest, or any. */
+static vb_origin random_origin(void) {
+    vb_origin o;
+    memset(&o, 0, sizeof o);
+    o.remote = one_in(3) ? 1 : yes_in(2);
+    switch (below(8)) {
+    case 0: case 1: o.session = 0; break;
+    case 2: o.session = UINT64_MAX; break;
+    case 3: o.session = random64() | 1ull << 63; break;
+    case 4: o.session = random64(); break;
+    default: o.session = 1 + below(9);
+    }
+    return o;
+}
+
 /* Adds a component of so many bytes. */
 static void add_component(vb_path *p, size_t len) {
     size_t at = p->count ? p->ends[p->count - 1] : 0;
@@ -218,6 +233,7 @@ static call random_call(enum call_kind kind, const uint8_t namespace_id[16]) {
         if (!one_in(3)) memcpy(c.entry.payload_digest, r->payload_digest, 32);
     }
     random_bytes(c.token, sizeof c.token);
+    c.origin = random_origin();
     c.prevent_pruning = yes_in(4), c.expects = yes_in(2), c.protects = yes_in(2);
     c.area = random_area(), c.protected_area = random_area();
     c.range = random_range();

@@ -38,6 +38,12 @@ static size_t read_path(const uint8_t *p, size_t n, item *e) {
     }
 }
 
+/* U6: "A value with another kind, or local with a number, makes the store not well-formed." */
+static bool read_origin(const uint8_t *value) {
+    if (value[KIND_AT] == LOCAL) return be64(value + SESSION_AT) == 0;
+    return value[KIND_AT] == REMOTE;
+}
+
 static bool read_record(int t, const uint8_t *p, size_t n, item *e) {
     if (n < VALUE_BYTES + KEY_LEAST) return false;
     size_t key = n - VALUE_BYTES, used;
@@ -52,7 +58,8 @@ static bool read_record(int t, const uint8_t *p, size_t n, item *e) {
         if (!used || 16 + used + 8 != key) return false;
         e->time = be64(p + key - 8);
     }
-    return be64(e->value + AVAILABLE_AT) <= be64(e->value);
+    if (be64(e->value + AVAILABLE_AT) > be64(e->value)) return false;
+    return read_origin(e->value);
 }
 
 static bool read_tree(const lent *s, int t, item *items) {

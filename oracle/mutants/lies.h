@@ -9,10 +9,73 @@
 #define MAY __attribute__((unused))
 #endif
 
+/* The value of the record at a subspace and path in one tree; NULL if none stands there. Of a store that is well-formed. */
+MAY static uint8_t *value_at(vb_state state, uint8_t *tree, const uint32_t *dir, int time_first, vb_subspace subspace, vb_path path) {
+    for (size_t k = 0; k < state.count; k++) {
+        uint8_t *record = tree + dir[2 * k];
+        const size_t key = dir[2 * k + 1] - VB_VALUE;
+        vb_decoded d = time_first ? vb_decode_tsp_entry_key(record, key) : vb_decode_spt_entry_key(record, key);
+        if (d.subspace.high == subspace.high && d.subspace.low == subspace.low && vb_path_eq(d.path, path).yes) return record + key;
+    }
+    return NULL;
+}
+
+MAY static uint64_t number_at(const uint8_t *p) {
+    uint64_t n = 0;
+    for (int i = 0; i < 8; i++) n = n << 8 | p[i];
+    return n;
+}
+
+MAY static void put_number(uint8_t *p, uint64_t n) {
+    for (int i = 7; i >= 0; i--, n >>= 8) p[i] = (uint8_t)n;
+}
+
+MAY static uint64_t reversed(uint64_t n) {
+    uint8_t bytes[8];
+    for (int i = 0; i < 8; i++) bytes[i] = (uint8_t)(n >> (8 * i));
+    return number_at(bytes);
+}
+
+/* The origin's nine bytes of a value, as a port writes them that tells the truth. */
+MAY static void put_origin_of(uint8_t *value, vb_origin origin) {
+    value[VB_VALUE_ORIGIN] = origin.remote != 0;
+    put_number(value + VB_VALUE_SESSION, origin.remote ? origin.session : 0);
+}
+
+/* A count over copies of the trees in which what a lying port takes for sound is made so, and whose room is what an honest port asks for. `zero_session`: whether an entry is remote 0. */
+MAY static vb_counted count_mended(vb_state state, VB_CONST_BUFFERS, vb_area area, int *zero_session) {
+    static uint8_t trees[2][VB_RECORD_MOST * VB_LIMIT_MOST];
+    for (int t = 0; t < 2; t++) {
+        const uint32_t *dir = t ? tsp_dir : spt_dir;
+        const size_t len = t ? tsp_len : spt_len, room = VB_RECORD_MOST * state.limit;
+        memset(trees[t], 0, room), memcpy(trees[t], t ? tsp : spt, len < room ? len : room);
+        for (size_t k = 0; k < state.count && k < state.limit; k++) {
+            const size_t end = (size_t)dir[2 * k] + dir[2 * k + 1];
+            if (end > room || end < VB_VALUE) continue;
+            uint8_t *value = trees[t] + end - VB_VALUE, *kind = value + VB_VALUE_ORIGIN, *session = value + VB_VALUE_SESSION;
+            if (LIE == KIND_2_TAKEN && *kind == 2) *kind = 1;
+            if (LIE == LOCAL_WITH_A_NUMBER_TAKEN && *kind == 0) put_number(session, 0);
+            if (LIE == NINE_NOT_COMPARED && (*kind == 1 || (*kind == 0 && !number_at(session)))) *kind = 0, put_number(session, 0);
+            *zero_session |= *kind == 1 && !number_at(session);
+        }
+    }
+    return vb_count_area(state, trees[0], sizeof trees[0], spt_dir, spt_dir_len, trees[1], sizeof trees[1], tsp_dir, tsp_dir_len, area);
+}
+
 MAY static vb_counted lie_count_area(vb_state state, VB_CONST_BUFFERS, vb_area area) {
     vb_counted c = vb_count_area(state, ARGUMENTS, area);
     if (LIE == COUNTS_MADE_UP && !c.refusal) c.count = 7;
     if (LIE == READS_REFUSED && !c.refusal) c.refusal = 9, c.count = 0;
+    const int origins = LIE == KIND_2_TAKEN || LIE == LOCAL_WITH_A_NUMBER_TAKEN || LIE == NINE_NOT_COMPARED;
+    const size_t before = (VB_RECORD_MOST - (VB_VALUE - VB_VALUE_ORIGIN)) * state.limit; /* the room of trees whose values have no origin */
+    int zero_session = 0;
+    if (origins && c.refusal == 3) c = count_mended(state, ARGUMENTS, area, &zero_session);
+    if (LIE == ROOM_WITHOUT_ORIGINS && c.refusal == 2 && spt_len >= before && tsp_len >= before && spt_dir_len >= 2 * state.limit && tsp_dir_len >= 2 * state.limit)
+        c = count_mended(state, ARGUMENTS, area, &zero_session);
+    if (LIE == ZERO_SESSION_REFUSED && !c.refusal) {
+        count_mended(state, ARGUMENTS, area, &zero_session);
+        if (zero_session) c.refusal = 3, c.count = 0;
+    }
     if (LIE == DESCENDING_ACCEPTED && c.refusal == 4 && area.path.count == 2 && area.path.ends[1] < area.path.ends[0]) c.refusal = 0;
     return c;
 }
@@ -36,6 +99,16 @@ MAY static vb_entry_found lie_find_entry(vb_state state, VB_CONST_BUFFERS, vb_su
         ignore.incomplete_payloads = 0;
         vb_entry_found part = vb_find_entry(state, ARGUMENTS, subspace, path, ignore);
         if (part.found && part.lengthy.available) f = part;
+    }
+    vb_origin *origin = &f.lengthy.origin;
+    if (LIE == ALL_SHOWN_AS_LOCAL || (LIE == ZERO_SESSION_SHOWN_AS_LOCAL && !origin->session)) origin->remote = 0, origin->session = 0;
+    if (LIE == REMOTE_SHOWN_AS_255 && origin->remote) origin->remote = 255;
+    if (LIE == SESSION_SHOWN_REVERSED) origin->session = reversed(origin->session);
+    if (LIE == NOTHING_SHOWS_AN_ORIGIN && !f.refusal && !f.found) origin->remote = 1;
+    if (LIE == REFUSED_SHOWS_AN_ORIGIN && f.refusal) origin->remote = 1;
+    if (LIE == HIDDEN_SHOWS_ITS_ORIGIN && !f.refusal && !f.found) {
+        vb_ignore none = {0, 0};
+        *origin = vb_find_entry(state, ARGUMENTS, subspace, path, none).lengthy.origin;
     }
     return f;
 }
@@ -88,8 +161,8 @@ MAY static vb_opened lie_open(const uint8_t namespace_id[16], size_t limit, VB_B
     return o;
 }
 
-/* The available length of the entry that was forgotten last. */
-static uint64_t forgotten_length;
+/* The entry that was forgotten last, if one was found. */
+static vb_entry_found last_forgotten;
 
 MAY static vb_entry_forgotten lie_forget_entry(vb_state state, VB_BUFFERS, vb_subspace subspace, vb_path path, uint8_t expects, const uint8_t digest[32]) {
     if (LIE == NOTHING_FORGOTTEN) {
@@ -102,9 +175,9 @@ MAY static vb_entry_forgotten lie_forget_entry(vb_state state, VB_BUFFERS, vb_su
         return r;
     }
     keep_tally(tally, tally_len);
-    if (LIE == FILED_AGAIN_WITH_THE_LENGTH) {
+    if (LIE == FILED_AGAIN_WITH_THE_LENGTH || LIE == FILED_AGAIN_WITH_THE_ORIGIN) {
         vb_ignore none = {0, 0};
-        forgotten_length = vb_find_entry(state, ARGUMENTS, subspace, path, none).lengthy.available;
+        last_forgotten = vb_find_entry(state, ARGUMENTS, subspace, path, none);
     }
     vb_entry_forgotten r = vb_forget_entry(state, ALL_ARGUMENTS, subspace, path, expects, digest);
     if (LIE == NINE_HIDDEN && r.refusal == 9) r.refusal = 0;
@@ -129,7 +202,7 @@ MAY static vb_area_forgotten lie_forget_area(vb_state state, VB_BUFFERS, vb_area
 
 /* Lies about an entry that is held; `found` is what is stored at its place. */
 MAY static vb_ingested lie_about_held(vb_ingested r, vb_state state, VB_BUFFERS, vb_pair *prune, size_t prune_len, vb_entry entry, const uint8_t token[64], uint8_t prevent,
-                                      vb_lengthy_entry found) {
+                                      vb_origin origin, vb_lengthy_entry found) {
     if (!r.held) return r;
     size_t total = entry.path.count ? entry.path.ends[entry.path.count - 1] : 0;
     if (LIE == HELD_IS_SEVEN && prevent) r.refusal = 7, r.held = 0;
@@ -140,24 +213,22 @@ MAY static vb_ingested lie_about_held(vb_ingested r, vb_state state, VB_BUFFERS,
     if (LIE == HELD_BY_BYTES_BEHIND && total < VB_MPL && entry.path.bytes[total]) r.held = 0, r.pruned = 1;
     if (LIE == HELD_BY_ENDS_BEHIND && entry.path.count < VB_MCC && entry.path.ends[entry.path.count]) r.held = 0, r.pruned = 1;
     if (LIE == HELD_BY_TOKEN && memcmp(token, found.token, 64)) r.held = 0, r.pruned = 1;
-    if (LIE == HELD_TAKES_THE_TOKEN || LIE == HELD_CLEARS_THE_AVAILABLE || LIE == HELD_TAKES_TIES) {
+    if (LIE == HELD_BY_ORIGIN && (found.origin.remote != (origin.remote != 0) || (found.origin.remote && found.origin.session != origin.session))) r.held = 0, r.pruned = 1;
+    if (LIE == HELD_TAKES_THE_TOKEN || LIE == HELD_CLEARS_THE_AVAILABLE || LIE == HELD_TAKES_THE_ORIGIN || LIE == HELD_TAKES_TIES) {
         vb_area below;
         memset(&below, 0, sizeof below);
         below.subspace = entry.subspace_id, below.path = entry.path, below.times.start = entry.timestamp, below.times.open = 1;
         if (LIE == HELD_TAKES_TIES && !found.available && vb_count_area(state, ARGUMENTS, below).count > 1) { /* what lies below goes, and the entry is filed again */
             vb_state left = vb_forget_area(state, ALL_ARGUMENTS, below, 0, below).state;
-            r.state = vb_ingest_entry(left, ALL_ARGUMENTS, prune, prune_len, entry, found.token, 0).state;
+            r.state = vb_ingest_entry(left, ALL_ARGUMENTS, prune, prune_len, entry, found.token, 0, found.origin).state;
             return r;
         }
-        for (int t = 0; t < 2; t++)
-            for (size_t k = 0; k < state.count; k++) {
-                const uint32_t *pair = (t ? tsp_dir : spt_dir) + 2 * k;
-                uint8_t *record = (t ? tsp : spt) + pair[0], *value = record + pair[1] - VB_VALUE;
-                vb_decoded d = t ? vb_decode_tsp_entry_key(record, pair[1] - VB_VALUE) : vb_decode_spt_entry_key(record, pair[1] - VB_VALUE);
-                if (d.subspace.high != entry.subspace_id.high || d.subspace.low != entry.subspace_id.low || !vb_path_eq(d.path, entry.path).yes) continue;
-                if (LIE == HELD_TAKES_THE_TOKEN) memcpy(value + 40, token, 64);
-                if (LIE == HELD_CLEARS_THE_AVAILABLE) memset(value + 104, 0, 8);
-            }
+        for (int t = 0; t < 2; t++) {
+            uint8_t *value = value_at(state, t ? tsp : spt, t ? tsp_dir : spt_dir, t, entry.subspace_id, entry.path);
+            if (LIE == HELD_TAKES_THE_TOKEN) memcpy(value + VB_VALUE_TOKEN, token, 64);
+            if (LIE == HELD_CLEARS_THE_AVAILABLE) put_number(value + VB_VALUE_AVAILABLE, 0);
+            if (LIE == HELD_TAKES_THE_ORIGIN) put_origin_of(value, origin);
+        }
     }
     return r;
 }
@@ -176,7 +247,7 @@ MAY static void find_ties(vb_state state, VB_CONST_BUFFERS, vb_entry entry) {
         if (d.subspace.high != entry.subspace_id.high || d.subspace.low != entry.subspace_id.low || !vb_path_is_prefix_of(entry.path, d.path).yes) continue;
         vb_entry at = {.path = d.path, .timestamp = d.timestamp};
         for (int i = 0; i < 8; i++) at.payload_length = at.payload_length << 8 | value[i];
-        memcpy(at.payload_digest, value + 8, 32);
+        memcpy(at.payload_digest, value + VB_VALUE_DIGEST, 32);
         vb_entries_compared c = vb_entry_compare(at, entry);
         if (c.newer) continue;
         covered_pairs[covered++] = pair;
@@ -185,7 +256,8 @@ MAY static void find_ties(vb_state state, VB_CONST_BUFFERS, vb_entry entry) {
 }
 
 /* Lies about an entry that has a tie below it. */
-MAY static vb_ingested lie_about_ties(vb_ingested r, vb_state state, VB_BUFFERS, vb_pair *prune, size_t prune_len, vb_entry entry, const uint8_t token[64], uint8_t prevent) {
+MAY static vb_ingested lie_about_ties(vb_ingested r, vb_state state, VB_BUFFERS, vb_pair *prune, size_t prune_len, vb_entry entry, const uint8_t token[64], uint8_t prevent,
+                                      vb_origin origin) {
     static const uint8_t digest[32];
     if (!tied || r.obsolete || r.held) return r;
     if (LIE == TIES_ARE_SEVEN && !r.refusal && prevent) { /* what was filed goes again */
@@ -194,33 +266,12 @@ MAY static vb_ingested lie_about_ties(vb_ingested r, vb_state state, VB_BUFFERS,
     }
     if (prevent || !(LIE == TIES_REMOVED && !r.refusal) && !(LIE == TIES_MAKE_ROOM && r.refusal == 8)) return r;
     for (size_t k = 0; k < tied; k++) r.state = vb_forget_entry(r.state, ALL_ARGUMENTS, entry.subspace_id, tied_paths[k], 0, digest).state;
-    if (r.refusal) r = vb_ingest_entry(r.state, ALL_ARGUMENTS, prune, prune_len, entry, token, 0);
+    if (r.refusal) r = vb_ingest_entry(r.state, ALL_ARGUMENTS, prune, prune_len, entry, token, 0, origin);
     r.pruned = covered, memcpy(prune, covered_pairs, covered * sizeof *prune);
     return r;
 }
 
 /* How much has arrived */
-
-/* The value of the record at a subspace and path in one tree; NULL if none stands there. Of a store that is well-formed. */
-MAY static uint8_t *value_at(vb_state state, uint8_t *tree, const uint32_t *dir, int time_first, vb_subspace subspace, vb_path path) {
-    for (size_t k = 0; k < state.count; k++) {
-        uint8_t *record = tree + dir[2 * k];
-        const size_t key = dir[2 * k + 1] - VB_VALUE;
-        vb_decoded d = time_first ? vb_decode_tsp_entry_key(record, key) : vb_decode_spt_entry_key(record, key);
-        if (d.subspace.high == subspace.high && d.subspace.low == subspace.low && vb_path_eq(d.path, path).yes) return record + key;
-    }
-    return NULL;
-}
-
-MAY static uint64_t number_at(const uint8_t *p) {
-    uint64_t n = 0;
-    for (int i = 0; i < 8; i++) n = n << 8 | p[i];
-    return n;
-}
-
-MAY static void put_number(uint8_t *p, uint64_t n) {
-    for (int i = 7; i >= 0; i--, n >>= 8) p[i] = (uint8_t)n;
-}
 
 /* The path of a stored entry that another's path prefixes, or with `above` that prefixes it; that path itself if there is none. */
 MAY static vb_path met_path(vb_state state, VB_CONST_BUFFERS, vb_subspace subspace, vb_path path, int above) {
@@ -274,16 +325,16 @@ MAY static vb_available_recorded lie_record(int forgets, vb_state state, VB_TREE
     if (LIE == TWELVE_WRITES && r.refusal == 12) vb_record_available_length(state, ARGUMENTS, subspace, path, 0, digest, 0);
     if (LIE == DIRECTORY_WRITTEN && done && state.count < state.limit) ((uint32_t *)spt_dir)[2 * state.count] = 1;
     for (int t = 0; t < 2 && done; t++) {
-        uint8_t *value = value_at(state, t ? tsp : spt, t ? tsp_dir : spt_dir, t, subspace, path), swapped[8];
+        uint8_t *value = value_at(state, t ? tsp : spt, t ? tsp_dir : spt_dir, t, subspace, path);
         if (!value) continue;
-        if (LIE == TOKEN_WIPED) memset(value + 40, 0, 64);
-        if (LIE == DIGEST_WRITTEN && expects) value[8 + 31] ^= 1;
-        if (LIE == LENGTH_AS_THE_PAYLOADS && !forgets) memcpy(value, value + 104, 8);
-        if (LIE == LOW_HALF_ONLY) put_number(value + 104, number_at(value + 104) & UINT32_MAX);
-        if (LIE == LITTLE_ENDIAN_LENGTH) {
-            for (int i = 0; i < 8; i++) swapped[i] = value[111 - i];
-            memcpy(value + 104, swapped, 8);
-        }
+        uint8_t *length = value + VB_VALUE_AVAILABLE;
+        if (LIE == TOKEN_WIPED) memset(value + VB_VALUE_TOKEN, 0, 64);
+        if (LIE == DIGEST_WRITTEN && expects) value[VB_VALUE_DIGEST + 31] ^= 1;
+        if (LIE == LENGTH_AS_THE_PAYLOADS && !forgets) memcpy(value, length, 8);
+        if (LIE == LOW_HALF_ONLY) put_number(length, number_at(length) & UINT32_MAX);
+        if (LIE == LITTLE_ENDIAN_LENGTH) put_number(length, reversed(number_at(length)));
+        if (LIE == RECORDS_AT_THE_END) memcpy(value + VB_VALUE - 8, length, 8), put_number(length, found.lengthy.available);
+        if (LIE == RECORDING_WIPES_THE_ORIGIN) memset(value + VB_VALUE_ORIGIN, 0, VB_VALUE - VB_VALUE_ORIGIN);
     }
     return r;
 }
@@ -299,14 +350,51 @@ MAY static vb_available_recorded lie_forget_payload(vb_state state, VB_TREES, vb
 /* An entry that is filed gets the available length of the one that stood at its place, if that is not too much; or of the one that was forgotten last. */
 MAY static void lie_about_filed(vb_ingested r, VB_BUFFERS, vb_entry entry, uint64_t before) {
     if (r.refusal || r.obsolete || r.held) return;
-    const uint64_t length = LIE == NEWER_KEEPS_THE_LENGTH ? before : LIE == FILED_AGAIN_WITH_THE_LENGTH ? forgotten_length : 0;
+    const uint64_t length = LIE == NEWER_KEEPS_THE_LENGTH ? before : LIE == FILED_AGAIN_WITH_THE_LENGTH ? last_forgotten.lengthy.available : 0;
     if (length && length <= entry.payload_length) {
         static const uint8_t digest[32];
         vb_record_available_length(r.state, ARGUMENTS, entry.subspace_id, entry.path, 0, digest, length);
     }
 }
 
-MAY static vb_ingested lie_ingest_entry(vb_state state, VB_BUFFERS, vb_pair *prune, size_t prune_len, vb_entry entry, const uint8_t token[64], uint8_t prevent) {
+/* Lies about where an entry came from that was filed; `handed` is the origin handed in, `before` what stood at its place. */
+MAY static void lie_about_origin(vb_ingested r, VB_BUFFERS, vb_entry entry, vb_origin handed, vb_entry_found before) {
+    const int lies = LIE == KIND_AS_HANDED_IN || LIE == LOCAL_KEEPS_ITS_SESSION || LIE == LITTLE_ENDIAN_SESSION || LIE == ORIGIN_IN_ONE_TREE || LIE == NEWER_KEEPS_THE_ORIGIN ||
+                     LIE == FILED_AGAIN_WITH_THE_ORIGIN;
+    if (!lies || r.refusal || r.obsolete || r.held) return;
+    for (int t = 0; t < 2; t++) {
+        uint8_t *value = value_at(r.state, t ? tsp : spt, t ? tsp_dir : spt_dir, t, entry.subspace_id, entry.path), *session = value + VB_VALUE_SESSION;
+        if (LIE == KIND_AS_HANDED_IN) value[VB_VALUE_ORIGIN] = handed.remote;
+        if (LIE == LOCAL_KEEPS_ITS_SESSION) put_number(session, handed.session);
+        if (LIE == LITTLE_ENDIAN_SESSION) put_number(session, reversed(number_at(session)));
+        if (LIE == ORIGIN_IN_ONE_TREE && t) memset(value + VB_VALUE_ORIGIN, 0, VB_VALUE - VB_VALUE_ORIGIN);
+        if (LIE == NEWER_KEEPS_THE_ORIGIN && before.found) put_origin_of(value, before.lengthy.origin);
+        if (LIE == FILED_AGAIN_WITH_THE_ORIGIN && last_forgotten.found && vb_path_eq(last_forgotten.lengthy.entry.path, entry.path).yes && last_forgotten.lengthy.entry.timestamp == entry.timestamp)
+            put_origin_of(value, last_forgotten.lengthy.origin);
+    }
+}
+
+/* Lies about an origin before it is filed. */
+MAY static vb_origin lie_origin(vb_origin origin) {
+    if (LIE == ALL_FILED_AS_LOCAL || (LIE == ZERO_SESSION_FILED_AS_LOCAL && !origin.session)) origin.remote = 0;
+    if (LIE == REMOTE_BY_ONE_ONLY) origin.remote = origin.remote == 1;
+    if (LIE == SESSION_MEANS_REMOTE) origin.remote = origin.session != 0;
+    if (LIE == SESSION_OF_32_BITS) origin.session &= UINT32_MAX;
+    if (LIE == SESSION_OF_63_BITS) origin.session &= INT64_MAX;
+    return origin;
+}
+
+MAY static vb_ingested lie_ingest_entry_numbers(vb_state state, VB_BUFFERS, uint32_t *prune, size_t prune_len, vb_entry entry, const uint8_t token[64], uint8_t prevent, vb_origin origin) {
+    if (LIE == NUMBERS_FILE_AS_LOCAL) origin.remote = 0;
+    return vb_ingest_entry_numbers(state, ALL_ARGUMENTS, prune, prune_len, entry, token, prevent, origin);
+}
+
+MAY static vb_pairs_ingested lie_ingest_entry_by_value(vb_state state, VB_BUFFERS, vb_pairs prune, vb_entry entry, const uint8_t token[64], uint8_t prevent, vb_origin origin) {
+    if (LIE == BY_VALUE_FILES_AS_LOCAL) origin.remote = 0;
+    return vb_ingest_entry_by_value(state, ALL_ARGUMENTS, prune, entry, token, prevent, origin);
+}
+
+MAY static vb_ingested lie_ingest_entry(vb_state state, VB_BUFFERS, vb_pair *prune, size_t prune_len, vb_entry entry, const uint8_t token[64], uint8_t prevent, vb_origin origin) {
     static uint8_t kept[VB_RECORD_MOST * VB_LIMIT_MOST + 64];
     static uint32_t kept_dir[2 * VB_LIMIT_MOST + 64];
     if (LIE == ONE_TREE_PRUNED) memcpy(kept, tsp, tsp_len), memcpy(kept_dir, tsp_dir, 4 * tsp_dir_len);
@@ -318,7 +406,7 @@ MAY static vb_ingested lie_ingest_entry(vb_state state, VB_BUFFERS, vb_pair *pru
         return (vb_ingested){.held = 1, .state = state};
     if (LIE == TIES_REMOVED || LIE == TIES_ARE_SEVEN || LIE == TIES_MAKE_ROOM) find_ties(state, ARGUMENTS, entry);
     keep_tally(tally, tally_len);
-    vb_ingested r = vb_ingest_entry(state, ALL_ARGUMENTS, prune, prune_len, entry, token, prevent);
+    vb_ingested r = vb_ingest_entry(state, ALL_ARGUMENTS, prune, prune_len, entry, token, prevent, lie_origin(origin));
     if (LIE == TALLY_BEFORE_THE_CHANGE && r.pruned) tally[19] += (uint8_t)r.pruned;
     r.refusal = lie_about_tally(state, r.refusal, !r.refusal && !r.obsolete, entry.path, tally, tally_len);
     if (LIE == FOUR_AND_SIX_HIDDEN && (r.refusal == 4 || r.refusal == 6)) r.refusal = 0;
@@ -331,9 +419,10 @@ MAY static vb_ingested lie_ingest_entry(vb_state state, VB_BUFFERS, vb_pair *pru
     if (LIE == ONE_TREE_PRUNED && r.pruned) memcpy(tsp, kept, tsp_len), memcpy(tsp_dir, kept_dir, 4 * tsp_dir_len);
     if (LIE == BEYOND_THE_BOUNDS && !r.refusal && spt_len > VB_RECORD_MOST * state.limit) spt[VB_RECORD_MOST * state.limit] = 0;
     if (LIE == ALL_OBSOLETE && !r.refusal) r.obsolete = 1;
-    r = lie_about_ties(r, state, ALL_ARGUMENTS, prune, prune_len, entry, token, prevent);
+    r = lie_about_ties(r, state, ALL_ARGUMENTS, prune, prune_len, entry, token, prevent, origin);
+    lie_about_origin(r, ALL_ARGUMENTS, entry, origin, found);
     if (LIE == NEWER_KEEPS_THE_LENGTH || LIE == FILED_AGAIN_WITH_THE_LENGTH) lie_about_filed(r, ALL_ARGUMENTS, entry, found.lengthy.available);
-    return lie_about_held(r, state, ALL_ARGUMENTS, prune, prune_len, entry, token, prevent, found.lengthy);
+    return lie_about_held(r, state, ALL_ARGUMENTS, prune, prune_len, entry, token, prevent, origin, found.lengthy);
 }
 
 /* The keys' layer */
@@ -426,5 +515,7 @@ MISREAD(vb_stepped, read_component_at, at, 0, (const uint8_t *key, size_t key_le
 #define vb_forget_entry lie_forget_entry
 #define vb_forget_area lie_forget_area
 #define vb_ingest_entry lie_ingest_entry
+#define vb_ingest_entry_numbers lie_ingest_entry_numbers
+#define vb_ingest_entry_by_value lie_ingest_entry_by_value
 #define vb_record_available_length lie_record_available_length
 #define vb_forget_payload lie_forget_payload

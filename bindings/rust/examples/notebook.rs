@@ -1,6 +1,9 @@
-//! Opens a store, files five readings and the last of them again, keeps it and takes it back, records how much of two photographs has arrived, lists what the
-//! store holds and what of it is all there, asks how much each recorder has, and drops an area.
-use virebony::{Area, AreaSubspace, AuthorisedEntry, Entry, EntryIngestionSuccess, Path, QueryIgnoreParams, Range, Refusal, Store, SubspaceId};
+//! Opens a store, files five readings, one of them from another tablet, and the last of them again, keeps it and takes it back, records how much of two
+//! photographs has arrived, lists what the store holds and where it came from, and what of it is all there, looks one up, asks how much each recorder has, and
+//! drops an area.
+use virebony::{
+    Area, AreaSubspace, AuthorisedEntry, Entry, EntryIngestionSuccess, EntryOrigin, Path, QueryIgnoreParams, Range, Refusal, Store, SubspaceId,
+};
 
 const NAMESPACE: [u8; 16] = [1; 16];
 
@@ -12,12 +15,20 @@ fn shown(path: &Path) -> String {
     path.components().map(|component| format!("/{}", String::from_utf8_lossy(component))).collect()
 }
 
+fn came(origin: EntryOrigin) -> String {
+    match origin {
+        EntryOrigin::Local => "local".into(),
+        EntryOrigin::Remote(session) => format!("from session {session}"),
+    }
+}
+
 fn main() -> Result<(), Refusal> {
     let mut store = Store::open(NAMESPACE, 16)?;
     for (i, text) in ["ward/3/ann", "ward/3/bob", "ward/4", "ward/3", "ward/3/ann", "ward/3/ann"].into_iter().enumerate() {
         let recorder = SubspaceId { high: 0, low: if text == "ward/4" { 8 } else { 9 } };
         let entry = Entry::new(NAMESPACE, recorder, path_of(text)?, 100 + i.min(4) as u64, 5000, [0; 32]); // the last is the fifth again
-        match store.ingest_entry(AuthorisedEntry::new(entry, [7; 64]), false)? {
+        let origin = if i == 2 || i == 5 { EntryOrigin::Remote(31) } else { EntryOrigin::Local }; // which the stored fifth does not become
+        match store.ingest_entry(AuthorisedEntry::new(entry, [7; 64]), false, origin)? {
             EntryIngestionSuccess::Success { pruned } => println!("{text}: taken, {pruned} pruned"), // the fourth prunes the first two
             EntryIngestionSuccess::Obsolete { newer, .. } => println!("{text}: obsolete since {}", newer.entry().timestamp()),
             EntryIngestionSuccess::Held => println!("{text}: held already"),
@@ -33,7 +44,11 @@ fn main() -> Result<(), Refusal> {
     }
     for stored in store.query_area(&Area::new_full(), Default::default())? {
         let entry = stored.entry().entry();
-        println!("{} at {}, {} of {} bytes there", shown(entry.path()), entry.timestamp(), stored.available(), entry.payload_length());
+        let (path, timestamp, length, origin) = (shown(entry.path()), entry.timestamp(), entry.payload_length(), came(stored.origin()));
+        println!("{path} at {timestamp}, {} of {length} bytes there, {origin}", stored.available());
+    }
+    if let Some(stored) = store.entry(&SubspaceId { high: 0, low: 8 }, &path_of("ward/4")?, Default::default())? {
+        println!("recorder 8's /ward/4: {}", came(stored.origin()));
     }
     let complete = QueryIgnoreParams { ignore_incomplete_payloads: true, ..Default::default() };
     for stored in store.query_area(&Area::new_full(), complete)? {

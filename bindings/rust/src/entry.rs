@@ -1,4 +1,4 @@
-//! Entries, with their token and with how much of their payload is there.
+//! Entries, with their token, with how much of their payload is there and where they came from.
 use crate::{raw, Path};
 
 /// 16 bytes that name a namespace.
@@ -150,17 +150,44 @@ impl AuthorisedEntry {
     }
 }
 
-/// An entry as it is stored: with its token and how much of its payload is available.
+/// Where an entry came from. A store keeps the origin that an entry was filed with; it plays no part in which entries are newer, pruned, held or listed.
+#[derive(Clone, Copy, Debug, PartialEq, Eq, PartialOrd, Ord, Hash)]
+pub enum EntryOrigin {
+    /// It was filed here.
+    Local,
+    /// It came from another source, in the session with this number, which may be any, 0 too.
+    Remote(u64),
+}
+
+impl EntryOrigin {
+    /// As it lies in memory.
+    pub fn to_raw(self) -> raw::Origin {
+        match self {
+            EntryOrigin::Local => raw::Origin { remote: 0, session: 0 },
+            EntryOrigin::Remote(session) => raw::Origin { remote: 1, session },
+        }
+    }
+
+    pub(crate) fn of_answer(origin: raw::Origin) -> EntryOrigin {
+        match origin.remote {
+            0 => EntryOrigin::Local,
+            _ => EntryOrigin::Remote(origin.session),
+        }
+    }
+}
+
+/// An entry as it is stored: with its token, how much of its payload is available, and where it came from.
 #[derive(Clone, Copy, Debug, PartialEq, Eq, Hash)]
 pub struct LengthyAuthorisedEntry {
     entry: AuthorisedEntry,
     available: u64,
+    origin: EntryOrigin,
 }
 
 impl LengthyAuthorisedEntry {
-    /// An entry with its token and available length.
-    pub fn new(entry: AuthorisedEntry, available: u64) -> LengthyAuthorisedEntry {
-        LengthyAuthorisedEntry { entry, available }
+    /// An entry with its token, available length and origin.
+    pub fn new(entry: AuthorisedEntry, available: u64, origin: EntryOrigin) -> LengthyAuthorisedEntry {
+        LengthyAuthorisedEntry { entry, available, origin }
     }
 
     /// The entry with its token.
@@ -173,6 +200,12 @@ impl LengthyAuthorisedEntry {
     /// was filed, and 0 if neither did.
     pub fn available(&self) -> u64 {
         self.available
+    }
+
+    /// Where the entry came from. Of an entry that a store answers: the origin that it was filed with; one that came again later, and was held, changed
+    /// nothing.
+    pub fn origin(&self) -> EntryOrigin {
+        self.origin
     }
 
     /// The entry with its token.

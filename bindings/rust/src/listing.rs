@@ -1,5 +1,5 @@
 //! What a query answers: one entry after another.
-use crate::{raw, AuthorisedEntry, Entry, LengthyAuthorisedEntry, NamespaceId, Path, Refusal, Store};
+use crate::{raw, AuthorisedEntry, Entry, EntryOrigin, LengthyAuthorisedEntry, NamespaceId, Path, Refusal, Store};
 
 /// What a listing asks for.
 #[derive(Clone, Copy, Debug)]
@@ -36,7 +36,8 @@ impl<'a> Listing<'a> {
         }
     }
 
-    /// The next match as it lies in the subspace-first tree: its key, then its value of 112 bytes. [`Iterator::next`] reads it as an entry.
+    /// The next match as it lies in the subspace-first tree: its key, then its value of 121 bytes ([`raw::VALUE`]), of which the last nine are
+    /// where the entry came from. [`Iterator::next`] reads it as an entry.
     pub fn next_record(&mut self) -> Option<&'a [u8]> {
         if self.next.found == 0 {
             return None;
@@ -65,9 +66,12 @@ fn read_record(namespace_id: NamespaceId, record: &[u8]) -> LengthyAuthorisedEnt
     let (length, value) = part(value);
     let (digest, value) = part(value);
     let (token, value) = part(value);
-    let (available, _) = part(value);
+    let (available, value) = part(value);
+    let ([remote], value) = part(value);
+    let (session, _) = part(value);
+    let origin = EntryOrigin::of_answer(raw::Origin { remote, session: u64::from_be_bytes(session) });
     let entry = Entry::new(namespace_id, triple.subspace, Path::of_answer(triple.path), triple.timestamp, u64::from_be_bytes(length), digest);
-    LengthyAuthorisedEntry::new(AuthorisedEntry::new(entry, token), u64::from_be_bytes(available))
+    LengthyAuthorisedEntry::new(AuthorisedEntry::new(entry, token), u64::from_be_bytes(available), origin)
 }
 
 /// The first N bytes, and those behind.

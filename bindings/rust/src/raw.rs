@@ -3,8 +3,8 @@
 //! comment lists its refusals in the order in which they are checked.
 //!
 //! A refused call has changed no byte of any buffer; the state in its answer is the one that it was handed (all 0 for a refused opening), and all else
-//! in the answer is 0, but for a prune list by value, which comes back as it was handed in, and a reader's position and what is left from it. An entry, subspace or path that is answered where there is none is all 0. Handed in, every byte but 0 means yes; answered, it is 0
-//! or 1.
+//! in the answer is 0, but for a prune list by value, which comes back as it was handed in, and a reader's position and what is left from it. An entry, subspace, path or origin
+//! that is answered where there is none is all 0. Handed in, every byte but 0 means yes; answered, it is 0 or 1.
 //!
 //! ```
 //! use virebony::raw;

@@ -2,7 +2,8 @@
 use crate::listing::{Listing, Query};
 use crate::tally::{tally_of, Tally};
 use crate::{
-    raw, Area, AreaOfInterest, AuthorisedEntry, Entry, LengthyAuthorisedEntry, NamespaceId, Path, PayloadDigest, Range3d, Refusal, SubspaceId,
+    raw, Area, AreaOfInterest, AuthorisedEntry, Entry, EntryOrigin, LengthyAuthorisedEntry, NamespaceId, Path, PayloadDigest, Range3d, Refusal,
+    SubspaceId,
 };
 use raw::{Buffers, BuffersMut, Pair, State, Trees};
 
@@ -22,7 +23,8 @@ pub enum EntryIngestionSuccess {
         /// A stored entry of its subspace, at its path or a prefix of it, that is newer.
         newer: AuthorisedEntry,
     },
-    /// The very entry is stored already, and nothing changed: the stored one keeps its token and its available length, whatever token came with it now.
+    /// The very entry is stored already, and nothing changed: the stored one keeps its token, its available length and its origin, whatever token and origin
+    /// came with it now.
     Held,
 }
 
@@ -44,12 +46,12 @@ impl QueryIgnoreParams {
 /// A store of one namespace's entries, at most 1,024 of them, that owns its buffers.
 ///
 /// ```
-/// use virebony::{Area, AuthorisedEntry, Entry, EntryIngestionSuccess, Path, Refusal, Store, SubspaceId};
+/// use virebony::{Area, AuthorisedEntry, Entry, EntryIngestionSuccess, EntryOrigin, Path, Refusal, Store, SubspaceId};
 /// let (namespace, subspace) = ([1; 16], SubspaceId { high: 0, low: 9 });
 /// let mut store = Store::open(namespace, 16)?;
 /// let mut file = |path: &[&str], timestamp| {
 ///     let entry = Entry::new(namespace, subspace, Path::from_slices(path)?, timestamp, 5, [0; 32]);
-///     store.ingest_entry(AuthorisedEntry::new(entry, [7; 64]), false)
+///     store.ingest_entry(AuthorisedEntry::new(entry, [7; 64]), false, EntryOrigin::Remote(31))
 /// };
 /// file(&["ward", "3"], 100)?;
 /// assert_eq!(file(&["ward", "4"], 100)?, EntryIngestionSuccess::Success { pruned: 0 });
@@ -60,6 +62,7 @@ impl QueryIgnoreParams {
 /// let stored: Vec<_> = store.query_area(&Area::new_full(), Default::default())?.collect();
 /// assert_eq!(stored.len(), 1);
 /// assert_eq!(stored[0].entry().entry().path(), &Path::from_slices(&["ward"])?);
+/// assert_eq!(stored[0].origin(), EntryOrigin::Remote(31));
 /// assert_eq!(store.forget_entry(&subspace, stored[0].entry().entry().path(), Some([8; 32])), Err(Refusal::OtherDigest));
 /// assert_eq!(store.forget_area(&Area::new_subspace(subspace), None), Ok(1));
 /// assert!(store.is_empty());
@@ -114,15 +117,20 @@ impl Store {
         self.state.limit
     }
 
-    /// Files an entry with available length 0. It is obsolete, and nothing changes, if a stored entry of its subspace at its path or a prefix of it is
-    /// newer. It is held, and nothing changes, if an entry of the same subspace, path, timestamp, digest and length is stored. Else the entries of the subspace
-    /// at its path or below that are older, by timestamp, then digest, then payload length, are removed; an entry of equal rank stays. Refused: 6; if it is
-    /// neither obsolete nor held 7 (with `prevent_pruning`), 8.
-    pub fn ingest_entry(&mut self, authorised_entry: AuthorisedEntry, prevent_pruning: bool) -> Result<EntryIngestionSuccess, Refusal> {
+    /// Files an entry with its origin and available length 0. It is obsolete, and nothing changes, if a stored entry of its subspace at its path or a prefix of it is
+    /// newer. It is held, and nothing changes, if an entry of the same subspace, path, timestamp, digest and length is stored, whatever
+    /// token and origin come now. Else the entries of the subspace at its path or below that are older, by timestamp, then digest, then payload length, are
+    /// removed; an entry of equal rank stays. Refused: 6; if it is neither obsolete nor held 7 (with `prevent_pruning`), 8.
+    pub fn ingest_entry(
+        &mut self,
+        authorised_entry: AuthorisedEntry,
+        prevent_pruning: bool,
+        origin: EntryOrigin,
+    ) -> Result<EntryIngestionSuccess, Refusal> {
         let (entry, token) = authorised_entry.into_parts();
         let Store { state, spt, spt_dir, tsp, tsp_dir, tally, prune } = self;
         let mut store = BuffersMut { spt, spt_dir, tsp, tsp_dir, tally };
-        let answer = raw::ingest_entry(*state, &mut store, prune, entry.to_raw(), &token, u8::from(prevent_pruning));
+        let answer = raw::ingest_entry(*state, &mut store, prune, entry.to_raw(), &token, u8::from(prevent_pruning), origin.to_raw());
         self.state = Refusal::check(answer.refusal, answer.state)?;
         Ok(if answer.obsolete != 0 {
             let newer = AuthorisedEntry::new(Entry::of_answer(answer.newer), answer.token);
@@ -155,11 +163,12 @@ impl Store {
     /// available length 0, also one that takes another's place. Refused: 11, 9, 12.
     ///
     /// ```
-    /// use virebony::{Area, AuthorisedEntry, Entry, Path, QueryIgnoreParams, Refusal, Store, SubspaceId};
+    /// use virebony::{Area, AuthorisedEntry, Entry, EntryOrigin, Path, QueryIgnoreParams, Refusal, Store, SubspaceId};
     /// let (subspace, path) = (SubspaceId { high: 0, low: 9 }, Path::from_slices(&["plot", "3"])?);
     /// let mut store = Store::open([1; 16], 16)?;
     /// assert_eq!(store.record_available_length(&subspace, &path, None, 0), Err(Refusal::AbsentEntry));
-    /// store.ingest_entry(AuthorisedEntry::new(Entry::new([1; 16], subspace, path, 100, 5000, [8; 32]), [7; 64]), false)?;
+    /// let entry = Entry::new([1; 16], subspace, path, 100, 5000, [8; 32]);
+    /// store.ingest_entry(AuthorisedEntry::new(entry, [7; 64]), false, EntryOrigin::Local)?;
     /// let complete = QueryIgnoreParams { ignore_incomplete_payloads: true, ..Default::default() };
     /// store.record_available_length(&subspace, &path, Some([8; 32]), 4999)?;
     /// assert_eq!(store.query_area(&Area::new_full(), complete)?.count(), 0);
@@ -193,8 +202,9 @@ impl Store {
     /// The entry at a subspace and path, unless `ignore` passes over it.
     pub fn entry(&self, subspace_id: &SubspaceId, path: &Path, ignore: QueryIgnoreParams) -> Result<Option<LengthyAuthorisedEntry>, Refusal> {
         let answer = raw::find_entry(self.state, self.buffers(), *subspace_id, *path.as_raw(), ignore.to_raw());
-        let raw::LengthyEntry { entry, token, available } = Refusal::check(answer.refusal, answer.lengthy)?;
-        Ok((answer.found != 0).then(|| LengthyAuthorisedEntry::new(AuthorisedEntry::new(Entry::of_answer(entry), token), available)))
+        let raw::LengthyEntry { entry, token, available, origin } = Refusal::check(answer.refusal, answer.lengthy)?;
+        let found = || LengthyAuthorisedEntry::new(AuthorisedEntry::new(Entry::of_answer(entry), token), available, EntryOrigin::of_answer(origin));
+        Ok((answer.found != 0).then(found))
     }
 
     /// The entries that an area includes, in key order: by subspace, then path.
@@ -244,7 +254,7 @@ impl Store {
     /// file.extend([state.count, state.limit].iter().flat_map(|number| number.to_le_bytes()));
     /// file.extend(buffers.spt.iter().chain(buffers.tsp));
     /// file.extend(buffers.spt_dir.iter().chain(buffers.tsp_dir).flat_map(|number| number.to_le_bytes()));
-    /// assert_eq!(file.len(), 32 + 2 * 410 * 2 + 2 * 8 * 2);
+    /// assert_eq!(file.len(), 32 + 2 * 419 * 2 + 2 * 8 * 2);
     /// # Ok::<(), virebony::Refusal>(())
     /// ```
     pub fn as_parts(&self) -> (State, Buffers<'_>) {
@@ -253,6 +263,11 @@ impl Store {
 
     /// The store of a state and buffers, if they are a well-formed one. Buffers may be longer than the limit asks. The tally is worked out from the
     /// subspace-first tree, and the archive compares it with its own. Refused: 1, 2, 3.
+    ///
+    /// A store that an edition before 6 kept has 410 bytes of a tree for each entry of the limit, and values of 112: it is refused with 2, and in longer trees
+    /// with 3, unless it has no entry and is 0 up to 419 × limit. It is carried over by giving both trees 419 × limit bytes and writing nine zeros, which say local, behind each value, at
+    /// the record's end; each record then has nine bytes more, and the one in place i begins 9 × i bytes later, which goes into the directories. State, keys
+    /// and tally stay. `docs/FORMAT.md` tells it too.
     pub fn from_parts(state: State, spt: Vec<u8>, spt_dir: Vec<u32>, tsp: Vec<u8>, tsp_dir: Vec<u32>) -> Result<Store, Refusal> {
         let mut store = Store { state, spt, spt_dir, tsp, tsp_dir, tally: Vec::new(), prune: Vec::new() };
         store.count_area(&Area::new_full())?;

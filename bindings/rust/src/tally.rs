@@ -30,11 +30,11 @@ impl TallyItem {
 /// The items of a tally, in ascending order of their subspaces; [`Store::tally`](crate::Store::tally) makes it.
 ///
 /// ```
-/// use virebony::{AuthorisedEntry, Entry, Path, Store, SubspaceId, TallyItem};
+/// use virebony::{AuthorisedEntry, Entry, EntryOrigin, Path, Store, SubspaceId, TallyItem};
 /// let mut store = Store::open([1; 16], 16)?;
 /// for (recorder, name, timestamp) in [(9, "a", 100), (9, "b", 102), (7, "a", 101)] {
 ///     let entry = Entry::new([1; 16], SubspaceId { high: 0, low: recorder }, Path::from_slices(&[name])?, timestamp, 5, [0; 32]);
-///     store.ingest_entry(AuthorisedEntry::new(entry, [7; 64]), false)?;
+///     store.ingest_entry(AuthorisedEntry::new(entry, [7; 64]), false, EntryOrigin::Local)?;
 /// }
 /// let counts: Vec<_> = store.tally().map(|item| (item.subspace_id.low, item.count)).collect();
 /// assert_eq!(counts, [(7, 1), (9, 2)]);

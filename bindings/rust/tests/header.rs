@@ -3,7 +3,13 @@ use virebony::{raw, Refusal};
 
 const HEADER: &str = include_str!("../../c/virebony.h");
 const CALLS: &str = include_str!("../src/sys/calls.rs");
-const TESTS: [&str; 3] = [include_str!("raw_values.rs"), include_str!("raw_keys.rs"), include_str!("raw_store.rs")];
+const TESTS: [&str; 5] = [
+    include_str!("raw_values.rs"),
+    include_str!("raw_keys.rs"),
+    include_str!("raw_store.rs"),
+    include_str!("raw_origins.rs"),
+    include_str!("common/mod.rs"),
+];
 
 /// The names `vb_..` of a text that stand before a parenthesis.
 fn names(text: &str) -> Vec<&str> {
@@ -39,7 +45,15 @@ fn edition() {
 fn numbers() {
     let named =
         [("LIMIT_MOST", raw::LIMIT_MOST), ("RECORD_MOST", raw::RECORD_MOST), ("KEY_MOST", raw::KEY_MOST), ("VALUE", raw::VALUE), ("ITEM", raw::ITEM)];
-    for (name, number) in named.into_iter().chain([("MCL", raw::MCL), ("MCC", raw::MCC), ("MPL", raw::MPL)]) {
+    let parts = [
+        ("VALUE_PAYLOAD_LENGTH", raw::VALUE_PAYLOAD_LENGTH),
+        ("VALUE_DIGEST", raw::VALUE_DIGEST),
+        ("VALUE_TOKEN", raw::VALUE_TOKEN),
+        ("VALUE_AVAILABLE", raw::VALUE_AVAILABLE),
+        ("VALUE_ORIGIN", raw::VALUE_ORIGIN),
+        ("VALUE_SESSION", raw::VALUE_SESSION),
+    ];
+    for (name, number) in named.into_iter().chain(parts).chain([("MCL", raw::MCL), ("MCC", raw::MCC), ("MPL", raw::MPL)]) {
         let said = HEADER.lines().any(|line| {
             let line = line.trim();
             line == format!("VB_{name} = {number}")

@@ -3,6 +3,14 @@ mod common;
 use common::*;
 use virebony::raw;
 
+/// The bytes of a record at a path of one component of a byte, and at one of two: 29 and 32 of key, and 121 of value.
+const ONE: u32 = 150;
+const TWO: u32 = 153;
+/// Where in a record of ONE bytes the last byte of the available length lies: its value from 29 on, therein 104 to 111, and behind it nine bytes of origin.
+const ARRIVED: usize = 140;
+/// The bytes of a tree of limit 2.
+const ROOM: usize = 838;
+
 #[test]
 fn opening_writes_zeros_up_to_the_limit() {
     let mut kept = Kept::lent(3);
@@ -19,10 +27,10 @@ fn opening_writes_zeros_up_to_the_limit() {
     assert_eq!(kept, before);
     let opened = raw::open(&[0xaa; 16], 2, &mut kept.buffers_mut());
     assert_eq!(opened, raw::Opened { refusal: 0, state: raw::State { namespace_id: [0xaa; 16], count: 0, limit: 2 } });
-    assert!(kept.spt[..820].iter().chain(&kept.tsp[..820]).all(|byte| *byte == 0));
+    assert!(kept.spt[..ROOM].iter().chain(&kept.tsp[..ROOM]).all(|byte| *byte == 0));
     assert_eq!([&kept.spt_dir[..4], &kept.tsp_dir[..4]], [[0; 4]; 2]);
-    assert_eq!((&kept.spt[820..], &kept.spt_dir[4..]), (&before.spt[820..], &before.spt_dir[4..])); // what lies beyond stays
-    assert_eq!((&kept.tsp[820..], &kept.tsp_dir[4..]), (&before.tsp[820..], &before.tsp_dir[4..]));
+    assert_eq!((&kept.spt[ROOM..], &kept.spt_dir[4..]), (&before.spt[ROOM..], &before.spt_dir[4..])); // what lies beyond stays
+    assert_eq!((&kept.tsp[ROOM..], &kept.tsp_dir[4..]), (&before.tsp[ROOM..], &before.tsp_dir[4..]));
     assert_eq!((&kept.tally[..56], &kept.tally[56..]), (&[0; 56][..], &before.tally[56..]));
 }
 
@@ -58,11 +66,6 @@ fn what_no_call_takes() {
     let mut kept = Kept::open(2);
     kept.ingest(entry(1, "61", 5, 3, 9), 0);
     let good = kept.clone();
-    let (bad_path, whole) = (illegal()[1], range(path(""), path(""), 1));
-    let all = raw::Area { path: bad_path, ..everything() };
-    let bad_entry = raw::Entry { path: bad_path, ..entry(1, "", 5, 3, 9) };
-    let bad_range = raw::Range { paths: raw::Paths { start: bad_path, ..whole.paths }, ..whole };
-    let interest = raw::Interest { area: all, max_count: 0, max_size: 0 };
     for want in 1..=4 {
         let mut state = kept.state;
         match want {
@@ -71,31 +74,7 @@ fn what_no_call_takes() {
             3 => state.count = 2,
             _ => (),
         }
-        let unchanged = raw::Ingested { refusal: want, obsolete: 0, held: 0, pruned: 0, state, newer: raw::Entry::default(), token: [0; 64] };
-        let mut pairs = [UNTOUCHED; 3];
-        let mut numbers = [0xeeee_eeee; 6];
-        let mut lent = kept.buffers_mut();
-        assert_eq!(raw::ingest_entry(state, &mut lent, &mut pairs, bad_entry, &TOKEN, 0), unchanged);
-        assert_eq!(raw::ingest_entry_numbers(state, &mut lent, &mut numbers, bad_entry, &TOKEN, 0), unchanged);
-        let by_value = raw::ingest_entry_by_value(state, &mut lent, raw::Pairs { pairs: [UNTOUCHED; 1024] }, bad_entry, &TOKEN, 0);
-        assert_eq!(by_value, raw::PairsIngested { ingested: unchanged, pairs: [UNTOUCHED; 1024] });
-        assert_eq!((pairs, numbers), ([UNTOUCHED; 3], [0xeeee_eeee; 6]));
-        assert_eq!(raw::forget_entry(state, &mut lent, subspace(1), bad_path, 0, &[0; 32]), raw::EntryForgotten { refusal: want, state });
-        assert_eq!(raw::forget_area(state, &mut lent, all, 0, all), raw::AreaForgotten { refusal: want, state, forgotten: 0 });
-        let recorded = raw::AvailableRecorded { refusal: want, state };
-        assert_eq!(raw::record_available_length(state, &mut lent.as_trees(), subspace(1), bad_path, 1, &[0; 32], u64::MAX), recorded);
-        assert_eq!(raw::forget_payload(state, &mut lent.as_trees(), subspace(1), bad_path, 1, &[0; 32]), recorded);
-        let lent = lent.as_buffers();
-        let found = raw::find_entry(state, lent, subspace(1), bad_path, ignore(0, 0));
-        assert_eq!((found.refusal, found.found, found.lengthy.entry, found.lengthy.token), (want, 0, unchanged.newer, [0; 64]));
-        let listed = raw::Listed { refusal: want, found: 0, place: 0 };
-        assert_eq!(raw::query_area_place(state, lent, all, ignore(0, 0), 0), listed);
-        assert_eq!(raw::query_range_place(state, lent, bad_range, ignore(0, 0), usize::MAX), listed);
-        assert_eq!(raw::query_area(state, lent, all, ignore(0, 0), 0), raw::Part { offset: 0, length: 0 });
-        assert_eq!(raw::query_range(state, lent, bad_range, ignore(0, 0), 0), raw::Part { offset: 0, length: 0 });
-        assert_eq!(raw::count_area(state, lent, all), raw::Counted { refusal: want, count: 0 });
-        assert_eq!(raw::summarise(state, lent, bad_range), raw::Counted { refusal: want, count: 0 });
-        assert_eq!(raw::area_of_interest_to_range(state, lent, interest), raw::AreaRange { refusal: want, range: raw::Range::default() });
+        refused_by_all(state, &mut kept.buffers_mut(), illegal()[1], want);
     }
     assert_eq!(kept, good);
 }
@@ -105,7 +84,7 @@ fn ingestion_one_after_another() {
     let mut kept = Kept::open(4);
     let taken = kept.ingest(entry(1, "61/62", 5, 3, 9), 0);
     assert_eq!((taken.refusal, taken.obsolete, taken.pruned, taken.state.count), (0, 0, 0, 1));
-    assert_eq!(kept.spt_dir[..4], [0, 144, 0, 0]); // key 16 + 8 + 8, value 112
+    assert_eq!(kept.spt_dir[..4], [0, TWO, 0, 0]);
     assert_eq!(kept.prune, [UNTOUCHED; 4]);
     assert_eq!(kept.ingest(entry(1, "61", 6, 3, 9), 1).refusal, 7); // it would prune
     let obsolete = kept.ingest(entry(1, "61/62", 4, 3, 9), 2); // obsolete goes before 7
@@ -113,7 +92,7 @@ fn ingestion_one_after_another() {
     assert_eq!(obsolete.newer, raw::Entry { path: answered("61/62"), ..entry(1, "", 5, 3, 9) });
     let above = kept.ingest(entry(1, "61", 6, 3, 9), 0); // the older one is removed
     assert_eq!((above.refusal, above.obsolete, above.pruned, above.state.count), (0, 0, 1, 1));
-    assert_eq!(kept.prune, [raw::Pair { offset: 0, length: 144 }, UNTOUCHED, UNTOUCHED, UNTOUCHED]);
+    assert_eq!(kept.prune, [raw::Pair { offset: 0, length: TWO }, UNTOUCHED, UNTOUCHED, UNTOUCHED]);
     let below = kept.ingest(entry(1, "61/62", 6, 3, 9), 255); // of equal rank: two
     assert_eq!((below.refusal, below.obsolete, below.pruned, below.state.count, below.token), (0, 0, 0, 2, [0; 64]));
     let elsewhere = raw::Entry { namespace_id: [1; 16], ..entry(1, "61", 9, 3, 9) };
@@ -134,13 +113,13 @@ fn ties_in_either_order() {
     assert_eq!([below, above].map(|e| taken(kept.ingest(e, 1))), [(0, 1), (0, 2)]); // pruning prevented: nothing would be removed
     assert_eq!([above, below].map(|e| taken(other.ingest(e, 0))), [(0, 1), (0, 2)]);
     assert_eq!(kept, other); // every byte, and the lists of pairs as they were lent
-    assert_eq!([&kept.spt_dir, &kept.tsp_dir], [&[0, 141, 141, 144]; 2]); // key 29 or 32, value 112
+    assert_eq!([&kept.spt_dir, &kept.tsp_dir], [&[0, ONE, ONE, TWO]; 2]);
     assert_eq!(kept.prune, [UNTOUCHED; 2]);
-    assert_eq!(raw::decode_spt_entry_key(&kept.spt[141..173]).path, answered("61/62"));
-    assert_eq!(raw::decode_tsp_entry_key(&kept.tsp[141..173]).path, answered("61/62"));
+    assert_eq!(raw::decode_spt_entry_key(&kept.spt[150..182]).path, answered("61/62"));
+    assert_eq!(raw::decode_tsp_entry_key(&kept.tsp[150..182]).path, answered("61/62"));
     assert_eq!(kept.tally, items(2, &[(0, 1, 2, 5)]));
     assert_eq!(taken(kept.ingest(entry(1, "", 6, 0, 0), 0)), (2, 1)); // a later one above removes both
-    assert_eq!(kept.prune, [raw::Pair { offset: 0, length: 141 }, raw::Pair { offset: 141, length: 144 }]);
+    assert_eq!(kept.prune, [raw::Pair { offset: 0, length: ONE }, raw::Pair { offset: ONE, length: TWO }]);
 }
 
 #[test]
@@ -150,8 +129,9 @@ fn a_tie_makes_no_room_in_a_full_store() {
     let (full, state, above) = (kept.clone(), kept.state, entry(1, "61", 5, 3, 9));
     for prevent in [0, 1] {
         assert_eq!(kept.ingest(above, prevent).refusal, 8); // with pruning prevented too: nothing would be removed
-        assert_eq!(raw::ingest_entry_numbers(state, &mut kept.buffers_mut(), &mut [7; 2], above, &TOKEN, prevent).refusal, 8);
-        let by_value = raw::ingest_entry_by_value(state, &mut kept.buffers_mut(), raw::Pairs { pairs: [UNTOUCHED; 1024] }, above, &TOKEN, prevent);
+        assert_eq!(raw::ingest_entry_numbers(state, &mut kept.buffers_mut(), &mut [7; 2], above, &TOKEN, prevent, LOCAL).refusal, 8);
+        let by_value =
+            raw::ingest_entry_by_value(state, &mut kept.buffers_mut(), raw::Pairs { pairs: [UNTOUCHED; 1024] }, above, &TOKEN, prevent, LOCAL);
         assert_eq!((by_value.ingested.refusal, by_value.pairs), (8, [UNTOUCHED; 1024]));
     }
     assert_eq!(kept, full);
@@ -167,7 +147,7 @@ fn three_ties_in_every_order() {
         kept
     });
     assert_eq!(stores[0].tally, items(5, &[(0, 1, 3, 5)]));
-    assert_eq!(stores[0].spt_dir[..6], [0, 141, 141, 144, 285, 147]);
+    assert_eq!(stores[0].spt_dir[..6], [0, ONE, ONE, TWO, ONE + TWO, TWO + 3]);
     assert!(stores.iter().all(|kept| *kept == stores[0]));
 }
 
@@ -178,7 +158,7 @@ fn an_older_one_beside_a_tie() {
     assert_eq!([("61/62", 3), ("61/63", 2)].map(|(text, length)| taken(kept.ingest(entry(1, text, 5, length, 9), 0))), [(0, 1), (0, 2)]);
     assert_eq!(kept.ingest(above, 1).refusal, 7);
     assert_eq!(taken(kept.ingest(above, 0)), (1, 2)); // the store was full, and [61][63] makes room
-    assert_eq!(kept.prune, [raw::Pair { offset: 144, length: 144 }, UNTOUCHED]);
+    assert_eq!(kept.prune, [raw::Pair { offset: TWO, length: TWO }, UNTOUCHED]);
     let found = |text| raw::find_entry(kept.state, kept.buffers(), subspace(1), path(text), ignore(0, 0)).found;
     assert_eq!(["61", "61/62", "61/63"].map(found), [1, 1, 0]);
 }
@@ -215,9 +195,9 @@ fn the_same_entry_twice() {
         for (prevent, token) in [(0, TOKEN), (1, TOKEN), (0, [1; 64]), (255, [1; 64])] {
             let (mut pairs, mut numbers) = ([UNTOUCHED; 2], [0xeeee_eeee; 4]);
             let mut lent = kept.buffers_mut();
-            assert_eq!(raw::ingest_entry(state, &mut lent, &mut pairs, e, &token, prevent), held);
-            assert_eq!(raw::ingest_entry_numbers(state, &mut lent, &mut numbers, e, &token, prevent), held);
-            let by_value = raw::ingest_entry_by_value(state, &mut lent, raw::Pairs { pairs: [UNTOUCHED; 1024] }, e, &token, prevent);
+            assert_eq!(raw::ingest_entry(state, &mut lent, &mut pairs, e, &token, prevent, remote(8)), held);
+            assert_eq!(raw::ingest_entry_numbers(state, &mut lent, &mut numbers, e, &token, prevent, remote(8)), held);
+            let by_value = raw::ingest_entry_by_value(state, &mut lent, raw::Pairs { pairs: [UNTOUCHED; 1024] }, e, &token, prevent, remote(8));
             assert_eq!(by_value, raw::PairsIngested { ingested: held, pairs: [UNTOUCHED; 1024] });
             assert_eq!((pairs, numbers), ([UNTOUCHED; 2], [0xeeee_eeee; 4]));
         }
@@ -237,16 +217,16 @@ fn a_full_store_takes_what_prunes() {
     assert_eq!(kept.ingest(entry(1, "61", 5, 3, 9), 0).refusal, 0);
     assert_eq!(kept.ingest(entry(1, "62", 5, 3, 9), 0).refusal, 8);
     assert_eq!(kept.ingest(entry(1, "", 6, 3, 9), 0).pruned, 1);
-    assert_eq!(kept.prune, [raw::Pair { offset: 0, length: 16 + 5 + 8 + 112 }]);
+    assert_eq!(kept.prune, [raw::Pair { offset: 0, length: ONE }]);
 }
 
 #[test]
 fn short_prune_lists() {
     let mut kept = Kept::open(3);
     let (state, e) = (kept.state, entry(1, "61", 5, 3, 9));
-    assert_eq!(raw::ingest_entry(state, &mut kept.buffers_mut(), &mut [UNTOUCHED; 2], e, &TOKEN, 0).refusal, 2);
-    assert_eq!(raw::ingest_entry(state, &mut kept.buffers_mut(), &mut [], e, &TOKEN, 0).refusal, 2);
-    assert_eq!(raw::ingest_entry_numbers(state, &mut kept.buffers_mut(), &mut [0; 5], e, &TOKEN, 0).refusal, 2);
+    assert_eq!(raw::ingest_entry(state, &mut kept.buffers_mut(), &mut [UNTOUCHED; 2], e, &TOKEN, 0, LOCAL).refusal, 2);
+    assert_eq!(raw::ingest_entry(state, &mut kept.buffers_mut(), &mut [], e, &TOKEN, 0, LOCAL).refusal, 2);
+    assert_eq!(raw::ingest_entry_numbers(state, &mut kept.buffers_mut(), &mut [0; 5], e, &TOKEN, 0, LOCAL).refusal, 2);
 }
 
 #[test]
@@ -256,12 +236,12 @@ fn ingestion_over_numbers_and_by_value() {
     kept.ingest(entry(1, "61/63", 5, 3, 9), 0);
     let (mut other, state, above) = (kept.clone(), kept.state, entry(1, "61", 6, 3, 9));
     let mut numbers = [0xeeee_eeee; 6];
-    let first = raw::ingest_entry_numbers(state, &mut kept.buffers_mut(), &mut numbers, above, &TOKEN, 0);
+    let first = raw::ingest_entry_numbers(state, &mut kept.buffers_mut(), &mut numbers, above, &TOKEN, 0, LOCAL);
     assert_eq!((first.refusal, first.obsolete, first.pruned, first.state.count), (0, 0, 2, 1));
-    assert_eq!(numbers, [0, 144, 144, 144, 0xeeee_eeee, 0xeeee_eeee]);
-    let second = raw::ingest_entry_by_value(state, &mut other.buffers_mut(), raw::Pairs { pairs: [UNTOUCHED; 1024] }, above, &TOKEN, 0);
+    assert_eq!(numbers, [0, TWO, TWO, TWO, 0xeeee_eeee, 0xeeee_eeee]);
+    let second = raw::ingest_entry_by_value(state, &mut other.buffers_mut(), raw::Pairs { pairs: [UNTOUCHED; 1024] }, above, &TOKEN, 0, LOCAL);
     assert_eq!(second.ingested, first);
-    assert_eq!(second.pairs[..2], [raw::Pair { offset: 0, length: 144 }, raw::Pair { offset: 144, length: 144 }]);
+    assert_eq!(second.pairs[..2], [raw::Pair { offset: 0, length: TWO }, raw::Pair { offset: TWO, length: TWO }]);
     assert_eq!(second.pairs[2..], [UNTOUCHED; 1022]);
     assert_eq!(other, kept);
 }
@@ -282,7 +262,8 @@ fn lookups() {
     let find = |low, text, i| raw::find_entry(kept.state, kept.buffers(), subspace(low), path(text), i);
     let found = find(1, "61/62", ignore(0, 0));
     let stored = raw::Entry { path: answered("61/62"), ..entry(1, "", 50, 1, 9) };
-    assert_eq!(found, raw::EntryFound { refusal: 0, found: 1, lengthy: raw::LengthyEntry { entry: stored, token: TOKEN, available: 0 } });
+    let lengthy = raw::LengthyEntry { entry: stored, token: TOKEN, available: 0, origin: LOCAL };
+    assert_eq!(found, raw::EntryFound { refusal: 0, found: 1, lengthy });
     assert_eq!(find(1, "61/62", ignore(128, 0)).found, 0); // its payload is not all there
     assert_eq!(find(1, "61", ignore(1, 0)).found, 1);
     assert_eq!(find(1, "61", ignore(0, 1)).found, 0); // its payload is empty
@@ -380,25 +361,31 @@ fn available(kept: &Kept, low: u64, text: &str) -> u64 {
     found.lengthy.available
 }
 
-/// Of [61][62] and [61], which tie, the second has 3 of its 3 bytes: the last 8 bytes of its record in either tree, and nothing else. Then 1, and none.
+/// Of [61][62] and [61], which tie, the second has 3 of its 3 bytes: the 8 bytes of its available length in either tree, and nothing else, whose origin stands
+/// behind. Then 1, and none.
 #[test]
 fn recorded_lengths() {
     let mut kept = Kept::open(3);
-    assert_eq!(["61/62", "61"].map(|text| taken(kept.ingest(entry(1, text, 5, 3, 9), 1))), [(0, 1), (0, 2)]);
+    assert_eq!(["61/62", "61"].map(|text| taken(kept.ingest_from(entry(1, text, 5, 3, 9), 1, remote(u64::MAX)))), [(0, 1), (0, 2)]);
     let filed = kept.clone();
     for (digest, length) in [(None, 3), (Some(9), 1), (None, 1), (Some(9), 0), (None, 2)] {
         let mut want = filed.clone();
-        (want.spt[140], want.tsp[140]) = (length, length); // the record of [61] has bytes 0 to 140
+        (want.spt[ARRIVED], want.tsp[ARRIVED]) = (length, length); // the record of [61] is the first
         assert_eq!((record(&mut kept, 1, "61", digest, length.into()), available(&kept, 1, "61")), (0, length.into()));
         assert_eq!(kept, want);
     }
     assert_eq!((forget_payload(&mut kept, 1, "61", Some(9)), &kept), (0, &filed));
     assert_eq!((forget_payload(&mut kept, 1, "61", None), &kept), (0, &filed)); // nothing has arrived: done all the same
     let long = raw::Entry { payload_length: u64::MAX, ..entry(2, "61", 5, 0, 9) };
-    assert_eq!((taken(kept.ingest(long, 0)), record(&mut kept, 2, "61", None, 0x0102_0304_0506_0708)), ((0, 3), 0));
-    let last = kept.spt_dir[4] as usize + kept.spt_dir[5] as usize;
-    assert_eq!((&kept.spt[last - 8..last], &kept.tsp[last - 8..last]), (&[1, 2, 3, 4, 5, 6, 7, 8][..], &[1, 2, 3, 4, 5, 6, 7, 8][..]));
-    assert_eq!((record(&mut kept, 2, "61", None, u64::MAX), available(&kept, 2, "61")), (0, u64::MAX));
+    assert_eq!(taken(kept.ingest_from(long, 0, remote(0x1112_1314_1516_1718))), (0, 3));
+    let (filed, last) = (kept.clone(), (ONE + TWO) as usize);
+    for (number, written) in [(0x0102_0304_0506_0708, [1, 2, 3, 4, 5, 6, 7, 8]), (u64::MAX, [0xff; 8])] {
+        let mut want = filed.clone();
+        want.spt[last + ARRIVED - 7..=last + ARRIVED].copy_from_slice(&written);
+        want.tsp[last + ARRIVED - 7..=last + ARRIVED].copy_from_slice(&written);
+        assert_eq!((record(&mut kept, 2, "61", None, number), &kept, available(&kept, 2, "61")), (0, &want, number));
+    }
+    assert_eq!((forget_payload(&mut kept, 2, "61", None), &kept), (0, &filed));
 }
 
 /// Document 02's U4: 11 before 9, 12 after it, and 4 before all of them; the path is the exact one. Nothing changes.
@@ -497,13 +484,13 @@ fn recordings_and_the_buffers() {
     kept.tsp_dir.extend([7; 3]);
     assert_eq!(record(&mut kept, 1, "61", None, 3), 0);
     for tree in [&kept.spt, &kept.tsp] {
-        assert_eq!((tree[140], &tree[820..]), (3, &[7; 5][..]));
+        assert_eq!((tree[ARRIVED], &tree[ROOM..]), (3, &[7; 5][..]));
     }
     assert_eq!((&kept.spt_dir[4..], &kept.tsp_dir[4..]), (&[7; 3][..], &[7; 3][..]));
-    kept.spt[140] = 2; // in one tree only
+    kept.spt[ARRIVED] = 2; // in one tree only
     let damaged = kept.clone();
     assert_eq!((record(&mut kept, 1, "61", Some(8), 4), forget_payload(&mut kept, 9, "61", None), &kept), (3, 3, &damaged));
-    kept.tsp[140] = 2;
+    kept.tsp[ARRIVED] = 2;
     assert_eq!(forget_payload(&mut kept, 1, "61", None), 0);
 }
 
@@ -553,9 +540,9 @@ fn wrong_tallies() {
             lent.tally = &mut lent.tally[..56 - short];
             for e in [older, no_path] {
                 let refused = raw::Ingested { refusal: want, obsolete: 0, held: 0, pruned: 0, state, newer: raw::Entry::default(), token: [0; 64] };
-                assert_eq!(raw::ingest_entry(state, &mut lent, &mut [UNTOUCHED; 2], e, &TOKEN, 1), refused);
-                assert_eq!(raw::ingest_entry_numbers(state, &mut lent, &mut [7; 4], e, &TOKEN, 1), refused);
-                let by_value = raw::ingest_entry_by_value(state, &mut lent, raw::Pairs { pairs: [UNTOUCHED; 1024] }, e, &TOKEN, 1);
+                assert_eq!(raw::ingest_entry(state, &mut lent, &mut [UNTOUCHED; 2], e, &TOKEN, 1, LOCAL), refused);
+                assert_eq!(raw::ingest_entry_numbers(state, &mut lent, &mut [7; 4], e, &TOKEN, 1, LOCAL), refused);
+                let by_value = raw::ingest_entry_by_value(state, &mut lent, raw::Pairs { pairs: [UNTOUCHED; 1024] }, e, &TOKEN, 1, LOCAL);
                 assert_eq!(by_value, raw::PairsIngested { ingested: refused, pairs: [UNTOUCHED; 1024] });
                 let forgotten = raw::forget_entry(state, &mut lent, subspace(1), e.path, 1, &e.payload_digest);
                 assert_eq!(forgotten, raw::EntryForgotten { refusal: want, state });

@@ -4,6 +4,7 @@ use virebony::*;
 
 const NAMESPACE: NamespaceId = [3; 16];
 const TOKEN: AuthorisationToken = [0x42; 64];
+const LOCAL: EntryOrigin = EntryOrigin::Local;
 const NONE: QueryIgnoreParams = QueryIgnoreParams { ignore_incomplete_payloads: false, ignore_empty_payloads: false };
 
 fn path(components: &[&[u8]]) -> Path {
@@ -101,7 +102,8 @@ fn subspaces_as_bytes() {
 fn filed(limit: usize, entries: &[(AuthorisedEntry, usize)]) -> (usize, Vec<u8>) {
     let mut store = Store::open(NAMESPACE, limit).unwrap();
     for (entry, pruned) in entries {
-        assert_eq!(store.ingest_entry(*entry, *pruned == 0), success(*pruned)); // pruning prevented where nothing is removed
+        let prevent = *pruned == 0; // where nothing is removed
+        assert_eq!(store.ingest_entry(*entry, prevent, LOCAL), success(*pruned));
     }
     let (_, b) = store.as_parts();
     let numbers = [b.spt_dir, b.tsp_dir].concat().into_iter().flat_map(u32::to_be_bytes);
@@ -120,12 +122,12 @@ fn ties_stay() {
         assert_eq!(filed(4, &[(x, 0), (y, 0), (z, 0)]), three);
     }
     let mut store = Store::open(NAMESPACE, 1).unwrap();
-    assert_eq!((store.ingest_entry(below, false), store.ingest_entry(above, false), store.len()), (success(0), Err(Refusal::Full), 1));
+    assert_eq!((store.ingest_entry(below, false, LOCAL), store.ingest_entry(above, false, LOCAL), store.len()), (success(0), Err(Refusal::Full), 1));
     let older = entry(1, &[b"a", b"c"], 5, 2, 9);
     assert_eq!(filed(2, &[(below, 0), (older, 0), (above, 1)]), filed(2, &[(above, 0), (below, 0)])); // the older one alone goes
     assert_eq!(filed(2, &[(below, 0), (above, 0), (entry(1, &[], 6, 0, 0), 2)]).0, 1); // a later one above removes both
     let mut store = Store::open(NAMESPACE, 3).unwrap();
-    assert_eq!([last, below, above].map(|entry| store.ingest_entry(entry, true)), [success(0); 3]);
+    assert_eq!([last, below, above].map(|entry| store.ingest_entry(entry, true, LOCAL)), [success(0); 3]);
     assert_eq!(store.tally().of(subspace(1)).map(|item| (item.count, item.newest)), Some((3, 5)));
 }
 
@@ -135,28 +137,29 @@ fn the_same_entry_twice() {
     let held = Ok(EntryIngestionSuccess::Held);
     let (above, below) = (entry(1, &[b"a"], 5, 3, 9), entry(1, &[b"a", b"b"], 5, 3, 9));
     let mut store = Store::open(NAMESPACE, 2).unwrap();
-    assert_eq!((store.ingest_entry(above, false), store.ingest_entry(above, false)), (success(0), held));
-    assert_eq!((store.ingest_entry(below, false), store.len()), (success(0), 2));
+    assert_eq!((store.ingest_entry(above, false, LOCAL), store.ingest_entry(above, false, LOCAL)), (success(0), held));
+    assert_eq!((store.ingest_entry(below, false, LOCAL), store.len()), (success(0), 2));
     let other_token = AuthorisedEntry::new(*above.entry(), [1; 64]);
-    assert_eq!([false, true].map(|prevent| store.ingest_entry(other_token, prevent)), [held; 2]);
-    assert_eq!([false, true].map(|prevent| store.ingest_entry(below, prevent)), [held; 2]);
+    assert_eq!([false, true].map(|prevent| store.ingest_entry(other_token, prevent, LOCAL)), [held; 2]);
+    assert_eq!([false, true].map(|prevent| store.ingest_entry(below, prevent, LOCAL)), [held; 2]);
     let stored = store.entry(&subspace(1), above.entry().path(), NONE).unwrap().map(|found| *found.entry());
     assert_eq!((stored, store.len()), (Some(above), 2)); // the first token stays, and the tie
     let elsewhere = Entry::new([4; 16], subspace(1), path(&[b"a"]), 5, 3, [9; 32]);
-    assert_eq!(store.ingest_entry(AuthorisedEntry::new(elsewhere, TOKEN), false), Err(Refusal::OtherNamespace));
+    assert_eq!(store.ingest_entry(AuthorisedEntry::new(elsewhere, TOKEN), false, LOCAL), Err(Refusal::OtherNamespace));
     for near in [entry(1, &[b"a"], 5, 4, 9), entry(1, &[b"a"], 5, 3, 10), entry(1, &[b"a"], 6, 3, 9)] {
-        assert_eq!(store.ingest_entry(near, true), Err(Refusal::PruningPrevented));
+        assert_eq!(store.ingest_entry(near, true, LOCAL), Err(Refusal::PruningPrevented));
     }
-    assert!(matches!(store.ingest_entry(entry(1, &[b"a"], 5, 2, 9), false), Ok(EntryIngestionSuccess::Obsolete { newer, .. }) if newer == above));
+    let older = entry(1, &[b"a"], 5, 2, 9);
+    assert_eq!(store.ingest_entry(older, false, LOCAL), Ok(EntryIngestionSuccess::Obsolete { obsolete: older, newer: above }));
 }
 
 #[test]
 fn limit_one() {
     let mut store = Store::open(NAMESPACE, 1).unwrap();
-    assert_eq!(store.ingest_entry(entry(1, &[b"a"], 5, 3, 9), false), success(0));
-    assert_eq!(store.ingest_entry(entry(1, &[b"b"], 5, 3, 9), false), Err(Refusal::Full));
-    assert_eq!(store.ingest_entry(entry(1, &[b"a"], 6, 3, 9), true), Err(Refusal::PruningPrevented));
-    assert_eq!(store.ingest_entry(entry(1, &[b"a"], 6, 3, 9), false), success(1));
+    assert_eq!(store.ingest_entry(entry(1, &[b"a"], 5, 3, 9), false, LOCAL), success(0));
+    assert_eq!(store.ingest_entry(entry(1, &[b"b"], 5, 3, 9), false, LOCAL), Err(Refusal::Full));
+    assert_eq!(store.ingest_entry(entry(1, &[b"a"], 6, 3, 9), true, LOCAL), Err(Refusal::PruningPrevented));
+    assert_eq!(store.ingest_entry(entry(1, &[b"a"], 6, 3, 9), false, LOCAL), success(1));
     assert_eq!((store.len(), store.limit(), store.is_empty(), store.namespace_id()), (1, 1, false, &NAMESPACE));
 }
 
@@ -165,10 +168,10 @@ fn limit_one() {
 fn four_lines() {
     let lines = [entry(1, &[b"b"], 5, 3, 10), entry(1, &[b"b", b"\0"], 4, 3, 10), entry(1, &[b"a", b"b"], 7, 1, 11), entry(1, &[], 6, 0, 12)];
     let mut store = Store::open(NAMESPACE, 64).unwrap();
-    let answers = lines.map(|line| store.ingest_entry(line, false));
+    let answers = lines.map(|line| store.ingest_entry(line, false, LOCAL));
     let obsolete = Ok(EntryIngestionSuccess::Obsolete { obsolete: lines[1], newer: lines[0] });
     assert_eq!(answers, [success(0), obsolete, success(0), success(1)]);
-    let left = [lines[3], lines[2]].map(|entry| LengthyAuthorisedEntry::new(entry, 0));
+    let left = [lines[3], lines[2]].map(|entry| LengthyAuthorisedEntry::new(entry, 0, LOCAL));
     assert_eq!(store.query_area(&Area::new_full(), NONE).unwrap().collect::<Vec<_>>(), left);
     assert_eq!(store.query_range(&Range3d::new_full(), NONE).unwrap().collect::<Vec<_>>(), left);
 }
@@ -178,7 +181,7 @@ fn four() -> (Store, [AuthorisedEntry; 4]) {
     let entries = [entry(1, &[b"a"], 40, 0, 9), entry(1, &[b"a", b"b"], 50, 1, 9), entry(1, &[b"c"], 20, 2, 9), entry(2, &[b"d"], 10, 3, 9)];
     let mut store = Store::open(NAMESPACE, 5).unwrap();
     for entry in entries {
-        assert_eq!(store.ingest_entry(entry, true), success(0));
+        assert_eq!(store.ingest_entry(entry, true, LOCAL), success(0));
     }
     (store, entries)
 }
@@ -254,7 +257,7 @@ fn tallies() {
     assert_eq!(store.tally().of(subspace(1)), Some(item(1, 2, 40)));
     store.forget_area(&Area::new_subspace(subspace(1)), None).unwrap(); // an item goes with its last entry
     assert_eq!(store.tally().collect::<Vec<_>>(), [item(2, 1, 10)]);
-    store.ingest_entry(entry(0, &[], 0, 0, 0), false).unwrap(); // subspace 0 at time 0: its item is no end of the items
+    store.ingest_entry(entry(0, &[], 0, 0, 0), false, LOCAL).unwrap(); // subspace 0 at time 0: its item is no end of the items
     assert_eq!(store.tally().collect::<Vec<_>>(), [item(0, 1, 0), item(2, 1, 10)]);
     store.forget_area(&Area::new_full(), None).unwrap();
     assert_eq!((store.tally().next(), store.tally().of(subspace(0))), (None, None));
@@ -278,12 +281,62 @@ fn how_much_has_arrived() {
     assert_eq!(listed(&store), [entries[0], entries[2]]);
     let available = |store: &Store| store.query_area(&Area::new_full(), NONE).unwrap().map(|found| found.available()).collect::<Vec<_>>();
     assert_eq!(available(&store), [0, 0, 2, 2]);
-    assert_eq!(store.ingest_entry(entries[2], false), Ok(EntryIngestionSuccess::Held));
+    assert_eq!(store.ingest_entry(entries[2], false, LOCAL), Ok(EntryIngestionSuccess::Held));
     assert_eq!((store.entry(&one, &c, incomplete).unwrap().map(|found| found.available()), store.len()), (Some(2), 4));
     assert_eq!((store.forget_payload(&one, &c, Some([9; 32])), available(&store)), (Ok(()), vec![0, 0, 0, 2]));
     assert_eq!((store.record_available_length(&subspace(2), &d, None, 1), available(&store)), (Ok(()), vec![0, 0, 0, 1])); // smaller than before
-    assert_eq!(store.ingest_entry(entry(2, &[b"d"], 11, 3, 9), false), success(1));
+    assert_eq!(store.ingest_entry(entry(2, &[b"d"], 11, 3, 9), false, LOCAL), success(1));
     assert_eq!(available(&store), [0; 4]); // a new entry starts at 0
+}
+
+/// Document 02's U6: an entry has the origin that it was filed with, in lookups and in listings, until another takes its place.
+#[test]
+fn where_entries_came_from() {
+    use EntryOrigin::{Local, Remote};
+    let origins = |store: &Store| {
+        let listed: Vec<_> = store.query_area(&Area::new_full(), NONE).unwrap().collect();
+        assert_eq!(store.query_range(&Range3d::new_full(), NONE).unwrap().collect::<Vec<_>>(), listed);
+        for stored in &listed {
+            let entry = stored.entry().entry();
+            assert_eq!(store.entry(entry.subspace_id(), entry.path(), NONE), Ok(Some(*stored)));
+        }
+        listed.into_iter().map(|stored| stored.origin()).collect::<Vec<_>>()
+    };
+    let entries = [entry(1, &[b"a"], 5, 3, 9), entry(1, &[b"b"], 4, 3, 9), entry(2, &[b"a"], 3, 3, 9), entry(2, &[b"a", b"b"], 6, 3, 9)];
+    let filed = [Remote(7), Local, Remote(0), Remote(u64::MAX)];
+    let mut store = Store::open(NAMESPACE, 5).unwrap();
+    for (entry, origin) in entries.into_iter().zip(filed).rev() {
+        assert_eq!(store.ingest_entry(entry, true, origin), success(0));
+    }
+    assert_eq!(origins(&store), filed);
+    for (entry, other) in entries.into_iter().zip([Local, Remote(7), Local, Remote(8)]) {
+        let resent = AuthorisedEntry::new(*entry.entry(), [1; 64]);
+        assert_eq!(store.ingest_entry(resent, false, other), Ok(EntryIngestionSuccess::Held));
+    }
+    let older = entry(1, &[b"a", b"c"], 4, 3, 9);
+    let obsolete = Ok(EntryIngestionSuccess::Obsolete { obsolete: older, newer: entries[0] });
+    assert_eq!((store.ingest_entry(older, false, Remote(9)), origins(&store)), (obsolete, filed.to_vec()));
+    assert_eq!(store.entry(&subspace(1), &path(&[b"a"]), QueryIgnoreParams { ignore_incomplete_payloads: true, ..NONE }), Ok(None));
+    store.record_available_length(&subspace(1), &path(&[b"a"]), None, 3).unwrap();
+    store.record_available_length(&subspace(2), &path(&[b"a"]), Some([9; 32]), 2).unwrap();
+    assert_eq!(origins(&store), filed); // what has arrived leaves them
+    store.forget_payload(&subspace(1), &path(&[b"a"]), None).unwrap();
+    assert_eq!(origins(&store), filed);
+    assert_eq!(store.ingest_entry(entry(1, &[b"a"], 6, 3, 9), false, Remote(8)), success(1)); // another entry at the place
+    assert_eq!(origins(&store), [Remote(8), Local, Remote(0), Remote(u64::MAX)]);
+    store.forget_entry(&subspace(2), &path(&[b"a"]), None).unwrap();
+    assert_eq!(store.ingest_entry(entries[2], false, Local), success(0)); // forgotten and filed again
+    assert_eq!(origins(&store), [Remote(8), Local, Local, Remote(u64::MAX)]);
+    assert_eq!(store.ingest_entry(entry(2, &[], 7, 3, 9), false, Remote(3)), success(2));
+    assert_eq!(origins(&store), [Remote(8), Local, Remote(3)]);
+}
+
+#[test]
+fn an_origin_in_memory() {
+    let raw_origin = |remote, session| raw::Origin { remote, session };
+    assert_eq!(EntryOrigin::Local.to_raw(), raw_origin(0, 0));
+    assert_eq!([0, 7, u64::MAX].map(|session| EntryOrigin::Remote(session).to_raw()), [0, 7, u64::MAX].map(|session| raw_origin(1, session)));
+    assert!(EntryOrigin::Local < EntryOrigin::Remote(0) && EntryOrigin::Remote(0) < EntryOrigin::Remote(1));
 }
 
 /// Every number of subspaces up to the limit, so that halving meets every one.
@@ -291,7 +344,7 @@ fn how_much_has_arrived() {
 fn an_item_for_each_subspace() {
     let mut store = Store::open(NAMESPACE, 20).unwrap();
     for n in 0..20 {
-        store.ingest_entry(entry(2 * n, &[b"a"], n, 0, 0), false).unwrap();
+        store.ingest_entry(entry(2 * n, &[b"a"], n, 0, 0), false, LOCAL).unwrap();
         assert_eq!(store.tally().len(), n as usize + 1);
         for low in 0..41 {
             let there = low % 2 == 0 && low <= 2 * n;
@@ -306,7 +359,7 @@ fn what_a_store_refuses() {
         assert_eq!(Store::open(NAMESPACE, limit).unwrap_err(), Refusal::BadLimit);
     }
     let mut store = Store::open([4; 16], 1024).unwrap();
-    assert_eq!(store.ingest_entry(entry(1, &[], 1, 0, 0), false), Err(Refusal::OtherNamespace));
+    assert_eq!(store.ingest_entry(entry(1, &[], 1, 0, 0), false, LOCAL), Err(Refusal::OtherNamespace));
     let error: Box<dyn std::error::Error> = Refusal::OtherNamespace.into();
     assert_eq!(error.to_string(), "the entry names another namespace");
 }

@@ -5,7 +5,7 @@ use mathlib.Core.Bool.{Bool, true, false, _&&_}
 use mathlib.Core.List.{List, [], _∷_, _++_, map, append-assoc, append-nil, List·Memᴰ·head as here, List·Memᴰ·tail as there}
 use native.Mathlib.Omega.{arith}
 use lib.ListN.{length, take, drop, getD, set, length-append, length-map, drop-of-length-le}
-use lib.Seq.{take-at, drop-cons}
+use lib.Seq.{take-at, drop-at, drop-drop, drop-cons}
 use lib.Dec.{ltb}
 use borrow.Author.Tests.{ltb-false}
 use Rattle.laws.specs.Lists.{put}
@@ -18,6 +18,7 @@ use Rattle.layout.specs.Layout.{records, recordAt, offsetAt, joined, pairs, tre
 use Rattle.layout.specs.Marks.{marksOf, firstMark}
 use Rattle.layout.proofs.LaidLaws.{laid}
 use Rattle.layout.proofs.PlaceLaws.{keep-none}
+use Rattle.data_model.specs.Origin.{originKind, originSession}
 use Rattle.data_model.specs.Path.{Figures, Components, field}
 use Rattle.data_model.specs.Entry.{Entry, prunes}
 use Rattle.data_model.specs.declared.parameters.Subspace.{Subspace}
@@ -25,7 +26,7 @@ use Rattle.keys.specs.Encode.{Triple, be}
 use Rattle.keys.proofs.Encoding.{be-length}
 use Rattle.key_laws.specs.Bytes.{Bytes}
 use Rattle.key_laws.specs.KeyOrder.{sptOrder, tspOrder}
-use Rattle.tree.specs.Value.{availableAt, valueLength, valueBytes}
+use Rattle.tree.specs.Value.{availableAt, valueLength, originBytes, valueBytes}
 use Rattle.tree.specs.Stored.{Stored, stored, keyIn, tripleOf, valueFor, recordOf, availableIn, Lawful}
 use Rattle.tree.specs.Tree.{Formed, Whole}
 use Rattle.tree.specs.Matching.{standsAt}
@@ -55,16 +56,20 @@ arrive-record f o n x h =
     let d = x .entry .rank .«payload_digest» in
     let t = x .token in
     let z = be 8 (x .available) in
+    let o = originBytes (originKind (x .origin)) (originSession (x .origin)) in
     let front = k ++ (a ++ (d ++ t)) in
     let whole : (w : List ℕ) → k ++ (a ++ (d ++ (t ++ w))) ≡ front ++ w = λ w.
     sym (append-assoc k (a ++ (d ++ t)) w ∙ ap (k ++_) (append-assoc a (d ++ t) w ∙ ap (a ++_) (append-assoc d t w))) in
-    let l : length (front ++ z) ≡ length front + 8 = length-append front z ∙ ap (length front +_) (be-length 8 (x .available)) in
-    let m : length front ≡ length k + 104 = length-append k (a ++ (d ++ t)) ∙ ap (length k +_) (simp (length-append, be-length, h .digest, h .token)) in
-    let at : (length (front ++ z) - valueLength) + availableAt ≡ length front = omega (arith, l, m) in
-    let over : (r : List ℕ) → r ≡ front ++ z → front ++ be 8 n ≡ take ((length r - valueLength) + availableAt) r ++ be 8 n ++ drop ((length r - valueLength) + availableAt + length (be 8 n)) r = λ r e.
-    let b = be-length 8 n in
-    rw (e, at) (sym (ap₂ (λ (p q : List ℕ). p ++ be 8 n ++ q) (take-at front z (length front) refl) (drop-of-length-le (front ++ z) {i = length front + length (be 8 n)} (omega (arith, l))) ∙ append-nil (front ++ be 8 n))) in
-    whole (be 8 n) ∙ over (k ++ (a ++ (d ++ (t ++ z)))) (whole z)
+    let same : length z ≡ length (be 8 n) = be-length 8 (x .available) ∙ sym (be-length 8 n) in
+    let l : length (front ++ (z ++ o)) ≡ length front + (valueLength - availableAt)
+    = length-append front (z ++ o) ∙ ap (length front +_) (length-append z o ∙ omega (arith, be-length 8 (x .available), be-length 8 (originSession (x .origin)))) in
+    let m : length front ≡ length k + availableAt = length-append k (a ++ (d ++ t)) ∙ ap (length k +_) (simp (length-append, be-length, h .digest, h .token)) in
+    let at : (length (front ++ (z ++ o)) - valueLength) + availableAt ≡ length front = omega (arith, l, m) in
+    let behind : drop (length front + length (be 8 n)) (front ++ (z ++ o)) ≡ o
+    = sym (drop-drop (length (be 8 n)) (length front) (front ++ (z ++ o))) ∙ ap (drop (length (be 8 n))) (drop-at front (z ++ o) (length front) refl) ∙ drop-at z o (length (be 8 n)) same in
+    let over : (r : List ℕ) → r ≡ front ++ (z ++ o) → front ++ (be 8 n ++ o) ≡ take ((length r - valueLength) + availableAt) r ++ be 8 n ++ drop ((length r - valueLength) + availableAt + length (be 8 n)) r = λ r e.
+    rw (e, at) (sym (ap₂ (λ (p q : List ℕ). p ++ be 8 n ++ q) (take-at front (z ++ o) (length front) refl) behind ∙ append-assoc front (be 8 n) o)) in
+    whole (be 8 n ++ o) ∙ over (k ++ (a ++ (d ++ (t ++ (z ++ o))))) (whole (z ++ o))
 
 -- What is stored at a place, with another available length.
 module _ (s : Subspace) (p : Components) (n : ℕ) where
@@ -81,6 +86,9 @@ module _ (s : Subspace) (p : Components) (n : ℕ) where
 
   pub arrive-token : (x : Stored) → arriveAt s p n x .token ≡ x .token
   arrive-token x = split (standsAt s p x) (λ q. ap (λ (y : Stored). y .token) (arrive-there x q)) (λ q. ap (λ (y : Stored). y .token) (arrive-elsewhere x q))
+
+  pub arrive-origin : (x : Stored) → arriveAt s p n x .origin ≡ x .origin
+  arrive-origin x = split (standsAt s p x) (λ q. ap (λ (y : Stored). y .origin) (arrive-there x q)) (λ q. ap (λ (y : Stored). y .origin) (arrive-elsewhere x q))
 
   -- None stands there: nothing changes.
   arrive-none : (l : List Stored) → any (standsAt s p) l ≡ false → map (arriveAt s p n) l ≡ l
@@ -264,7 +272,7 @@ module _ (f : Figures) {namespace : List ℕ} {limit : ℕ} {h : Held} (v : Fit 
           let m : n ≤ x .entry .rank .«payload_length» = ltb-false (x .entry .rank .«payload_length») n (rw t at z) in
           let b = w .payload in
           subst (Proper f) (sym (arrive-there s p n x t)) (record {
-            lawful = record { path = w .path; sized = w .sized; payload = w .payload; digest = w .digest; token = w .token; available = omega arith };
+            lawful = record { path = w .path; sized = w .sized; payload = w .payload; digest = w .digest; token = w .token; available = omega arith; session = w .session };
             available = m;
           }))
           (λ t. subst (Proper f) (sym (arrive-elsewhere s p n x t)) q));

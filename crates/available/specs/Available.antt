@@ -24,7 +24,7 @@ use Rattle.available.specs.declared.AvailableRecorded.{AvailableRecorded
 
 -- What is stored, with this available length; the same where it stands at a subspace and path, and as it is elsewhere; and so in both trees.
 abbrev pub arrive : ℕ → Stored → Stored
-arrive n x = record { entry = x .entry; token = x .token; available = n }
+arrive n x = record { entry = x .entry; token = x .token; available = n; origin = x .origin }
 
 unfoldable pub arriveAt : Subspace → Components → ℕ → Stored → Stored
 arriveAt s p n x = cond (standsAt s p x) (arrive n x) x

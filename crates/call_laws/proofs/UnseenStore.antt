@@ -13,6 +13,7 @@ use Rattle.data_model.specs.Entry.{Entry, entryOf}
 use Rattle.data_model.specs.Range.{legalRange}
 use Rattle.data_model.specs.Area.{emptyRange}
 use Rattle.data_model.specs.Refusal.{illegalPath, otherNamespace, otherDigest}
+use Rattle.data_model.specs.declared.«entry_origin».EntryOrigin.{EntryOrigin}
 use Rattle.data_model.specs.declared.parameters.Subspace.{Subspace}
 use Rattle.data_model.specs.declared.area.Area.{Area}
 use Rattle.data_model.specs.declared.«range_3d».Range3d.{Range3d}
@@ -120,20 +121,20 @@ module _ (f : Figures) (s : Store) where
       blind x y = unfold unless _orElse_ in rw (illegal-first (storeRefusal f s true)) refl
 
 -- Changes.
-abbrev entryAnswer : Figures → Tallied → (prune token : List ℕ) → (prevent : Bool) → (namespace : List ℕ) → (lawful : Bool) → Entry → IngestOutcome
-entryAnswer f w prune token prevent namespace lawful e =
+abbrev entryAnswer : Figures → Tallied → (prune token : List ℕ) → (prevent : Bool) → EntryOrigin → (namespace : List ℕ) → (lawful : Bool) → Entry → IngestOutcome
+entryAnswer f w prune token prevent origin namespace lawful e =
     let n = talliedRefusal f w (leb (dirRoom (w .store .state .limit)) (length prune)) orElse unless lawful illegalPath orElse
     unless (sameList sameNumber namespace (w .store .state .«namespace_id»)) otherNamespace in
-    carried f w prune e token (cond (eqb n 0) (decided (w .store .state .limit) (held f Spt (w .store)) e prevent) (refuse n))
+    carried f w prune (record { entry = e; token = token; available = 0; origin = origin }) (cond (eqb n 0) (decided (w .store .state .limit) (held f Spt (w .store)) e prevent) (refuse n))
 
 module _ (f : Figures) (w : Tallied) where
   pub ingested-same : (prune : List ℕ) → SameFor IngestionsAgree (ingested f w prune)
   unfolding ingested judged ingestRefusal
   ingested-same prune a b h =
-      guarded (entryAnswer f w prune (a .token) (a .«prevent_pruning») (a .entry .«namespace_id»)) blind _ _ _ _ (behind-legal f (a .entry .path) (b .entry .path) (h .entry .path)) (behind-entry (a .entry) (b .entry) (h .entry) f)
-      ∙ (λ i. entryAnswer f w prune (h .token i) (h .prevents i) (h .entry .namespace i) (legal f (b .entry .path)) (entryOf (b .entry)))
+      guarded (entryAnswer f w prune (a .token) (a .«prevent_pruning») (a .origin) (a .entry .«namespace_id»)) blind _ _ _ _ (behind-legal f (a .entry .path) (b .entry .path) (h .entry .path)) (behind-entry (a .entry) (b .entry) (h .entry) f)
+      ∙ (λ i. entryAnswer f w prune (h .token i) (h .prevents i) (h .origin i) (h .entry .namespace i) (legal f (b .entry .path)) (entryOf (b .entry)))
     where
-      blind : (x y : Entry) → entryAnswer f w prune (a .token) (a .«prevent_pruning») (a .entry .«namespace_id») false x ≡ entryAnswer f w prune (a .token) (a .«prevent_pruning») (a .entry .«namespace_id») false y
+      blind : (x y : Entry) → entryAnswer f w prune (a .token) (a .«prevent_pruning») (a .origin) (a .entry .«namespace_id») false x ≡ entryAnswer f w prune (a .token) (a .«prevent_pruning») (a .origin) (a .entry .«namespace_id») false y
       blind x y = unfold carried unless _orElse_ in rw (illegal-first (talliedRefusal f w (leb (dirRoom (w .store .state .limit)) (length prune)))) refl
 
   pub pairs-same : (prune : List Pair) → SameFor IngestionsAgree (pairsIngested f w prune)

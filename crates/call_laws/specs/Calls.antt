@@ -10,6 +10,7 @@ use Rattle.laws.specs.Sorted.{_∈_}
 use Rattle.data_model.specs.Said.{Said, refuses, says}
 use Rattle.data_model.specs.Path.{Figures, components}
 use Rattle.data_model.specs.Entry.{entryOf}
+use Rattle.data_model.specs.Origin.{originSession}
 use Rattle.data_model.specs.declared.path.Path.{Path}
 use Rattle.data_model.specs.declared.parameters.Subspace.{Subspace}
 use Rattle.data_model.specs.declared.area.Area.{Area}
@@ -65,7 +66,7 @@ pub data Call : Type 0 where
 
 -- What an ingestion files.
 abbrev pub filedAs : IngestCall → Stored
-filedAs i = filing (entryOf (i .handed .entry)) (i .handed .token)
+filedAs i = filing (i .handed)
 
 -- A buffer of a call's own: how long it is, and how long it must be.
 pub record Room : Type 0 where
@@ -150,6 +151,7 @@ pub record IngestionIsValue (f : Figures) (i : Ingestion) : Type 0 where
   pub payload : i .entry .«payload_length» < 2 ^ 64
   pub digest : length (i .entry .«payload_digest») ≡ 32
   pub token : length (i .token) ≡ 64
+  pub session : originSession (i .origin) < 2 ^ 64
 
 abbrev pub IsValue : Figures → Call → Type 0
 IsValue f c = (i : IngestCall) → i ∈ input c .ingestions → IngestionIsValue f (i .handed)

@@ -32,7 +32,7 @@ pub record WellFormedStore (f : Figures) (s : Store) : Type 0 where
   pub no-twice : NoTwice (held f Spt s)
   pub apart : (x y : Stored) → x ∈ held f Spt s → y ∈ held f Spt s → prunes (x .entry) (y .entry) ≡ false
 
--- A buffer of the store is shorter than 410 × limit bytes for a tree, 2 × limit numbers for a directory.
+-- A buffer of the store is shorter than 419 × limit bytes for a tree, 2 × limit numbers for a directory.
 abbrev pub ShortBuffer : Figures → Store → Type 0
 ShortBuffer f s =
     let n = s .state .limit in

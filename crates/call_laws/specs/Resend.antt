@@ -30,14 +30,14 @@ ObsoleteNotPrevented f s = NonePrunes f s → (e : Entry) → Outdated f s e →
 abbrev pub HeldNotPrevented : Figures → Store → Type 0
 HeldNotPrevented f s = NonePrunes f s → (e : Entry) → AlreadyStored f s e → Removes f s e → ⊥
 
--- A stored entry that comes again is held, and nothing changes: the state that is answered, both trees with the stored token and available length, their
--- directories, the tally and the prune list are those handed in. The newer entry in the answer and its token are all 0.
+-- A stored entry that comes again is held, and nothing changes: the state that is answered, both trees with the stored token, available length and origin,
+-- their directories, the tally and the prune list are those handed in. The newer entry in the answer and its token are all 0.
 pub record Resent (f : Figures) (w : Tallied) (i : IngestCall) : Type 0 where
   pub answer : ingested f w (i .prune) (i .handed) .answer ≡ plainAnswer (says is-held) (w .store .state)
   pub unchanged : ingested f w (i .prune) (i .handed) .left ≡ w
   pub unwritten : ingested f w (i .prune) (i .handed) .prune ≡ i .prune
 
--- So it is with every ingestion that is not refused with 1, 2, 3, 10, 4 or 6, whatever its token and its flag, in a full store, and beside a stored extension
+-- So it is with every ingestion that is not refused with 1, 2, 3, 10, 4 or 6, whatever its token, its origin and its flag, in a full store, and beside a stored extension
 -- that ties. Theorem `resent`.
 abbrev pub HeldAgain : Figures → Type 0
 HeldAgain f = (w : Tallied) (i : IngestCall) → ingestRefusal f w (i .prune) (i .handed .entry) ≡ 0 → AlreadyStored f (w .store) (entryOf (i .handed .entry)) → Resent f w i

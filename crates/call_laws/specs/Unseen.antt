@@ -31,6 +31,7 @@ use Rattle.query.specs.Interest.{interestRange}
 pub record IngestionsAgree (a b : Ingestion) : Type 0 where
   pub entry : EntriesAgree (a .entry) (b .entry)
   pub token : a .token ≡ b .token
+  pub origin : a .origin ≡ b .origin
   pub prevents : a .«prevent_pruning» ≡ b .«prevent_pruning»
 
 -- A clause for each public entry that takes a path, by its name: what its contract has on the right-hand side, the answer and all that is left in a buffer.

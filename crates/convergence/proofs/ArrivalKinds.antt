@@ -1,5 +1,5 @@
 -- A store that records nothing, or in one tree alone, is refuted; and there are such. Assumes nothing.
-use Prim.Native.Nat.{ℕ}
+use Prim.Native.Nat.{ℕ, _+_, _-_}
 use mathlib.Core.Path.{_≡_, refl, sym, ap, _∙_}
 use mathlib.Core.Bool.{true}
 use mathlib.Core.List.{List, [], _∷_, map}
@@ -9,6 +9,7 @@ use lib.ListN.{getD, take}
 use Rattle.laws.specs.Sorted.{all}
 use Rattle.layout.specs.Layout.{treeBytes}
 use Rattle.data_model.specs.Path.{field}
+use Rattle.tree.specs.Value.{originAt}
 use Rattle.tree.specs.Stored.{Stored, recordOf}
 use Rattle.tree.specs.declared.stored.KeyOrder.the-variants.{Spt, Tsp}
 use Rattle.store.specs.Store.{treeRoom, treeOf, held, Held, heldBy, Tallied}
@@ -38,7 +39,7 @@ fine-arriving = refl
 abbrev t2 : Tallied
 t2 = outcome field t1 (recordFor one 2) .left
 
--- What ours holds then; and the last byte of the record in the time-first tree, before and after.
+-- What ours holds then; and the last byte of the available length in the time-first tree, before and after.
 t2-length : map (λ (x : Stored). x .available) (held field Spt (t2 .store)) ≡ 2 ∷ []
 unfolding afterAll heldBy computing
 t2-length = ap (λ (h : Held). map (λ (x : Stored). x .available) (h .spt)) (mixed 2 refl arriving refl .holds)
@@ -50,11 +51,15 @@ t1-length = ap (λ (h : Held). map (λ (x : Stored). x .available) (h .spt)) t1-
 tspBytes : List Call → List ℕ
 tspBytes cs = treeBytes (treeRoom field 2) (map (recordOf Tsp) (listOf Tsp (holdsAll 2 nothing cs)))
 
-byte-after : getD (tspBytes arriving) 140 0 ≡ 2
+-- Behind a key of 29 bytes.
+abbrev last-byte : ℕ
+last-byte = 29 + originAt - 1
+
+byte-after : getD (tspBytes arriving) last-byte 0 ≡ 2
 unfolding computing reading listOf tspBytes
 byte-after = refl
 
-byte-before : getD (tspBytes (c1 ∷ [])) 140 0 ≡ 0
+byte-before : getD (tspBytes (c1 ∷ [])) last-byte 0 ≡ 0
 unfolding computing reading listOf tspBytes
 byte-before = refl
 
@@ -77,7 +82,7 @@ recording-one-tree m o w v =
     = ap (λ (t : Tallied). treeOf field Tsp (t .store)) (sym (second-arrived m o v)) ∙ w (m .call (s0 m o v) c1 .left) (reached-1 m o v) (recordFor one 2) _ refl ∙ ap (λ (t : Tallied). treeOf field Tsp (t .store)) (second-store m o v) in
     let b : treeOf field Tsp (t2 .store) ≡ tspBytes arriving = unfold tspBytes in mixed-bytes 2 ok-2 arriving fine-arriving Tsp in
     let c : treeOf field Tsp (t1 .store) ≡ tspBytes (c1 ∷ []) = unfold tspBytes in mixed-bytes 2 ok-2 (c1 ∷ []) fine-one Tsp in
-    let z : _≡_ {A = ℕ} 2 0 = sym byte-after ∙ ap (λ (l : List ℕ). getD l 140 0) (sym b ∙ a ∙ c) ∙ byte-before in
+    let z : _≡_ {A = ℕ} 2 0 = sym byte-after ∙ ap (λ (l : List ℕ). getD l last-byte 0) (sym b ∙ a ∙ c) ∙ byte-before in
     omega arith
   where
     fine-one : all (fineCall 2) (c1 ∷ []) ≡ true

@@ -1,5 +1,5 @@
 -- Stores that are as ours but for one flaw, each refuted by the clause of `Contents` that it breaks, on a small run that is computed. Assumes nothing.
-use Prim.Native.Nat.{ℕ}
+use Prim.Native.Nat.{ℕ, _+_}
 use mathlib.Core.Path.{_≡_, refl, sym, ap, subst, _∙_}
 use mathlib.Core.List.{List, [], _∷_, map, List·Memᴰ·head as here, List·Memᴰ·tail as there}
 use mathlib.Core.Bool.{true}
@@ -9,9 +9,13 @@ use borrow.Author.Tests.{eq-eqb}
 use Rattle.laws.specs.Sorted.{_∈_, all, Ascends}
 use Rattle.laws.proofs.Truth.{clash}
 use Rattle.layout.specs.Layout.{treeBytes, dirNumbers}
+use Rattle.data_model.specs.Origin.{originKind}
+use Rattle.data_model.specs.declared.«entry_origin».EntryOrigin.{EntryOrigin}
+use Rattle.data_model.specs.declared.«entry_origin».EntryOrigin.the-variants.{Local, Remote}
 use Rattle.data_model.specs.Path.{field}
 use Rattle.data_model.specs.Entry.{entryOf, prunes}
 use Rattle.key_laws.proofs.EntryLaws.{prunes-irrefl}
+use Rattle.tree.specs.Value.{valueLength}
 use Rattle.tree.specs.Stored.{Stored, recordOf, keyBelow}
 use Rattle.tree.specs.declared.stored.KeyOrder.{KeyOrder}
 use Rattle.tree.specs.declared.stored.KeyOrder.the-variants.{Spt, Tsp}
@@ -27,9 +31,9 @@ use Rattle.call_laws.specs.Outcomes.{Outcome, outcome, opens}
 use Rattle.call_laws.proofs.Did.{so, recorded, Did, was-refused, was-obsolete, was-held, has-filed, has-forgotten, has-recorded, did}
 use Rattle.call_laws.proofs.Stands.{opened-store, verdict-done}
 use Rattle.call_laws.proofs.Right.{refused-done, obsolete-done, held-done, not-forgets, not-records}
-use Rattle.convergence.specs.Demand.{ours, history, afterAll, Receipt, receiptOf, notRefused, receipts, received, arrives, isDone, availableFrom, available, Run, throughout, events, OneToken, Current, receiptIn, Exactly, Contents, Demand3}
-use Rattle.convergence.specs.Examples.{atLimit, targetOf, recordFor, having, one, two, later, lower, other-token}
-use Rattle.convergence.specs.WrongStores.{ifDone, instead, Flaw, counts-only, leaves-bytes, loses-token, available-1, keeps-length, prunes-nothing, prunes-ties, prunes-one-tree, in-order-of-arrival, makes, lengthThere, flawed, with-flaw, leavesAfter, leaves, Broken, Refuted}
+use Rattle.convergence.specs.Demand.{ours, history, afterAll, Receipt, receiptOf, notRefused, receipts, received, arrives, originates, isDone, leftFrom, available, insertedWith, Run, throughout, events, OneToken, Current, receiptIn, Exactly, Contents, Demand3}
+use Rattle.convergence.specs.Examples.{from, atLimit, targetOf, recordFor, having, one, two, later, lower, other-token}
+use Rattle.convergence.specs.WrongStores.{ifDone, instead, Flaw, counts-only, leaves-bytes, loses-token, files-local, available-1, keeps-length, prunes-nothing, prunes-ties, prunes-one-tree, in-order-of-arrival, makes, lengthThere, flawed, with-flaw, leavesAfter, leaves, Broken, Refuted}
 use Rattle.convergence.proofs.Examined.{verdictIn, none-arrived}
 use Rattle.convergence.proofs.Computing.{computing, reading}
 use Rattle.convergence.proofs.Lines.{fine, lines-values, lines-gather, opens-fine, computed}
@@ -81,6 +85,10 @@ done-lower = first-done lower (computed 2 refl (lower ∷ []) refl .says-all)
 done-token : outcome field t0 (ingest other-token) .verdict ≡ done
 unfolding computing
 done-token = first-done other-token (computed 2 refl (other-token ∷ []) refl .says-all)
+
+done-from : outcome field t0 (ingest (from (Remote 7) one)) .verdict ≡ done
+unfolding computing
+done-from = first-done (from (Remote 7) one) (computed 2 refl (from (Remote 7) one ∷ []) refl .says-all)
 
 -- What ours files is what it leaves.
 pub ours-files : (s : Tallied) (i : IngestCall) → outcome field s (ingest i) .verdict ≡ done → outcome field s (ingest i) .left ≡ makes filed i s
@@ -179,6 +187,19 @@ token-lost h =
     let z : _≡_ {A = ℕ} 1 0 = ap (λ (r : Receipt). getD (r .token) 0 0) (only m) in
     omega arith
 
+local-filed : filedAs one ∈ held field Spt (leaves files-local (from (Remote 7) one ∷ []))
+unfolding flawed computing reading heldBy
+local-filed = rw (after-one files-local (from (Remote 7) one) done-from) (here refl)
+
+-- By the calls, it came in session 7.
+came-in-7 : insertedWith (history (with-flaw files-local) t0 (ingest (from (Remote 7) one) ∷ [])) (filedAs one .entry) ≡ Remote 7
+unfolding history leftFrom originates isDone
+came-in-7 = rw (done-from, entry-equality .self (filedAs one .entry)) refl
+
+not-local : _≡_ {A = EntryOrigin} Local (Remote 7) → ⊥
+unfolding originKind
+not-local e = let z : _≡_ {A = ℕ} 0 1 = ap originKind e in omega arith
+
 available-one : ((x : Stored) → x ∈ held field Spt (leaves available-1 (one ∷ [])) → x .available ≡ 0) → ⊥
 unfolding flawed computing reading heldBy
 available-one h =
@@ -241,7 +262,7 @@ length-kept = rw after-three (here refl)
 
 -- By the calls, nothing has arrived of the later one.
 none-of-later : available (history (with-flaw keeps-length) t0 calls-3) (filedAs later .entry) ≡ 0
-unfolding history availableFrom arrives isDone
+unfolding history leftFrom arrives isDone
 none-of-later =
     let d : with-flaw keeps-length .call (with-flaw keeps-length .call (with-flaw keeps-length .call t0 (ingest one) .left) arrives-2 .left) (ingest later) .verdict ≡ done
     = ap (λ (s : Tallied). outcome field s (ingest later) .verdict) second-kept ∙ done-replaces in
@@ -281,7 +302,7 @@ one-pruned : let s = leaves prunes-one-tree (one ∷ later ∷ []) in dirOf Tsp 
 unfolding flawed computing reading heldBy
 one-pruned h =
     let e = subst (λ (s : Store). dirOf Tsp s ≡ dirNumbers (dirRoom 2) (map (recordOf Tsp) (held field Tsp s))) (after-two prunes-one-tree one later done-one next-one-tree done-later) h in
-    let z : _≡_ {A = ℕ} 141 0 = ap (λ (l : List ℕ). getD l 3 0) e in
+    let z : _≡_ {A = ℕ} (29 + valueLength) 0 = ap (λ (l : List ℕ). getD l 3 0) e in
     omega arith
 
 by-arrival : Ascends keyBelow (map (recordOf Tsp) (held field Tsp (leaves in-order-of-arrival (one ∷ two ∷ [])))) → ⊥
@@ -295,6 +316,7 @@ broken = record {
   counts-only = only-counted;
   leaves-bytes = bytes-left;
   loses-token = token-lost;
+  files-local = local-filed;
   available-1 = available-one;
   keeps-length = length-kept;
   prunes-nothing = none-pruned;
@@ -334,6 +356,9 @@ unfolding computing
 having-a-flaw counts-only v = broken .counts-only (exactly counts-only v (one ∷ []) refl (got-one counts-only one done-one) (one-token-1 one) Spt)
 having-a-flaw leaves-bytes v = broken .leaves-bytes (bytes leaves-bytes v (one ∷ []) refl (got-one leaves-bytes one done-one) (one-token-1 one) Spt)
 having-a-flaw loses-token v = broken .loses-token (exactly loses-token v (other-token ∷ []) refl (got-one loses-token other-token done-token) (one-token-1 other-token) Spt)
+having-a-flaw files-local v =
+    let r = run files-local v (from (Remote 7) one ∷ []) refl (got-one files-local (from (Remote 7) one) done-from) (one-token-1 (from (Remote 7) one)) in
+    not-local (v .inserted r Spt (filedAs one) (broken .files-local) ∙ came-in-7)
 having-a-flaw available-1 v = broken .available-1 λ x m. v .arrived (run available-1 v (one ∷ []) refl (got-one available-1 one done-one) (one-token-1 one)) Spt x m ∙ none-arrived (with-flaw available-1) t0 _ (one ∷ []) refl (x .entry)
 having-a-flaw keeps-length v =
     let r : Run (throughout field) (with-flaw keeps-length) = record { opening = atLimit 2; accepted = opens-fine 2 ok-2; calls = calls-3; values = mixed-values 2 refl calls-3 refl } in

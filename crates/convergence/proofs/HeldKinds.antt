@@ -1,11 +1,15 @@
--- A store that calls held whatever comes to a place that is taken is refuted; and there is one that files again what it holds already. Assumes nothing.
+-- A store that calls held whatever comes to a place that is taken is refuted; and there are one that files again what it holds already and one that gives it the
+-- origin that now came. Assumes nothing.
 use Prim.Native.Nat.{ℕ}
 use mathlib.Core.Path.{_≡_, refl, sym, ap, _∙_}
 use mathlib.Core.Bool.{true}
 use mathlib.Core.List.{[], _∷_, map, List·Memᴰ·head as here, List·Memᴰ·tail as there}
 use native.Mathlib.Omega.{arith}
 use lib.ListN.{getD}
+use Rattle.laws.specs.Sorted.{all}
 use Rattle.data_model.specs.Path.{field}
+use Rattle.data_model.specs.Origin.{originKind}
+use Rattle.data_model.specs.declared.«entry_origin».EntryOrigin.the-variants.{Remote}
 use Rattle.tree.specs.Stored.{Stored}
 use Rattle.tree.specs.declared.stored.KeyOrder.the-variants.{Spt}
 use Rattle.store.specs.Store.{held, Held, heldBy, Tallied}
@@ -13,11 +17,11 @@ use Rattle.call_laws.specs.Calls.{IngestCall, ingest, already-held, done}
 use Rattle.call_laws.specs.Outcomes.{outcome}
 use Rattle.call_laws.proofs.Right.{held-done}
 use Rattle.convergence.specs.Demand.{ours, history, notRefused}
-use Rattle.convergence.specs.Examples.{atLimit, one, later, other-token}
-use Rattle.convergence.specs.WrongStores.{AStore, OpensRight, isOccupied, HoldsByPlace, ChangesUndone, ifHeld, makes, renewed, filesHeld, renewing, Refuted}
+use Rattle.convergence.specs.Examples.{atLimit, from, one, later, other-token}
+use Rattle.convergence.specs.WrongStores.{AStore, OpensRight, isOccupied, HoldsByPlace, ChangesUndone, ifHeld, makes, leaving, renewed, relabelled, whereHeld, renewing, relabelling, Refuted}
 use Rattle.convergence.proofs.Examined.{verdictIn}
 use Rattle.convergence.proofs.Computing.{computing, reading}
-use Rattle.convergence.proofs.Lines.{lines-values, opens-fine, computed}
+use Rattle.convergence.proofs.Lines.{fine, lines-values, opens-fine, computed}
 use Rattle.convergence.proofs.Flaws.{ok-2, t0, next, ours-next, next-says, done-one}
 use Rattle.convergence.proofs.FirstCalls.{c1, t1, t1-holds, next-later, done-next, s0, second-store, reached-1, second-verdict}
 
@@ -39,15 +43,38 @@ says-token : map verdictIn (history (ours field) t0 (map ingest (one ∷ other-t
 unfolding computing
 says-token = computed 2 refl (one ∷ other-token ∷ []) refl .says-all
 
+-- So is the first from elsewhere.
+says-origin : map verdictIn (history (ours field) t0 (map ingest (one ∷ from (Remote 7) one ∷ []))) ≡ done ∷ already-held ∷ []
+unfolding computing
+says-origin = computed 2 refl (one ∷ from (Remote 7) one ∷ []) refl .says-all
+
+-- A store that is as ours but for what it leaves where an entry is held, and an entry that it holds then and there.
+module _ (g : Stored → Held → Held) (x : IngestCall) (says-x : map verdictIn (history (ours field) t0 (ingest one ∷ ingest x ∷ [])) ≡ done ∷ already-held ∷ []) (fine-x : all (fine 2) (one ∷ x ∷ []) ≡ true)
+    (differs : makes g x (next one) ≡ next one → ⊥) where
+  abbrev wrong : AStore
+  wrong = leaving (whereHeld g)
+
+  wrong-next : wrong .call t0 (ingest one) .left ≡ next one
+  unfolding whereHeld ifHeld
+  wrong-next = rw done-one ours-next
+
+  wrong-held : (s : Tallied) → outcome field s (ingest x) .verdict ≡ already-held → wrong .call s (ingest x) .left ≡ makes g x s
+  unfolding whereHeld ifHeld
+  wrong-held s v = rw v refl
+
+  one-changes-held : ChangesUndone wrong
+  unfolding history
+  one-changes-held =
+      let s : Tallied = wrong .call t0 (ingest one) .left in
+      let v : outcome field s (ingest x) .verdict ≡ already-held = ap (λ (s : Tallied). outcome field s (ingest x) .verdict) wrong-next ∙ next-says x says-x in
+      let l : wrong .call s (ingest x) .left ≡ makes g x (next one) = wrong-held s v ∙ ap (makes g x) wrong-next in (
+        record { opening = atLimit 2; accepted = opens-fine 2 ok-2; calls = map ingest (one ∷ x ∷ []); values = lines-values 2 (one ∷ x ∷ []) fine-x },
+        record { before = s; call = ingest x; outcome = wrong .call s (ingest x) },
+        there (here refl),
+        (λ d. held-done (sym v ∙ d), λ q. differs (sym l ∙ q ∙ wrong-next)),
+      )
+
 -- What is held is filed again: the token changes.
-renewing-next : renewing .call t0 (ingest one) .left ≡ next one
-unfolding filesHeld ifHeld
-renewing-next = rw done-one ours-next
-
-renewing-held : (s : Tallied) (i : IngestCall) → outcome field s (ingest i) .verdict ≡ already-held → renewing .call s (ingest i) .left ≡ makes renewed i s
-unfolding filesHeld ifHeld
-renewing-held s i v = rw v refl
-
 token-renewed : makes renewed other-token (next one) ≡ next one → ⊥
 unfolding computing reading heldBy
 token-renewed q =
@@ -55,13 +82,16 @@ token-renewed q =
     omega arith
 
 pub one-renews-held : ChangesUndone renewing
-unfolding history computing
-one-renews-held =
-    let s : Tallied = renewing .call t0 (ingest one) .left in
-    let v : outcome field s (ingest other-token) .verdict ≡ already-held = ap (λ (s : Tallied). outcome field s (ingest other-token) .verdict) renewing-next ∙ next-says other-token says-token in
-    let l : renewing .call s (ingest other-token) .left ≡ makes renewed other-token (next one) = renewing-held s other-token v ∙ ap (makes renewed other-token) renewing-next in (
-      record { opening = atLimit 2; accepted = opens-fine 2 ok-2; calls = map ingest (one ∷ other-token ∷ []); values = lines-values 2 (one ∷ other-token ∷ []) refl },
-      record { before = s; call = ingest other-token; outcome = renewing .call s (ingest other-token) },
-      there (here refl),
-      (λ d. held-done (sym v ∙ d), λ q. token-renewed (sym l ∙ q ∙ renewing-next)),
-    )
+unfolding computing
+one-renews-held = one-changes-held renewed other-token says-token refl token-renewed
+
+-- Its origin changes.
+origin-relabelled : makes relabelled (from (Remote 7) one) (next one) ≡ next one → ⊥
+unfolding computing reading heldBy
+origin-relabelled q =
+    let z : _≡_ {A = ℕ} 1 0 = ap (λ (t : Tallied). getD (map (λ (x : Stored). originKind (x .origin)) (held field Spt (t .store))) 0 0) q in
+    omega arith
+
+pub one-relabels-held : ChangesUndone relabelling
+unfolding computing
+one-relabels-held = one-changes-held relabelled (from (Remote 7) one) says-origin refl origin-relabelled

@@ -1,4 +1,4 @@
--- Two sound stores that are the same but for the available lengths differ inside these alone, index by index. Assumes nothing.
+-- Two sound stores that are the same but for the last bytes of each record, within its value, differ inside these alone, index by index. Assumes nothing.
 use Prim.Native.Nat.{ℕ, zero, suc, _+_, _-_, _≤_, _<_}
 use mathlib.Core.Path.{_≡_, refl, sym, ap, ap₂, _∙_}
 use mathlib.Core.Logic.{_⊎_, inl, inr, ⊎-elim}
@@ -15,10 +15,11 @@ use Rattle.layout.specs.Layout.{records, joined, pairs, treeBytes, dirNumbers, 
 use Rattle.layout.proofs.BufferLaws.{getD-past}
 use Rattle.layout.proofs.LaidLaws.{end-is}
 use Rattle.data_model.specs.Path.{Figures}
+use Rattle.tree.specs.Value.{valueLength}
 use Rattle.tree.proofs.FormedLaws.{record-long}
 use Rattle.store.specs.Store.{treeOf, dirOf, Tallied}
 use Rattle.call_laws.specs.Outcomes.{Sound}
-use Rattle.convergence.specs.Demand.{ownBytes, blank, butLast, Same}
+use Rattle.convergence.specs.Demand.{blank, but, Same}
 use Rattle.convergence.specs.Differ.{DifferInside}
 
 -- Two lists that begin with lists of one length.
@@ -101,9 +102,9 @@ module _ (n : ℕ) where
       inr (suc (k .0), omega (arith, k .1), omega (arith, length-append r (joined (take (suc (k .0)) R)), c), omega (arith, length-append r (joined (take (suc (k .0)) R)), d)))
       (same-or-inside R Q a b (i - length r) (ap (drop 1) l) (ap (drop 1) e)))
 
-pub differ-inside : (f : Figures) (w v : Tallied) → Sound f w → Sound f v → Same ownBytes f w v → DifferInside f ownBytes w v
-unfolding butLast treeBytes dirNumbers filled
-differ-inside f w v x y same k i =
+pub differ-inside : (n : ℕ) → n ≤ valueLength → (f : Figures) (w v : Tallied) → Sound f w → Sound f v → Same (but (blank n)) f w v → DifferInside f n w v
+unfolding but treeBytes dirNumbers filled
+differ-inside n few f w v x y same k i =
     let s = w .store in
     let t = v .store in
     let a = x .well-formed .each k in
@@ -114,13 +115,13 @@ differ-inside f w v x y same k i =
     let zq = length (dirOf k t) - length (pairs 0 Q) in
     let many : length R ≡ length Q = a .many ∙ same .count ∙ sym (b .many) in
     let l : map length R ≡ map length Q = pair-lengths R Q 0 (replicate zr 0) (replicate zq 0) many (sym (a .numbers) ∙ same .directories k ∙ b .numbers) in
-    let long : (r : List ℕ) → r ∈ R → ownBytes ≤ length r = λ r m. let o = record-long k f r (a .each r m) in omega (arith, o) in
-    let long′ : (r : List ℕ) → r ∈ Q → ownBytes ≤ length r = λ r m. let o = record-long k f r (b .each r m) in omega (arith, o) in
-    let lb : map length (map (blank ownBytes) R) ≡ map length (map (blank ownBytes) Q) = blank-lengths ownBytes R long ∙ l ∙ sym (blank-lengths ownBytes Q long′) in
-    let e : map (blank ownBytes) R ≡ map (blank ownBytes) Q = unjoined _ _ _ _ lb (same .trees k) in
+    let long : (r : List ℕ) → r ∈ R → n ≤ length r = λ r m. let o = record-long k f r (a .each r m) in omega (arith, o) in
+    let long′ : (r : List ℕ) → r ∈ Q → n ≤ length r = λ r m. let o = record-long k f r (b .each r m) in omega (arith, o) in
+    let lb : map length (map (blank n) R) ≡ map length (map (blank n) Q) = blank-lengths n R long ∙ l ∙ sym (blank-lengths n Q long′) in
+    let e : map (blank n) R ≡ map (blank n) Q = unjoined _ _ _ _ lb (same .trees k) in
     ⊎-elim
     (λ h. inl (ap (λ (m : List ℕ). getD m i 0) (a .bytes) ∙ h ∙ ap (λ (m : List ℕ). getD m i 0) (sym (b .bytes))))
     (λ h.
     let q : endAt (suc (h .0)) (dirOf k s) ≡ length (joined (take (suc (h .0)) R)) = end-is R (dirOf k s) (replicate zr 0) (suc (h .0)) (a .numbers) (omega (arith, h .1)) in
     inr (record { number = h .0; among = omega (arith, h .1, a .many); begins = omega (arith, q, h .2); ends = omega (arith, q, h .3) }))
-    (same-or-inside ownBytes R Q (length (treeOf f k s) - length (joined R)) (length (treeOf f k t) - length (joined Q)) i l e)
+    (same-or-inside n R Q (length (treeOf f k s) - length (joined R)) (length (treeOf f k t) - length (joined Q)) i l e)

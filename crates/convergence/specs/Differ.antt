@@ -1,5 +1,5 @@
--- 02, U4, by positions: two stores that are the same but for the last n bytes of each record have the same byte at every index that lies in none of these.
--- Theorem `differ-inside`.
+-- 02, U4 and U6, by positions: two stores that are the same but for the last n bytes of each record have the same byte at every index that lies in none of these.
+-- Theorem `differ-inside`, for every n within a value: `ownBytes`, the available length and the origin, and `originLength`, the origin alone, among them.
 use Prim.Native.Nat.{ℕ, suc, _+_, _≤_, _<_}
 use mathlib.Core.Path.{_≡_}
 use mathlib.Core.Logic.{_⊎_}

@@ -11,7 +11,8 @@ use Rattle.laws.specs.Sorted.{_∈_, any, keep, insert, Ascends}
 use Rattle.layout.specs.Layout.{treeBytes, dirNumbers}
 use Rattle.data_model.specs.Path.{field, components}
 use Rattle.data_model.specs.Entry.{Entry, entryOf, newer, covers}
-use Rattle.tree.specs.Stored.{Stored, recordOf, keyBelow}
+use Rattle.data_model.specs.declared.«entry_origin».EntryOrigin.the-variants.{Local, Remote}
+use Rattle.tree.specs.Stored.{Stored, recordOf, keyBelow, sameEntry}
 use Rattle.tree.specs.Matching.{repeats, standsAt, isForgotten}
 use Rattle.tree.specs.declared.stored.KeyOrder.{KeyOrder}
 use Rattle.tree.specs.declared.stored.KeyOrder.the-variants.{Spt, Tsp}
@@ -19,13 +20,13 @@ use Rattle.tally.specs.Tally.{tallyHolding}
 use Rattle.store.specs.Store.{stateWith, Store, storeOf, treeRoom, dirRoom, treeOf, dirOf, held, Held, heldBy, Tallied, talliedHolding}
 use Rattle.store.specs.Open.{nothing}
 use Rattle.store.specs.Forget.{without}
-use Rattle.store.specs.Ingest.{filing, sptLess, tspLess, stays, filedIn, filed}
+use Rattle.store.specs.Ingest.{sptLess, tspLess, stays, filedIn, filed}
 use Rattle.available.specs.Available.{arrive}
 use Rattle.call_laws.specs.Calls.{Opening, IngestCall, AreaForgetting, Recording, Call, ingest, forget-entry, forget-area, record-available, forget-payload, filedAs, forgets, recordingOf, Verdict, refused, obsolete, already-held, done}
 use Rattle.call_laws.specs.Checks.{OpeningVerdictRight, NoneAt}
 use Rattle.call_laws.specs.Outcomes.{Outcome, outcome, opens}
 use Rattle.convergence.specs.Demand.{Machine, Event, afterAll, receiptOf, notRefused, Run, throughout, events, end, receiptIn, Exactly, Demand3}
-use Rattle.convergence.specs.Examples.{atLimit, one, two, later, lower, other-token, recordFor, having}
+use Rattle.convergence.specs.Examples.{atLimit, from, one, two, later, lower, other-token, recordFor, having}
 
 -- A store, right or wrong: whatever it answers, and leaves of a state, four buffers and a tally.
 abbrev pub AStore : Type 0
@@ -196,7 +197,7 @@ instead g s (forget-payload p) o = o .left
 
 -- One thing wrong with what an ingestion leaves; all but the first two by what the trees are made to hold.
 pub data Flaw : Type 0 where
-  counts-only leaves-bytes loses-token available-1 keeps-length prunes-nothing prunes-ties prunes-one-tree in-order-of-arrival : Flaw
+  counts-only leaves-bytes loses-token files-local available-1 keeps-length prunes-nothing prunes-ties prunes-one-tree in-order-of-arrival : Flaw
 
 abbrev pub makes : (Stored → Held → Held) → IngestCall → Tallied → Tallied
 makes g i s = talliedHolding field (g (filedAs i) (heldBy field (s .store))) s
@@ -210,10 +211,15 @@ unfoldable pub lengthThere : Entry → List Stored → ℕ
 lengthThere e [] = 0
 lengthThere e (y ∷ l) = cond (standsAt (e .subspace) (e .path) y) (y .available) (lengthThere e l)
 
+-- What is stored, as if it came from here.
+abbrev pub from-here : Stored → Stored
+from-here x = record { entry = x .entry; token = x .token; available = x .available; origin = Local }
+
 unfoldable pub flawed : Flaw → IngestCall → Tallied → Tallied
 flawed counts-only i s = let t = s .store in record { store = storeOf (stateWith (t .state) (suc (t .state .count))) (t .spt) (t .sptDir) (t .tsp) (t .tspDir); tally = makes filed i s .tally }
 flawed leaves-bytes i s = let t = makes filed i s .store in record { store = storeOf (t .state) (take 200 (t .spt) ++ 1 ∷ drop 201 (t .spt)) (t .sptDir) (t .tsp) (t .tspDir); tally = makes filed i s .tally }
-flawed loses-token i s = makes (λ x h. filed (filing (x .entry) (replicate 64 0)) h) i s
+flawed loses-token i s = makes (λ x h. filed (record { entry = x .entry; token = replicate 64 0; available = 0; origin = x .origin }) h) i s
+flawed files-local i s = makes (λ x h. filed (from-here x) h) i s
 flawed available-1 i s = makes (λ x h. filed (arrive 1 x) h) i s
 flawed keeps-length i s = makes (λ x h. filed (arrive (lengthThere (x .entry) (h .spt)) x) h) i s
 flawed prunes-nothing i s = makes (λ x h. record { spt = insert sptLess x (h .spt); tsp = insert tspLess x (h .tsp) }) i s
@@ -225,17 +231,27 @@ flawed in-order-of-arrival i s = makes (λ x h. record { spt = filedIn Spt x (h 
 abbrev pub renewed : Stored → Held → Held
 renewed x h = let l = without (repeats (x .entry)) h in record { spt = insert sptLess x (l .spt); tsp = insert tspLess x (l .tsp) }
 
--- What is left where an entry that is held is filed so.
-unfoldable pub filesHeld : Tallied → Call → Outcome Tallied → Tallied
-filesHeld s (ingest i) o = ifHeld (o .verdict) (makes renewed i s) (o .left)
-filesHeld s (forget-entry p) o = o .left
-filesHeld s (forget-area a) o = o .left
-filesHeld s (record-available r) o = o .left
-filesHeld s (forget-payload p) o = o .left
+-- The stored entry that is this very one, with the origin that now came.
+abbrev pub relabelled : Stored → Held → Held
+relabelled x h =
+    let g : Stored → Stored = λ y. cond (sameEntry (x .entry) (y .entry)) (record { entry = y .entry; token = y .token; available = y .available; origin = x .origin }) y in
+    record { spt = map g (h .spt); tsp = map g (h .tsp) }
+
+-- What is left where an entry that is held changes what the trees hold.
+unfoldable pub whereHeld : (Stored → Held → Held) → Tallied → Call → Outcome Tallied → Tallied
+whereHeld g s (ingest i) o = ifHeld (o .verdict) (makes g i s) (o .left)
+whereHeld g s (forget-entry p) o = o .left
+whereHeld g s (forget-area a) o = o .left
+whereHeld g s (record-available r) o = o .left
+whereHeld g s (forget-payload p) o = o .left
 
 -- As ours, but that it files anew, with the token that now came, what it holds already.
 abbrev pub renewing : AStore
-renewing = leaving filesHeld
+renewing = leaving (whereHeld renewed)
+
+-- As ours, but that an entry that it holds already gets the origin that now came.
+abbrev pub relabelling : AStore
+relabelling = leaving (whereHeld relabelled)
 
 abbrev pub with-flaw : Flaw → AStore
 with-flaw w = leaving (instead (flawed w))
@@ -248,11 +264,12 @@ abbrev pub leaves : Flaw → List IngestCall → Store
 leaves w handed = leavesAfter w (map ingest handed)
 
 -- The clause of `Contents` that each of them breaks, all of it having been received. Of two it is `arrived`, which says 0: an available length is not 0, or 2
--- bytes of the later entry are said to be there.
+-- bytes of the later entry are said to be there. Of one it is `inserted`: an entry of session 7 is said to be local.
 pub record Broken : Type 0 where
   pub counts-only : Exactly (held field Spt (leaves counts-only (one ∷ []))) (map receiptOf (one ∷ [])) → ⊥
   pub leaves-bytes : let s = leaves leaves-bytes (one ∷ []) in treeOf field Spt s ≡ treeBytes (treeRoom field 2) (map (recordOf Spt) (held field Spt s)) → ⊥
   pub loses-token : Exactly (held field Spt (leaves loses-token (other-token ∷ []))) (map receiptOf (other-token ∷ [])) → ⊥
+  pub files-local : filedAs one ∈ held field Spt (leaves files-local (from (Remote 7) one ∷ []))
   pub available-1 : ((x : Stored) → x ∈ held field Spt (leaves available-1 (one ∷ [])) → x .available ≡ 0) → ⊥
   pub keeps-length : having 2 later ∈ held field Spt (leavesAfter keeps-length (ingest one ∷ recordFor one 2 ∷ ingest later ∷ []))
   pub prunes-nothing : Exactly (held field Spt (leaves prunes-nothing (one ∷ later ∷ []))) (map receiptOf (one ∷ later ∷ [])) → ⊥
@@ -297,6 +314,7 @@ pub record ShutOut : Type 0 where
   pub one-makes-it-up : MadeUpCount (always done 1)
   pub one-changes-refused : ChangesUndone wiping
   pub one-renews-held : ChangesUndone renewing
+  pub one-relabels-held : ChangesUndone relabelling
   pub one-opens-none : OpensNone opening-all
   pub one-tallies-nothing : OpensRight silent × TalliesNothing silent
   pub one-tallies-before : OpensRight hasty × TalliesBefore hasty

@@ -4,3 +4,4 @@ pub mod Orders
 pub mod Compare
 pub mod Raise
 pub mod RangeLaws
+pub mod OriginLaws

@@ -4,6 +4,7 @@ pub mod Path
 pub mod Above
 pub mod Subspace
 pub mod Entry
+pub mod Origin
 pub mod Range
 pub mod Range3d
 pub mod Area

@@ -8,6 +8,7 @@ pub mod area_of_interest;
 mod area_range;
 pub mod checked;
 pub mod entry;
+pub mod entry_origin;
 pub mod parameters;
 pub mod path;
 pub mod query_ignore_params;

@@ -7,6 +7,7 @@ use Rattle.data_model.specs.Said.{Said, refuses, says}
 use Rattle.data_model.specs.Path.{Figures}
 use Rattle.data_model.specs.Refusal.{illegalPath}
 use Rattle.data_model.specs.declared.entry.Entry.{Entry as EntryValue}
+use Rattle.data_model.specs.declared.«entry_origin».EntryOrigin.the-variants.{Local}
 use Rattle.store.specs.Store.{Tallied, talliedOf}
 use Rattle.store.specs.Ingest.{Verdict, succeeds, is-obsolete, is-held, IngestOutcome, ingested}
 use Rattle.store.specs.declared.state.State.{State}
@@ -30,9 +31,9 @@ entryOfLine e = record {
   «payload_digest» = replicate 32 (e .digest);
 }
 
--- What is ingested of a line: its entry with token 0, and pruning is not prevented.
+-- What is ingested of a line: its entry with token 0, filed as local, and pruning is not prevented.
 abbrev pub ingestionOfLine : EntryLine → Ingestion
-ingestionOfLine e = record { entry = entryOfLine e; token = replicate 64 0; «prevent_pruning» = false }
+ingestionOfLine e = record { entry = entryOfLine e; token = replicate 64 0; «prevent_pruning» = false; origin = Local }
 
 -- `ok`, `obsolete`, `held`, or `refused` and the number.
 unfoldable pub answerOf : Said Verdict → Answer

@@ -1,6 +1,7 @@
 // A line carried out: read, and ingested if it says an entry.
 use data_model::answer::ILLEGAL_PATH;
 use data_model::entry::Entry;
+use data_model::entry_origin::EntryOrigin;
 use data_model::parameters::Subspace;
 use keys::number::wide;
 use store::ingest::IngestVerdict;
@@ -48,7 +49,7 @@ fn entry_of(e: EntryLine) -> Entry
     }
 }
 
-// What is ingested of a line: its entry with token 0, and pruning is not prevented.
+// What is ingested of a line: its entry with token 0, filed as local, and pruning is not prevented.
 fn ingestion_of_line(e: EntryLine) -> Ingestion
     ensures { λ r. ⌜ r ≡ ingestionOfLine e ⌝ }
 {
@@ -57,6 +58,7 @@ fn ingestion_of_line(e: EntryLine) -> Ingestion
         entry,
         token: [0; 64],
         prevent_pruning: false,
+        origin: EntryOrigin::Local,
     }
 }
 
@@ -82,7 +84,7 @@ fn answer_without(outcome: Outcome) -> Answer
     }
 }
 
-// Pruning is never prevented; tokens are 0.
+// Pruning is never prevented; tokens are 0; every entry is filed as local.
 pub fn carry_out(
     line: &[u8],
     state: State,

@@ -23,7 +23,7 @@ use Rattle.tree.specs.declared.stored.KeyOrder.the-variants.{Spt}
 use Rattle.tree.proofs.FormedContents.{formed-many}
 use Rattle.store.specs.Store.{Store, limitMost, dirRoom, dirOf, held, Tallied}
 use Rattle.store.specs.Refusal.{unless, _orElse_, limitOk, storeRefusal, talliedRefusal}
-use Rattle.store.specs.Ingest.{succeeds, is-held, IngestSaid, Decision, refuse, obsolete, already, take-it, ingestRefusal, judged, MayFile, plainAnswer, obsoleteAnswer, IngestOutcome, ingestOutcome, prunedPairs, carried, ingested}
+use Rattle.store.specs.Ingest.{succeeds, is-held, IngestSaid, Decision, refuse, obsolete, already, take-it, ingestRefusal, judged, MayFile, plainAnswer, obsoleteAnswer, IngestOutcome, ingestOutcome, prunedPairs, filing, carried, ingested}
 use Rattle.store.specs.declared.ingest.Ingestion.{Ingestion}
 use Rattle.store.proofs.CheckLaws.{limit-most}
 use Rattle.store.proofs.IngestLaws.{Ready}
@@ -135,17 +135,17 @@ module _ (w : Tallied) (ps : List Pair) (i : Ingestion) (r : IngestSaid) (a b c 
 
   -- A decision that comes to an answer alone prunes nothing, and the pairs stay.
   nothing-pruned : (x : Decision) (said : IngestSaid) → judged field w own (i .entry) (i .«prevent_pruning») ≡ x
-      → ((prune : List ℕ) → carried field w prune (entryOf (i .entry)) (i .token) x ≡ leaving said prune) → prunedCount (said .verdict) ≡ 0 → Layered w ps i r a b c d t ns n
+      → ((prune : List ℕ) → carried field w prune (filing i) x ≡ leaving said prune) → prunedCount (said .verdict) ≡ 0 → Layered w ps i r a b c d t ns n
   unfolding ingested pairsIngested
   nothing-pruned x said j same none =
-      let q : ingestOutcome r a b c d t (take (numbersUsed (length ps)) ns) ≡ leaving said own = eq ∙ ap (carried field w own (entryOf (i .entry)) (i .token)) j ∙ same own in
+      let q : ingestOutcome r a b c d t (take (numbersUsed (length ps)) ns) ≡ leaving said own = eq ∙ ap (carried field w own (filing i)) j ∙ same own in
       let z : n ≡ 0 = en ∙ ap (λ (y : IngestOutcome). prunedCount (y .answer .verdict)) q ∙ none in
       record {
         few = omega arith;
         done = λ now h.
             (λ k. record { answer = q k .answer; left = q k .left; pairs = nothing-put now z h k })
             ∙ sym (ap inPairs (same (numbersOf ps)))
-            ∙ sym (ap (λ (y : Decision). inPairs (carried field w (numbersOf ps) (entryOf (i .entry)) (i .token) y)) (sym decides ∙ j));
+            ∙ sym (ap (λ (y : Decision). inPairs (carried field w (numbersOf ps) (filing i) y)) (sym decides ∙ j));
       }
 
   by-decision : (x : Decision) → judged field w own (i .entry) (i .«prevent_pruning») ≡ x → Layered w ps i r a b c d t ns n
@@ -156,7 +156,7 @@ module _ (w : Tallied) (ps : List Pair) (i : Ingestion) (r : IngestSaid) (a b c 
   by-decision take-it j =
       let m = removedBy (w .store) (i .entry) in
       let pruned = prunedPairs field (w .store) (entryOf (i .entry)) in
-      let q : ingestOutcome r a b c d t (take (numbersUsed (length ps)) ns) ≡ carried field w own (entryOf (i .entry)) (i .token) take-it = eq ∙ ap (carried field w own (entryOf (i .entry)) (i .token)) j in
+      let q : ingestOutcome r a b c d t (take (numbersUsed (length ps)) ns) ≡ carried field w own (filing i) take-it = eq ∙ ap (carried field w own (filing i)) j in
       let v : r .verdict ≡ says (succeeds m) = ap (λ (x : IngestOutcome). x .answer .verdict) q in
       let z : n ≡ m = en ∙ ap prunedCount v in
       let may = success-may w own i r (ap (λ (x : IngestOutcome). x .answer) eq) m v in
@@ -170,7 +170,7 @@ module _ (w : Tallied) (ps : List Pair) (i : Ingestion) (r : IngestSaid) (a b c 
         few = omega arith;
         done = λ now h.
             (λ k. record { answer = q k .answer; left = q k .left; pairs = g now h k })
-            ∙ sym (ap (λ (x : Decision). inPairs (carried field w (numbersOf ps) (entryOf (i .entry)) (i .token) x)) (sym decides ∙ j));
+            ∙ sym (ap (λ (x : Decision). inPairs (carried field w (numbersOf ps) (filing i) x)) (sym decides ∙ j));
       }
 
   pub layered : Layered w ps i r a b c d t ns n

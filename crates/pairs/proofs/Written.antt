@@ -23,7 +23,7 @@ use Rattle.tree.specs.declared.stored.KeyOrder.the-variants.{Spt}
 use Rattle.tally.specs.Tally.{tallyRight}
 use Rattle.store.specs.Store.{dirRoom, held, wellFormedStore, Tallied}
 use Rattle.store.specs.Refusal.{unless, _orElse_, limitOk, roomy, storeRefusal, tallyFits, talliedRefusal}
-use Rattle.store.specs.Ingest.{succeeds, Decision, refuse, obsolete, already, take-it, stays, firstThat, decidedOf, decided, ingestRefusal, judged, MayFile, prunedPairs, plainAnswer, carried, ingested}
+use Rattle.store.specs.Ingest.{succeeds, Decision, refuse, obsolete, already, take-it, stays, firstThat, decidedOf, decided, ingestRefusal, judged, MayFile, prunedPairs, plainAnswer, filing, carried, ingested}
 use Rattle.store.specs.declared.ingest.Ingestion.{Ingestion}
 use Rattle.store.proofs.FileLaws.{success-may}
 use Rattle.pairs.specs.Pairs.{pairsOf, numbersOf, pairsIngested}
@@ -37,12 +37,12 @@ refusalIn (obsolete x) = 0
 refusalIn already = 0
 refusalIn take-it = 0
 
-carried-number : (w : Tallied) (prune : List ℕ) (e : Entry) (token : List ℕ) (d : Decision) → numberOf (carried field w prune e token d .answer .verdict) ≡ refusalIn d
+carried-number : (w : Tallied) (prune : List ℕ) (x : Stored) (d : Decision) → numberOf (carried field w prune x d .answer .verdict) ≡ refusalIn d
 unfolding numberOf carried
-carried-number w prune e token (refuse n) = refl
-carried-number w prune e token (obsolete x) = refl
-carried-number w prune e token already = refl
-carried-number w prune e token take-it = refl
+carried-number w prune x (refuse n) = refl
+carried-number w prune x (obsolete y) = refl
+carried-number w prune x already = refl
+carried-number w prune x take-it = refl
 
 -- No decision is 2, and no test is left that gives 2.
 decision-not-2 : (o : Option Stored) (a b c : Bool) → refusalIn (decidedOf o (cond a already (cond b (refuse pruningPrevented) (cond c (refuse full) take-it)))) ≡ shortBuffer → ⊥
@@ -77,8 +77,8 @@ module _ (w : Tallied) (ps : List Pair) (i : Ingestion) where
   unfolding pairsIngested ingested
   success-writes n q = go (judged field w (numbersOf ps) (i .entry) (i .«prevent_pruning»)) q (success-may w (numbersOf ps) i (ingested field w (numbersOf ps) i .answer) refl n q)
     where
-      go : (d : Decision) → carried field w (numbersOf ps) (entryOf (i .entry)) (i .token) d .answer .verdict ≡ says (succeeds n) → MayFile field (w .store) (numbersOf ps) (i .entry)
-          → (pairsOf (carried field w (numbersOf ps) (entryOf (i .entry)) (i .token) d .prune) ≡ put pruned ps) × (length pruned ≡ n)
+      go : (d : Decision) → carried field w (numbersOf ps) (filing i) d .answer .verdict ≡ says (succeeds n) → MayFile field (w .store) (numbersOf ps) (i .entry)
+          → (pairsOf (carried field w (numbersOf ps) (filing i) d .prune) ≡ put pruned ps) × (length pruned ≡ n)
       go (refuse k) h may = unfold carried in absurd (let z : _≡_ {A = ℕ} 0 1 = cc in omega arith)
       go (obsolete x) h may = unfold carried in absurd (let z : _≡_ {A = ℕ} 0 1 = cc in omega arith)
       go already h may = unfold carried in absurd (let z : _≡_ {A = ℕ} 0 1 = cc in omega arith)
@@ -91,7 +91,7 @@ module _ (w : Tallied) (ps : List Pair) (i : Ingestion) where
   unfolding pairsIngested ingested
   others-write-none h = go (judged field w (numbersOf ps) (i .entry) (i .«prevent_pruning»)) h
     where
-      go : (d : Decision) → ((n : ℕ) → carried field w (numbersOf ps) (entryOf (i .entry)) (i .token) d .answer .verdict ≡ says (succeeds n) → ⊥) → pairsOf (carried field w (numbersOf ps) (entryOf (i .entry)) (i .token) d .prune) ≡ ps
+      go : (d : Decision) → ((n : ℕ) → carried field w (numbersOf ps) (filing i) d .answer .verdict ≡ says (succeeds n) → ⊥) → pairsOf (carried field w (numbersOf ps) (filing i) d .prune) ≡ ps
       go (refuse k) g = unfold carried in pairs-again ps
       go (obsolete x) g = unfold carried in pairs-again ps
       go already g = unfold carried in pairs-again ps
@@ -138,4 +138,4 @@ module _ (w : Tallied) (ps : List Pair) (i : Ingestion) where
     -- And 2 is no answer where the store's own buffers and the tally have room and the pairs number the limit at least.
     pub room-not-refused : pairsIngested field w ps i .answer .verdict ≡ refuses shortBuffer → ⊥
     unfolding numberOf pairsIngested ingested
-    room-not-refused v = judged-not-2 (sym (carried-number w (numbersOf ps) (entryOf (i .entry)) (i .token) (judged field w (numbersOf ps) (i .entry) (i .«prevent_pruning»))) ∙ ap numberOf v)
+    room-not-refused v = judged-not-2 (sym (carried-number w (numbersOf ps) (filing i) (judged field w (numbersOf ps) (i .entry) (i .«prevent_pruning»))) ∙ ap numberOf v)

@@ -9,6 +9,8 @@ use Rattle.data_model.specs.declared.area.AreaSubspace.{AreaSubspace}
 use Rattle.data_model.specs.declared.area.AreaSubspace.the-variants.{Any, Id}
 use Rattle.data_model.specs.declared.«area_of_interest».AreaOfInterest.{AreaOfInterest}
 use Rattle.data_model.specs.declared.entry.Entry.{Entry}
+use Rattle.data_model.specs.declared.«entry_origin».EntryOrigin.{EntryOrigin}
+use Rattle.data_model.specs.declared.«entry_origin».EntryOrigin.the-variants.{Local, Remote}
 use Rattle.data_model.specs.declared.range.TimesRange.{TimesRange}
 use Rattle.data_model.specs.declared.range.RangeEnd.the-variants as times
 use Rattle.data_model.specs.declared.range.SubspaceRange.{SubspaceRange}
@@ -24,6 +26,7 @@ use Rattle.plain.specs.declared.input.PlainArea.{PlainArea}
 use Rattle.plain.specs.declared.input.PlainRange.{PlainRange}
 use Rattle.plain.specs.declared.input.PlainInterest.{PlainInterest}
 use Rattle.plain.specs.declared.input.PlainIgnore.{PlainIgnore}
+use Rattle.plain.specs.declared.input.PlainOrigin.{PlainOrigin}
 
 -- A byte means yes unless it is 0.
 abbrev pub isYes : ℕ → Bool
@@ -64,6 +67,10 @@ ignoreOf i = record {
   «ignore_empty_payloads» = isYes (i .«empty_payloads»);
 }
 
--- What an ingestion is handed: the entry and its token as they are, and whether pruning is prevented.
-abbrev pub ingestionOf : Entry → (token : List ℕ) → ℕ → Ingestion
-ingestionOf e token prevents = record { entry = e; token = token; «prevent_pruning» = isYes prevents }
+-- An origin: remote with its session, or local.
+abbrev pub originIn : PlainOrigin → EntryOrigin
+originIn o = cond (isYes (o .remote)) (Remote (o .session)) Local
+
+-- What an ingestion is handed: the entry and its token as they are, whether pruning is prevented, and the origin.
+abbrev pub ingestionOf : Entry → (token : List ℕ) → ℕ → PlainOrigin → Ingestion
+ingestionOf e token prevents from = record { entry = e; token = token; «prevent_pruning» = isYes prevents; origin = originIn from }

@@ -3,6 +3,7 @@ use data_model::area::Area;
 use data_model::area::AreaSubspace;
 use data_model::area_of_interest::AreaOfInterest;
 use data_model::entry::Entry;
+use data_model::entry_origin::EntryOrigin;
 use data_model::parameters::Subspace;
 use data_model::path::Path;
 use data_model::query_ignore_params::QueryIgnoreParams;
@@ -16,7 +17,7 @@ use pairs::Pair;
 use store::ingest::Ingestion;
 use store::state::LIMIT_MOST;
 ghost use mathlib.Core.Path.{_≡_};
-ghost use Rattle.plain.specs.Input.{isYes, areaSubspaceOf, timesOf, subspacesOf, pathsOf, areaOf, rangeOf, interestOf, ignoreOf, ingestionOf};
+ghost use Rattle.plain.specs.Input.{isYes, areaSubspaceOf, timesOf, subspacesOf, pathsOf, areaOf, rangeOf, interestOf, ignoreOf, originIn, ingestionOf};
 
 // From `start` up to `end`, which is outside; if `open` is yes there is no end and `end` is not looked at.
 #[repr(C)]
@@ -71,6 +72,13 @@ pub struct PlainInterest {
 pub struct PlainIgnore {
     pub incomplete_payloads: u8,
     pub empty_payloads: u8,
+}
+
+// If `remote` is yes, the entry came from another source, in the session with this number; else it is local, and `session` is not looked at.
+#[repr(C)]
+pub struct PlainOrigin {
+    pub remote: u8,
+    pub session: u64,
 }
 
 // A prune list by value, of the most pairs that a store may need.
@@ -199,13 +207,30 @@ pub fn ignore_of(i: PlainIgnore) -> QueryIgnoreParams
     }
 }
 
-// What an ingestion is handed: an entry, its token and the byte that prevents pruning.
-pub fn ingestion_of(entry: Entry, token: [u8; 64], prevent_pruning: u8) -> Ingestion
-    ensures { λ r. ⌜ r ≡ ingestionOf entry token «prevent_pruning» ⌝ }
+// The origin that a plain one stands for.
+fn origin_in(o: PlainOrigin) -> EntryOrigin
+    ensures { λ r. ⌜ r ≡ originIn o ⌝ }
 {
+    if is_yes(o.remote) {
+        return EntryOrigin::Remote(o.session);
+    }
+    EntryOrigin::Local
+}
+
+// What an ingestion is handed: an entry, its token, the byte that prevents pruning, and the origin.
+pub fn ingestion_of(
+    entry: Entry,
+    token: [u8; 64],
+    prevent_pruning: u8,
+    from: PlainOrigin,
+) -> Ingestion
+    ensures { λ r. ⌜ r ≡ ingestionOf entry token «prevent_pruning» from ⌝ }
+{
+    let origin = origin_in(from);
     Ingestion {
         entry,
         token,
         prevent_pruning: is_yes(prevent_pruning),
+        origin,
     }
 }

@@ -14,12 +14,14 @@ use Rattle.laws.specs.Prefix.{prefixOf}
 use Rattle.laws.specs.Sorted.{any, all, keep, insert}
 use Rattle.laws.proofs.Truth.{split, clash, and-true}
 use Rattle.layout.specs.Layout.{recordAt}
+use Rattle.data_model.specs.Origin.{originSession}
 use Rattle.data_model.specs.Ignore.{noFlags}
 use Rattle.data_model.specs.Said.{Said, refuses, says}
 use Rattle.data_model.specs.Path.{field, cut, components, legal, joined, endsFrom, isPath, valueOf, pathOf}
 use Rattle.data_model.specs.Subspace.{firstSubspace}
 use Rattle.data_model.specs.Range.{beforeEnd, includes, timesEnd, timesInclude, legalRange}
 use Rattle.data_model.specs.Area.{areaSubspace, areaIncludes}
+use Rattle.data_model.specs.declared.«entry_origin».EntryOrigin.the-variants.{Local}
 use Rattle.data_model.specs.declared.range.RangeEnd.the-variants as times
 use Rattle.data_model.specs.declared.area.AreaSubspace.the-variants.{Any}
 use Rattle.data_model.specs.declared.area.Area.{Area}
@@ -28,10 +30,10 @@ use Rattle.tree.specs.Stored.{Stored, stored, tripleOf, Lawful}
 use Rattle.tree.specs.Matching.{inArea, letThrough, listedInArea}
 use Rattle.tree.specs.declared.stored.KeyOrder.the-variants.{Spt}
 use Rattle.tree.proofs.FormedContents.{formed-many}
-use Rattle.store.specs.Store.{Store, storeOf, treeOf, dirOf, held, wellFormedStore, Held, holding}
+use Rattle.store.specs.Store.{treeRoom, dirRoom, Store, storeOf, treeOf, dirOf, held, wellFormedStore, Held, holding}
 use Rattle.store.specs.Refusal.{limitOk, roomy}
 use Rattle.store.specs.Open.{emptyState, nothing}
-use Rattle.store.specs.Ingest.{filing, filedIn, filed}
+use Rattle.store.specs.Ingest.{filedIn, filed}
 use Rattle.store.proofs.Meaning.{SoundHeld, sound-nothing, sound-filed}
 use Rattle.store.proofs.Lifted.{Fit, listOf, bears-held, bears-well, holding-bears, holding-roomy}
 use Rattle.store.proofs.CheckLaws.{Passed, refuses-none}
@@ -150,18 +152,18 @@ module _ (s : Store) (w : Wanted) (place : ℕ) where
 
 -- A store of limit 1 that holds an entry of zeros, and the area of everything.
 abbrev zeros : Stored
-zeros = filing (record {
-  namespace = replicate 16 0;
-  subspace = firstSubspace;
-  path = [];
-  rank = record { timestamp = 0; «payload_digest» = replicate 32 0; «payload_length» = 0 };
-}) (replicate 64 0)
+zeros = record {
+  entry = record { namespace = replicate 16 0; subspace = firstSubspace; path = []; rank = record { timestamp = 0; «payload_digest» = replicate 32 0; «payload_length» = 0 } };
+  token = replicate 64 0;
+  available = 0;
+  origin = Local;
+}
 
 abbrev holds-zeros : Held
 holds-zeros = record { spt = zeros ∷ []; tsp = zeros ∷ [] }
 
 abbrev empty : Store
-empty = storeOf (emptyState (replicate 16 0) 1) (replicate 410 0) (replicate 2 0) (replicate 410 0) (replicate 2 0)
+empty = storeOf (emptyState (replicate 16 0) 1) (replicate (treeRoom field 1) 0) (replicate (dirRoom 1) 0) (replicate (treeRoom field 1) 0) (replicate (dirRoom 1) 0)
 
 abbrev one-held : Store
 one-held = holding field holds-zeros empty
@@ -170,7 +172,7 @@ abbrev everything : Area
 everything = record { subspace = Any; path = pathOf []; times = record { start = 0; end = times.Open } }
 
 zeros-lawful : Lawful field zeros
-unfolding isPath all joined tripleOf
+unfolding isPath all joined tripleOf originSession
 zeros-lawful = record {
   path = refl;
   sized = record { high = omega arith; low = omega arith; time = omega arith };
@@ -178,6 +180,7 @@ zeros-lawful = record {
   digest = refl;
   token = refl;
   available = omega arith;
+  session = omega arith;
 }
 
 sound : SoundHeld (replicate 16 0) holds-zeros

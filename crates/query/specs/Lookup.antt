@@ -7,6 +7,7 @@ use lib.ListN.{replicate}
 use lib.Dec.{eqb}
 use Rattle.data_model.specs.Path.{Figures, Components, components, legal}
 use Rattle.data_model.specs.Entry.{noEntry}
+use Rattle.data_model.specs.declared.«entry_origin».EntryOrigin.the-variants.{Local}
 use Rattle.data_model.specs.declared.path.Path.{Path}
 use Rattle.data_model.specs.declared.parameters.Subspace.{Subspace}
 use Rattle.tree.specs.Stored.{Stored, lengthy}
@@ -19,9 +20,9 @@ use Rattle.store.specs.Ingest.{firstThat}
 use Rattle.query.specs.Reading.{readRefusal}
 use Rattle.query.specs.declared.answer.EntryFound.{EntryFound}
 
--- All 0.
+-- All 0, which is a local origin.
 abbrev pub noLengthy : LengthyAuthorisedEntry
-noLengthy = record { entry = noEntry; token = replicate 64 0; available = 0 }
+noLengthy = record { entry = noEntry; token = replicate 64 0; available = 0; origin = Local }
 
 abbrev pub notFound : (refusal : ℕ) → EntryFound
 notFound refusal = record { refusal = refusal; found = false; lengthy = noLengthy }

@@ -2,8 +2,8 @@
 use data_model::range_3d::Range3d;
 use tree::stored::LengthyAuthorisedEntry;
 
-// Refusal 0, whether there is an entry, and it with its token and available length; all else 0 where there is none or the call is refused.
-#[repr(C)]
+// Refusal 0, whether there is an entry, and it with its token, available length and origin; where there is none or the call is refused all else is 0, and
+// the origin local.
 pub struct EntryFound {
     pub refusal: u8,
     pub found: bool,

@@ -2,6 +2,7 @@
 use crate::answer::EntryFound;
 use crate::check::read_refusal;
 use data_model::entry::Entry;
+use data_model::entry_origin::EntryOrigin;
 use data_model::parameters::Subspace;
 use data_model::path::Path;
 use data_model::query_ignore_params::QueryIgnoreParams;
@@ -37,6 +38,7 @@ fn not_found(refusal: u8) -> EntryFound
             entry: none,
             token: [0; 64],
             available: 0,
+            origin: EntryOrigin::Local,
         },
     }
 }
@@ -79,7 +81,7 @@ fn find_entry(
     not_found(0)
 }
 
-// The entry, its token and available length; or none.
+// The entry, its token, available length and origin; or none.
 pub fn entry(
     state: State,
     spt: &[u8],

@@ -96,9 +96,10 @@ fn ingest(
         pairs: [none; LIMIT_MOST],
     };
     let x = field::entry(q);
-    let mut t = [0u8; 64];
-    text::hex::read_hex(text::line::nth_field(q, 32, 17), &mut t);
-    let r = change::vb_ingest_entry_by_value(s, a, b, c, d, e, prune, x, &t, field::flag(q, 33));
+    let t = field::token(q);
+    let f = field::flag(q, 33);
+    let o = field::origin(q);
+    let r = change::vb_ingest_entry_by_value(s, a, b, c, d, e, prune, x, &t, f, o);
     let v = r.ingested;
     tell(v.refusal as u64);
     tell(v.obsolete as u64);
@@ -183,6 +184,20 @@ pub fn act(
     }
 }
 
+// The entry at a subspace and path, or none.
+fn find(q: &[u8], s: State, a: &[u8], b: &[u32], c: &[u8], d: &[u32], i: PlainIgnore) {
+    let u = field::subspace(q, 2);
+    let f = reading::vb_find_entry(s, a, b, c, d, u, field::path(q, 4), i);
+    let l = f.lengthy;
+    let o = l.origin;
+    tell(f.refusal as u64);
+    tell(f.found as u64);
+    tell_entry(l.entry, &l.token);
+    tell(l.available);
+    tell(o.remote as u64);
+    tell(o.session);
+}
+
 // The next match of an area.
 fn list_area(q: &[u8], s: State, a: &[u8], b: &[u32], c: &[u8], d: &[u32], i: PlainIgnore) {
     let x = field::area(q);
@@ -208,15 +223,7 @@ pub fn look(q: &[u8], s: State, a: &[u8], b: &[u32], c: &[u8], d: &[u32], e: &[u
         empty_payloads: field::flag(q, 34),
     };
     match field::number(q, 0) {
-        5 => {
-            let u = field::subspace(q, 2);
-            let f = reading::vb_find_entry(s, a, b, c, d, u, field::path(q, 4), i);
-            let l = f.lengthy;
-            tell(f.refusal as u64);
-            tell(f.found as u64);
-            tell_entry(l.entry, &l.token);
-            tell(l.available);
-        }
+        5 => find(q, s, a, b, c, d, i),
         6 => list_area(q, s, a, b, c, d, i),
         7 => list_range(q, s, a, b, c, d, i),
         8 => tell_count(reading::vb_count_area(s, a, b, c, d, field::area(q))),

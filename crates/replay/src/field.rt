@@ -5,6 +5,7 @@ use data_model::entry::Entry;
 use data_model::parameters::Subspace;
 use data_model::path::Path;
 use plain::input::PlainArea;
+use plain::input::PlainOrigin;
 use plain::input::PlainRange;
 use plain::input::PlainTimes;
 use text::hex::read_hex;
@@ -39,6 +40,12 @@ pub fn digest(q: &[u8]) -> [u8; 32] {
     out
 }
 
+pub fn token(q: &[u8]) -> [u8; 64] {
+    let mut out = [0u8; 64];
+    read_hex(nth_field(q, 32, 17), &mut out);
+    out
+}
+
 pub fn subspace(q: &[u8], k: usize) -> Subspace
     requires { ⌜ k < 99 ⌝ }
 {
@@ -70,6 +77,14 @@ pub fn entry(q: &[u8]) -> Entry {
         timestamp: number(q, 14),
         payload_length: number(q, 15),
         payload_digest: digest(q),
+    }
+}
+
+// Where an entry came from, fields 34 and 35: whether it is remote, and its session.
+pub fn origin(q: &[u8]) -> PlainOrigin {
+    PlainOrigin {
+        remote: flag(q, 34),
+        session: number(q, 35),
     }
 }
 

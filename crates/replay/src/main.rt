@@ -5,25 +5,28 @@ use store::state::State;
 use tally::item::ITEM;
 ghost use mathlib.Core.Path.{_≡_};
 ghost use lib.ListN.{length};
+ghost use Rattle.data_model.specs.Path.{field};
+ghost use Rattle.tally.specs.Tally.{tallyRoom};
+ghost use Rattle.store.specs.Store.{limitMost, treeRoom, dirRoom};
 
 mod call;
 mod field;
 mod line;
 
 fn tree_buffer() -> [u8; RECORD_MOST * LIMIT_MOST]
-    ensures { λ r. ⌜ 419840 ≡ length r ⌝ }
+    ensures { λ r. ⌜ treeRoom field limitMost ≡ length r ⌝ }
 {
     [0; RECORD_MOST * LIMIT_MOST]
 }
 
 fn pair_buffer() -> [u32; 2 * LIMIT_MOST]
-    ensures { λ r. ⌜ 2048 ≡ length r ⌝ }
+    ensures { λ r. ⌜ dirRoom limitMost ≡ length r ⌝ }
 {
     [0; 2 * LIMIT_MOST]
 }
 
 fn tally_buffer() -> [u8; ITEM * LIMIT_MOST]
-    ensures { λ r. ⌜ 28672 ≡ length r ⌝ }
+    ensures { λ r. ⌜ tallyRoom limitMost ≡ length r ⌝ }
 {
     [0; ITEM * LIMIT_MOST]
 }

@@ -4,6 +4,7 @@ use available::AvailableRecorded;
 use available::forget_payload;
 use available::record_available_length;
 use data_model::area::Area;
+use data_model::entry_origin::EntryOrigin;
 use data_model::parameters::Subspace;
 use data_model::path::Path;
 use pairs::NumbersIngested;
@@ -20,10 +21,11 @@ use store::open::open;
 use store::state::LIMIT_MOST;
 use store::state::Opened;
 use store::state::State;
-ghost use Prim.Native.Nat.{ℕ};
+ghost use Prim.Native.Nat.{ℕ, _<_, _^_};
 ghost use mathlib.Core.List.{List};
 ghost use mathlib.Core.Path.{_≡_};
 ghost use Rattle.data_model.specs.Path.{field};
+ghost use Rattle.data_model.specs.Origin.{originSession};
 ghost use Rattle.key_laws.specs.Bytes.{Bytes};
 ghost use Rattle.store.specs.Store.{talliedOf};
 ghost use Rattle.store.specs.Ingest.{verdictSays};
@@ -201,6 +203,13 @@ fn is_bytes(s: &[u8]) -> bool
     yes()
 }
 
+// Whether an origin's session is a number of 64 bits: it is.
+fn session_is_number(origin: EntryOrigin) -> bool
+    ensures { λ r. ⌜ originSession origin < 2 ^ 64 ⌝ }
+{
+    origin.session() <= 0xffff_ffff_ffff_ffff
+}
+
 // Whether what an ingestion is handed is a value: it is, whatever the prune list.
 pub fn ingestion_is_value(ingestion: Ingestion) -> bool
     ensures { λ r. ⌜ ((prune : List ℕ) → IsValue field (ingest (record { prune = prune; handed = ingestion }))) ⌝ }
@@ -208,7 +217,9 @@ pub fn ingestion_is_value(ingestion: Ingestion) -> bool
     let entry = ingestion.entry;
     let path = entry.path;
     let bytes = path.bytes;
-    is_bytes(&bytes)
+    let origin = ingestion.origin;
+    let number = session_is_number(origin);
+    number & is_bytes(&bytes)
 }
 
 // Whether what the forgetting of an entry is handed is a value: it is.

@@ -19,6 +19,7 @@ use Rattle.layout.proofs.MarkLaws.{kept-in, kept-ascends}
 use Rattle.layout.proofs.UnmarkLaws.{marks-unmarked}
 use Rattle.layout.specs.Buffers.{filled}
 use Rattle.layout.proofs.LaidLaws.{records-many, joined-append}
+use Rattle.data_model.specs.Origin.{originSession}
 use Rattle.data_model.specs.Path.{Figures, field, legal, components, byBytes}
 use Rattle.keys.specs.Encode.{be, subspaceKey, pathKey, sptKey, tspKey, Triple}
 use Rattle.data_model.specs.Entry.{entryOf, rankOf}
@@ -106,9 +107,9 @@ path-part Tsp t h =
 
 -- What was handed in and is written as bytes is lawful.
 pub written-lawful : (o : KeyOrder) (a : LengthyAuthorisedEntry) → Handed (storedOf a) → field .mpl ≤ length (a .entry .path .bytes) → legal field (a .entry .path) ≡ true
-    → Bytes (recordOf o (storedOf a)) → Lawful field (storedOf a)
+    → originSession (a .origin) < 2 ^ 64 → Bytes (recordOf o (storedOf a)) → Lawful field (storedOf a)
 unfolding storedOf entryOf rankOf tripleOf recordOf
-written-lawful o a h room l b =
+written-lawful o a h room l session b =
     let key : Bytes (keyIn o (tripleOf (storedOf a .entry))) = bytes-part [] (keyIn o (tripleOf (storedOf a .entry))) (valueBytes (valueFor (storedOf a))) b in
     record {
       path = legal-bytes field (a .entry .path) room l (path-bytes (components (a .entry .path)) (bytes-all (pathKey (components (a .entry .path))) (path-part o (tripleOf (storedOf a .entry)) key)));
@@ -117,20 +118,21 @@ written-lawful o a h room l b =
       digest = h .digest;
       token = h .token;
       available = h .available;
+      session = session;
     }
 
 -- In bytes, a record that was put in is bytes.
 pub inserted-lawful : (o : KeyOrder) (a : LengthyAuthorisedEntry) → Handed (storedOf a) → field .mpl ≤ length (a .entry .path .bytes) → legal field (a .entry .path) ≡ true
-    → (r : List ℕ) → r ≡ recordOf o (storedOf a) → (n at : ℕ) (recs : List (List ℕ)) (tree : List ℕ) → Bytes tree → tree ≡ treeBytes n (inserted at r recs) → Lawful field (storedOf a)
+    → originSession (a .origin) < 2 ^ 64 → (r : List ℕ) → r ≡ recordOf o (storedOf a) → (n at : ℕ) (recs : List (List ℕ)) (tree : List ℕ) → Bytes tree → tree ≡ treeBytes n (inserted at r recs) → Lawful field (storedOf a)
 unfolding treeBytes filled
-inserted-lawful o a h long l r er n at recs tree bs et =
+inserted-lawful o a h long l session r er n at recs tree bs et =
     let z : List ℕ = replicate (n - length (joined (inserted at r recs))) 0 in
     let q : tree ≡ joined (take at recs) ++ (r ++ (joined (drop at recs) ++ z)) =
     et
     ∙ ap (_++ z) (joined-append (take at recs) (r ∷ drop at recs))
     ∙ append-assoc (joined (take at recs)) (r ++ joined (drop at recs)) z
     ∙ ap (joined (take at recs) ++_) (append-assoc r (joined (drop at recs)) z) in
-    written-lawful o a h long l (subst Bytes er (bytes-part (joined (take at recs)) r (joined (drop at recs) ++ z) (subst Bytes q bs)))
+    written-lawful o a h long l session (subst Bytes er (bytes-part (joined (take at recs)) r (joined (drop at recs) ++ z) (subst Bytes q bs)))
 
 -- Records of bytes, by what they say.
 module _ (o : KeyOrder) (f : Figures) (ns : List ℕ) where

@@ -18,6 +18,7 @@ use Rattle.layout.proofs.MarkLaws.{count-most}
 use Rattle.data_model.specs.Said.{says}
 use Rattle.data_model.specs.Path.{field}
 use Rattle.data_model.specs.Entry.{Entry, entryOf}
+use Rattle.data_model.specs.declared.«entry_origin».EntryOrigin.{EntryOrigin}
 use Rattle.data_model.specs.declared.entry.Entry.{Entry as EntryValue}
 use Rattle.key_laws.specs.Bytes.{Bytes}
 use Rattle.key_laws.proofs.Fits.{bytes-take}
@@ -53,8 +54,8 @@ abbrev pub tspDirIn : Store → List ℕ
 tspDirIn s = take (dirRoom (s .state .limit)) (s .tspDir)
 
 -- What is filed, as a value.
-abbrev pub filedValue : EntryValue → (token : List ℕ) → LengthyAuthorisedEntry
-filedValue e token = record { entry = e; token = token; available = 0 }
+abbrev pub filedValue : EntryValue → (token : List ℕ) → EntryOrigin → LengthyAuthorisedEntry
+filedValue e token origin = record { entry = e; token = token; available = 0; origin = origin }
 
 -- An entry that may be filed.
 module _ (s : Store) (prune : List ℕ) (e : EntryValue) (m : MayFile field s prune e) where
@@ -126,9 +127,9 @@ module _ (s : Store) (prune : List ℕ) (e : EntryValue) (m : MayFile field s pr
         = sound-length (without (removes (entryOf e)) (heldBy field s)) (sound-without (removes (entryOf e)) (heldBy field s) sound) in
         omega arith
 
-    files-in : (o : KeyOrder) (token : List ℕ) → FilesIn o (s .state .«namespace_id») (s .state .count) (dirOf o s) (treeOf field o s) (filedValue e token)
+    files-in : (o : KeyOrder) (token : List ℕ) (origin : EntryOrigin) → FilesIn o (s .state .«namespace_id») (s .state .count) (dirOf o s) (treeOf field o s) (filedValue e token origin)
     unfolding held
-    files-in o token =
+    files-in o token origin =
         let v = may-ready in
         let f = v .passes .few in
         let l = v .passes .most in
@@ -147,31 +148,31 @@ module _ (s : Store) (prune : List ℕ) (e : EntryValue) (m : MayFile field s pr
         }
 
     -- What `file_in` asks of each tree.
-    pub files-spt : (token : List ℕ) → FilesIn Spt (e .«namespace_id») (s .state .count) (sptDirIn s) (sptIn s) (filedValue e token)
+    pub files-spt : (token : List ℕ) (origin : EntryOrigin) → FilesIn Spt (e .«namespace_id») (s .state .count) (sptDirIn s) (sptIn s) (filedValue e token origin)
     unfolding dirOf treeOf
-    files-spt token = subst (λ (ns : List ℕ). FilesIn Spt ns (s .state .count) (sptDirIn s) (sptIn s) (filedValue e token)) (sym (may-ready .namespace)) (files-in Spt token)
+    files-spt token origin = subst (λ (ns : List ℕ). FilesIn Spt ns (s .state .count) (sptDirIn s) (sptIn s) (filedValue e token origin)) (sym (may-ready .namespace)) (files-in Spt token origin)
 
-    pub files-tsp : (token : List ℕ) → FilesIn Tsp (e .«namespace_id») (s .state .count) (tspDirIn s) (tspIn s) (filedValue e token)
+    pub files-tsp : (token : List ℕ) (origin : EntryOrigin) → FilesIn Tsp (e .«namespace_id») (s .state .count) (tspDirIn s) (tspIn s) (filedValue e token origin)
     unfolding dirOf treeOf
-    files-tsp token = subst (λ (ns : List ℕ). FilesIn Tsp ns (s .state .count) (tspDirIn s) (tspIn s) (filedValue e token)) (sym (may-ready .namespace)) (files-in Tsp token)
+    files-tsp token origin = subst (λ (ns : List ℕ). FilesIn Tsp ns (s .state .count) (tspDirIn s) (tspIn s) (filedValue e token origin)) (sym (may-ready .namespace)) (files-in Tsp token origin)
 
   -- What is left: the front parts rewritten, the rest kept.
-  module _ (token : List ℕ) where
+  module _ (token : List ℕ) (origin : EntryOrigin) where
     pub filed-both : (spt sptDir tsp tspDir : List ℕ) (i j : ℕ)
-        → Changed Spt (filedIn Spt (storedOf (filedValue e token)) (inTree Spt (e .«namespace_id») (s .state .count) (sptDirIn s) (sptIn s))) (sptDirIn s) (sptIn s) sptDir spt i
-        → Changed Tsp (filedIn Tsp (storedOf (filedValue e token)) (inTree Tsp (e .«namespace_id») (s .state .count) (tspDirIn s) (tspIn s))) (tspDirIn s) (tspIn s) tspDir tsp j
-        → storeOf (storeFiled field s (entryOf e) token .state) (spt ++ drop (treeRoom field (s .state .limit)) (s .spt)) (sptDir ++ drop (dirRoom (s .state .limit)) (s .sptDir))
-        (tsp ++ drop (treeRoom field (s .state .limit)) (s .tsp)) (tspDir ++ drop (dirRoom (s .state .limit)) (s .tspDir)) ≡ storeFiled field s (entryOf e) token
+        → Changed Spt (filedIn Spt (storedOf (filedValue e token origin)) (inTree Spt (e .«namespace_id») (s .state .count) (sptDirIn s) (sptIn s))) (sptDirIn s) (sptIn s) sptDir spt i
+        → Changed Tsp (filedIn Tsp (storedOf (filedValue e token origin)) (inTree Tsp (e .«namespace_id») (s .state .count) (tspDirIn s) (tspIn s))) (tspDirIn s) (tspIn s) tspDir tsp j
+        → storeOf (storeFiled field s (storedOf (filedValue e token origin)) .state) (spt ++ drop (treeRoom field (s .state .limit)) (s .spt)) (sptDir ++ drop (dirRoom (s .state .limit)) (s .sptDir))
+        (tsp ++ drop (treeRoom field (s .state .limit)) (s .tsp)) (tspDir ++ drop (dirRoom (s .state .limit)) (s .tspDir)) ≡ storeFiled field s (storedOf (filedValue e token origin))
     unfolding holding filed heldBy held treeOf dirOf storedOf
     filed-both spt sptDir tsp tspDir i j p′ q′ =
         let r = may-ready .passes .room in
-        let p = subst (λ (ns : List ℕ). Changed Spt (filedIn Spt (storedOf (filedValue e token)) (inTree Spt ns (s .state .count) (sptDirIn s) (sptIn s))) (sptDirIn s) (sptIn s) sptDir spt i) (may-ready .namespace) p′ in
-        let q = subst (λ (ns : List ℕ). Changed Tsp (filedIn Tsp (storedOf (filedValue e token)) (inTree Tsp ns (s .state .count) (tspDirIn s) (tspIn s))) (tspDirIn s) (tspIn s) tspDir tsp j) (may-ready .namespace) q′ in
-        let a = tree-holds Spt (s .state .limit) (filedIn Spt (filing (entryOf e) token) (held field Spt s)) (s .spt) spt (r .spt) (p .bytes) in
-        let b = dir-holds Spt (s .state .limit) (filedIn Spt (filing (entryOf e) token) (held field Spt s)) (s .sptDir) sptDir (r .sptDir) (p .numbers) in
-        let c = tree-holds Tsp (s .state .limit) (filedIn Tsp (filing (entryOf e) token) (held field Tsp s)) (s .tsp) tsp (r .tsp) (q .bytes) in
-        let d = dir-holds Tsp (s .state .limit) (filedIn Tsp (filing (entryOf e) token) (held field Tsp s)) (s .tspDir) tspDir (r .tspDir) (q .numbers) in
-        λ k. storeOf (storeFiled field s (entryOf e) token .state) (a k) (b k) (c k) (d k)
+        let p = subst (λ (ns : List ℕ). Changed Spt (filedIn Spt (storedOf (filedValue e token origin)) (inTree Spt ns (s .state .count) (sptDirIn s) (sptIn s))) (sptDirIn s) (sptIn s) sptDir spt i) (may-ready .namespace) p′ in
+        let q = subst (λ (ns : List ℕ). Changed Tsp (filedIn Tsp (storedOf (filedValue e token origin)) (inTree Tsp ns (s .state .count) (tspDirIn s) (tspIn s))) (tspDirIn s) (tspIn s) tspDir tsp j) (may-ready .namespace) q′ in
+        let a = tree-holds Spt (s .state .limit) (filedIn Spt (storedOf (filedValue e token origin)) (held field Spt s)) (s .spt) spt (r .spt) (p .bytes) in
+        let b = dir-holds Spt (s .state .limit) (filedIn Spt (storedOf (filedValue e token origin)) (held field Spt s)) (s .sptDir) sptDir (r .sptDir) (p .numbers) in
+        let c = tree-holds Tsp (s .state .limit) (filedIn Tsp (storedOf (filedValue e token origin)) (held field Tsp s)) (s .tsp) tsp (r .tsp) (q .bytes) in
+        let d = dir-holds Tsp (s .state .limit) (filedIn Tsp (storedOf (filedValue e token origin)) (held field Tsp s)) (s .tspDir) tspDir (r .tspDir) (q .numbers) in
+        λ k. storeOf (storeFiled field s (storedOf (filedValue e token origin)) .state) (a k) (b k) (c k) (d k)
 
 -- Decisions differ.
 module _ {G : Type 0} where
@@ -224,7 +225,7 @@ module _ (w : Tallied) (prune : List ℕ) (i : Ingestion) (r : IngestSaid) (er :
   unfolding ingested
   success-taken n q = go (judged field w prune (i .entry) (i .«prevent_pruning»)) (ap (λ (a : IngestSaid). a .verdict) (sym er) ∙ q)
     where
-      go : (d : Decision) → carried field w prune (entryOf (i .entry)) (i .token) d .answer .verdict ≡ says (succeeds n) → d ≡ take-it
+      go : (d : Decision) → carried field w prune (filing i) d .answer .verdict ≡ says (succeeds n) → d ≡ take-it
       go (refuse k) h = unfold carried in absurd (let z : _≡_ {A = ℕ} 0 1 = cc in omega arith)
       go (obsolete x) h = unfold carried in absurd (let z : _≡_ {A = ℕ} 0 1 = cc in omega arith)
       go already h = unfold carried in absurd (let z : _≡_ {A = ℕ} 0 1 = cc in omega arith)
@@ -240,42 +241,42 @@ module _ (w : Tallied) (prune : List ℕ) (i : Ingestion) (r : IngestSaid) (er :
       (λ t. refuse-taken (rw t at j))
 
   -- The state of the answer is that of the store in which it is filed.
-  success-state : (n : ℕ) → r .verdict ≡ says (succeeds n) → r .state ≡ storeFiled field s (entryOf (i .entry)) (i .token) .state
+  success-state : (n : ℕ) → r .verdict ≡ says (succeeds n) → r .state ≡ storeFiled field s (filing i) .state
   unfolding ingested carried
-  success-state n q = ap (λ (a : IngestSaid). a .state) (er ∙ ap (λ (d : Decision). carried field w prune (entryOf (i .entry)) (i .token) d .answer) (success-taken n q))
+  success-state n q = ap (λ (a : IngestSaid). a .state) (er ∙ ap (λ (d : Decision). carried field w prune (filing i) d .answer) (success-taken n q))
 
   -- What it is filed in may be held, where it is lawful and the buffers are bytes.
-  success-fit : (n : ℕ) → r .verdict ≡ says (succeeds n) → Lawful field (filing (entryOf (i .entry)) (i .token)) → Bytes (s .spt) → Bytes (s .tsp)
-      → Fit field (s .state .«namespace_id») (s .state .limit) (filed (filing (entryOf (i .entry)) (i .token)) (heldBy field s))
+  success-fit : (n : ℕ) → r .verdict ≡ says (succeeds n) → Lawful field (filing i) → Bytes (s .spt) → Bytes (s .tsp)
+      → Fit field (s .state .«namespace_id») (s .state .limit) (filed (filing i) (heldBy field s))
   unfolding heldBy entryOf
   success-fit n q l b c =
       let m = success-may n q in
-      fit-filed field (passed-fit s (success-tallied n q .passes) b c) (filing (entryOf (i .entry)) (i .token)) (record { lawful = l; available = omega arith }) (m .named) (m .new) (m .room)
+      fit-filed field (passed-fit s (success-tallied n q .passes) b c) (filing i) (record { lawful = l; available = omega arith }) (m .named) (m .new) (m .room)
 
   -- The tally of what is left with it: what writing it asks, and that it is then the definition's.
-  module _ (n : ℕ) (q : r .verdict ≡ says (succeeds n)) (l : Lawful field (filing (entryOf (i .entry)) (i .token))) (spt-bytes : Bytes (s .spt)) (tsp-bytes : Bytes (s .tsp)) (a b c d : List ℕ)
-      (g : storeOf (storeFiled field s (entryOf (i .entry)) (i .token) .state) a b c d ≡ storeFiled field s (entryOf (i .entry)) (i .token)) where
-    filed-left : storeOf (r .state) a b c d ≡ storeFiled field s (entryOf (i .entry)) (i .token)
+  module _ (n : ℕ) (q : r .verdict ≡ says (succeeds n)) (l : Lawful field (filing i)) (spt-bytes : Bytes (s .spt)) (tsp-bytes : Bytes (s .tsp)) (a b c d : List ℕ)
+      (g : storeOf (storeFiled field s (filing i) .state) a b c d ≡ storeFiled field s (filing i)) where
+    filed-left : storeOf (r .state) a b c d ≡ storeFiled field s (filing i)
     filed-left = ap (λ (t : State). storeOf t a b c d) (success-state n q) ∙ g
 
     pub filed-asks : Ordered Spt (r .state .count) (take (dirRoom (r .state .limit)) b) (take (treeRoom field (r .state .limit)) a) × (r .state .count ≤ r .state .limit) × (r .state .limit ≤ limitMost)
         × (treeRoom field (r .state .limit) ≤ length a) × (dirRoom (r .state .limit) ≤ length b) × (tallyRoom (r .state .limit) ≤ length (w .tally))
-    filed-asks = retally-asks w (success-tallied n q) (filed (filing (entryOf (i .entry)) (i .token)) (heldBy field s)) (success-fit n q l spt-bytes tsp-bytes) (r .state) a b c d filed-left
+    filed-asks = retally-asks w (success-tallied n q) (filed (filing i) (heldBy field s)) (success-fit n q l spt-bytes tsp-bytes) (r .state) a b c d filed-left
 
     pub filed-tallied : (t : List ℕ)
         → ((ns : List ℕ) → t ≡ tallyHolding (r .state .limit) (inTree Spt ns (r .state .count) (take (dirRoom (r .state .limit)) b) (take (treeRoom field (r .state .limit)) a)) (w .tally))
-        → talliedOf (r .state) a b c d t ≡ talliedFiled field w (entryOf (i .entry)) (i .token)
-    filed-tallied = retallied w (success-tallied n q) (filed (filing (entryOf (i .entry)) (i .token)) (heldBy field s)) (success-fit n q l spt-bytes tsp-bytes) (r .state) a b c d filed-left
+        → talliedOf (r .state) a b c d t ≡ talliedFiled field w (filing i)
+    filed-tallied = retallied w (success-tallied n q) (filed (filing i) (heldBy field s)) (success-fit n q l spt-bytes tsp-bytes) (r .state) a b c d filed-left
 
   pub outcome-filed : (n : ℕ) → r .verdict ≡ says (succeeds n) → (spt sptDir tsp tspDir tally out : List ℕ)
-      → talliedOf (r .state) spt sptDir tsp tspDir tally ≡ talliedFiled field w (entryOf (i .entry)) (i .token) → out ≡ put (prunedPairs field s (entryOf (i .entry))) prune
+      → talliedOf (r .state) spt sptDir tsp tspDir tally ≡ talliedFiled field w (filing i) → out ≡ put (prunedPairs field s (entryOf (i .entry))) prune
       → ingestOutcome r spt sptDir tsp tspDir tally out ≡ ingested field w prune i
   unfolding ingested carried
   outcome-filed n q spt sptDir tsp tspDir tally out es eo =
       let j = success-taken n q in
-      let a : r ≡ carried field w prune (entryOf (i .entry)) (i .token) take-it .answer = er ∙ ap (λ (d : Decision). carried field w prune (entryOf (i .entry)) (i .token) d .answer) j in
+      let a : r ≡ carried field w prune (filing i) take-it .answer = er ∙ ap (λ (d : Decision). carried field w prune (filing i) d .answer) j in
       (λ k. record { answer = a k; left = es k; prune = eo k })
-      ∙ sym (ap (carried field w prune (entryOf (i .entry)) (i .token)) j)
+      ∙ sym (ap (carried field w prune (filing i)) j)
 
   pub outcome-same : ((n : ℕ) → r .verdict ≡ says (succeeds n) → ⊥) → ingestOutcome r (s .spt) (s .sptDir) (s .tsp) (s .tspDir) (w .tally) prune ≡ ingested field w prune i
   unfolding ingested
@@ -283,8 +284,8 @@ module _ (w : Tallied) (prune : List ℕ) (i : Ingestion) (r : IngestSaid) (er :
       ap (λ (x : IngestSaid). ingestOutcome x (s .spt) (s .sptDir) (s .tsp) (s .tspDir) (w .tally) prune) er
       ∙ go (judged field w prune (i .entry) (i .«prevent_pruning»)) λ n q. h n (ap (λ (a : IngestSaid). a .verdict) er ∙ q)
     where
-      go : (d : Decision) → ((n : ℕ) → carried field w prune (entryOf (i .entry)) (i .token) d .answer .verdict ≡ says (succeeds n) → ⊥)
-          → ingestOutcome (carried field w prune (entryOf (i .entry)) (i .token) d .answer) (s .spt) (s .sptDir) (s .tsp) (s .tspDir) (w .tally) prune ≡ carried field w prune (entryOf (i .entry)) (i .token) d
+      go : (d : Decision) → ((n : ℕ) → carried field w prune (filing i) d .answer .verdict ≡ says (succeeds n) → ⊥)
+          → ingestOutcome (carried field w prune (filing i) d .answer) (s .spt) (s .sptDir) (s .tsp) (s .tspDir) (w .tally) prune ≡ carried field w prune (filing i) d
       go (refuse k) g = unfold carried in refl
       go (obsolete x) g = unfold carried in refl
       go already g = unfold carried in refl

@@ -252,21 +252,21 @@ module _ (w : Tallied) (prune : List ℕ) (i : Ingestion) where
     unfolding judged held treeOf dirOf
     judged-place x = rw (eq-eqb (ingestRefusal field w prune (i .entry)) 0 z) (sym (place-meant (s .state .limit) (inSpt s) (entryOf (i .entry)) (i .«prevent_pruning») x) ∙ ap (meant (inSpt s) x) (sym ed))
 
-    answers : (x : Stored) → ingested field w prune i .answer ≡ carried field w prune (entryOf (i .entry)) (i .token) (meant (inSpt s) x d) .answer
+    answers : (x : Stored) → ingested field w prune i .answer ≡ carried field w prune (filing i) (meant (inSpt s) x d) .answer
     unfolding ingested
-    answers x = ap (λ (j : Decision). carried field w prune (entryOf (i .entry)) (i .token) j .answer) (judged-place x)
+    answers x = ap (λ (j : Decision). carried field w prune (filing i) j .answer) (judged-place x)
 
     pub answers-late : (k : ℕ) → d ≡ place.Refuse k → (r : IngestSaid) → r ≡ plainAnswer (refuses k) (s .state) → r ≡ ingested field w prune i .answer
     unfolding meant carried
     answers-late k q r er =
         let x = stored Spt field (s .state .«namespace_id») [] in
-        er ∙ sym (answers x ∙ ap (λ (j : PlaceDecision). carried field w prune (entryOf (i .entry)) (i .token) (meant (inSpt s) x j) .answer) q)
+        er ∙ sym (answers x ∙ ap (λ (j : PlaceDecision). carried field w prune (filing i) (meant (inSpt s) x j) .answer) q)
 
     pub answers-already : d ≡ place.Already → (r : IngestSaid) → r ≡ plainAnswer (says is-held) (s .state) → r ≡ ingested field w prune i .answer
     unfolding meant carried
     answers-already q r er =
         let x = stored Spt field (s .state .«namespace_id») [] in
-        er ∙ sym (answers x ∙ ap (λ (j : PlaceDecision). carried field w prune (entryOf (i .entry)) (i .token) (meant (inSpt s) x j) .answer) q)
+        er ∙ sym (answers x ∙ ap (λ (j : PlaceDecision). carried field w prune (filing i) (meant (inSpt s) x j) .answer) q)
 
     pub old-bounds : (k : ℕ) → d ≡ place.Old k → InBounds k (sptDirIn s) (sptIn s)
     old-bounds k q = formed-bounds formed k (omega (arith, place-old (s .state .limit) (inSpt s) (entryOf (i .entry)) (i .«prevent_pruning») k (sym ed ∙ q), formed-many formed (s .state .«namespace_id»)))
@@ -278,7 +278,7 @@ module _ (w : Tallied) (prune : List ℕ) (i : Ingestion) where
         let x = stored Spt field (s .state .«namespace_id») (recordAt k (sptDirIn s) (sptIn s)) in
         let h = place-old (s .state .limit) (inSpt s) (entryOf (i .entry)) (i .«prevent_pruning») k (sym ed ∙ q) in
         let g = stands-at formed (s .state .«namespace_id») k (omega (arith, formed-many formed (s .state .«namespace_id»))) x in
-        er ∙ ap (obsoleteAnswer (s .state)) (sym g) ∙ sym (answers x ∙ ap (λ (j : PlaceDecision). carried field w prune (entryOf (i .entry)) (i .token) (meant (inSpt s) x j) .answer) q)
+        er ∙ ap (obsoleteAnswer (s .state)) (sym g) ∙ sym (answers x ∙ ap (λ (j : PlaceDecision). carried field w prune (filing i) (meant (inSpt s) x j) .answer) q)
 
     pub take-fits : (n : ℕ) → d ≡ place.Take n → (n ≤ s .state .count) × (s .state .count - n < s .state .limit)
     take-fits n q =
@@ -296,12 +296,12 @@ module _ (w : Tallied) (prune : List ℕ) (i : Ingestion) where
         let k = place-take (s .state .limit) (inSpt s) (entryOf (i .entry)) (i .«prevent_pruning») n (sym ed ∙ q) in
         let a = k .0 in
         let m = formed-many formed (s .state .«namespace_id») in
-        let c : s .state .count - n + 1 ≡ length (filedIn Spt (filing (entryOf (i .entry)) (i .token)) (inSpt s)) =
-        omega (arith, stay-number (s .state .limit) (inSpt s) (entryOf (i .entry)) (i .«prevent_pruning»), files-length (filing (entryOf (i .entry)) (i .token)) (inSpt s)) in
+        let c : s .state .count - n + 1 ≡ length (filedIn Spt (filing i) (inSpt s)) =
+        omega (arith, stay-number (s .state .limit) (inSpt s) (entryOf (i .entry)) (i .«prevent_pruning»), files-length (filing i) (inSpt s)) in
         er
         ∙ ap (λ (j : ℕ). plainAnswer (says (succeeds n)) (stateWith (s .state) j)) c
-        ∙ ap (λ (j : ℕ). plainAnswer (says (succeeds j)) (stateWith (s .state) (length (filedIn Spt (filing (entryOf (i .entry)) (i .token)) (inSpt s))))) (sym a)
-        ∙ sym (answers x ∙ ap (λ (j : PlaceDecision). carried field w prune (entryOf (i .entry)) (i .token) (meant (inSpt s) x j) .answer) q)
+        ∙ ap (λ (j : ℕ). plainAnswer (says (succeeds j)) (stateWith (s .state) (length (filedIn Spt (filing i) (inSpt s))))) (sym a)
+        ∙ sym (answers x ∙ ap (λ (j : PlaceDecision). carried field w prune (filing i) (meant (inSpt s) x j) .answer) q)
       where
         files-length : (y : Stored) (l : List Stored) → length (filedIn Spt y l) ≡ suc (length (keep (stays (y .entry)) l))
         files-length y l = unfold filedIn in insert-length _ y (keep (stays (y .entry)) l)

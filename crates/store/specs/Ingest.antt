@@ -62,9 +62,9 @@ sptLess = below (on (λ (x : Stored). tripleOf (x .entry)) sptOrder)
 abbrev pub tspLess : Stored → Stored → Bool
 tspLess = below (on (λ (x : Stored). tripleOf (x .entry)) tspOrder)
 
--- What an ingestion files.
-abbrev pub filing : Entry → (token : List ℕ) → Stored
-filing e token = record { entry = e; token = token; available = 0 }
+-- What an ingestion files: what it is handed, and nothing of the payload is available.
+abbrev pub filing : Ingestion → Stored
+filing i = record { entry = entryOf (i .entry); token = i .token; available = 0; origin = i .origin }
 
 abbrev pub stays : Entry → Stored → Bool
 stays e x = not (removes e x)
@@ -147,12 +147,12 @@ plainAnswer v s = record { verdict = v; state = s; newer = noEntry; token = repl
 abbrev pub obsoleteAnswer : State → Stored → IngestSaid
 obsoleteAnswer s x = record { verdict = says is-obsolete; state = s; newer = lengthy x .entry; token = x .token }
 
--- The store after the entry was filed; the same with its tally.
-abbrev pub storeFiled : Figures → Store → Entry → (token : List ℕ) → Store
-storeFiled f s e token = holding f (filed (filing e token) (heldBy f s)) s
+-- The store after an entry was filed; the same with its tally.
+abbrev pub storeFiled : Figures → Store → Stored → Store
+storeFiled f s x = holding f (filed x (heldBy f s)) s
 
-abbrev pub talliedFiled : Figures → Tallied → Entry → (token : List ℕ) → Tallied
-talliedFiled f w e token = talliedHolding f (filed (filing e token) (heldBy f (w .store))) w
+abbrev pub talliedFiled : Figures → Tallied → Stored → Tallied
+talliedFiled f w x = talliedHolding f (filed x (heldBy f (w .store))) w
 
 -- The answer; the store and its tally, and the prune list afterwards.
 pub record IngestOutcome : Type 0 where
@@ -175,16 +175,17 @@ pub record Pruned (f : Figures) (s : Store) (e : Entry) : Type 0 where
       ≡ keep (λ (r : List ℕ). removes e (stored Spt f (s .state .«namespace_id») r)) (records (s .state .count) (dirOf Spt s) (treeOf f Spt s))
   pub entries : contents Spt f (s .state .«namespace_id») (records (length (keep (removes e) (held f Spt s))) (prunedPairs f s e) (treeOf f Spt s)) ≡ keep (removes e) (held f Spt s)
 
-unfoldable pub carried : Figures → Tallied → (prune : List ℕ) → Entry → (token : List ℕ) → Decision → IngestOutcome
-carried f w prune e token (refuse n) = record { answer = plainAnswer (refuses n) (w .store .state); left = w; prune = prune }
-carried f w prune e token (obsolete x) = record { answer = obsoleteAnswer (w .store .state) x; left = w; prune = prune }
-carried f w prune e token already = record { answer = plainAnswer (says is-held) (w .store .state); left = w; prune = prune }
-carried f w prune e token take-it = record {
-  answer = plainAnswer (says (succeeds (length (keep (removes e) (held f Spt (w .store)))))) (talliedFiled f w e token .store .state);
-  left = talliedFiled f w e token;
-  prune = put (prunedPairs f (w .store) e) prune;
+-- What is answered and left where it is to be filed, by what was decided of it.
+unfoldable pub carried : Figures → Tallied → (prune : List ℕ) → Stored → Decision → IngestOutcome
+carried f w prune x (refuse n) = record { answer = plainAnswer (refuses n) (w .store .state); left = w; prune = prune }
+carried f w prune x (obsolete y) = record { answer = obsoleteAnswer (w .store .state) y; left = w; prune = prune }
+carried f w prune x already = record { answer = plainAnswer (says is-held) (w .store .state); left = w; prune = prune }
+carried f w prune x take-it = record {
+  answer = plainAnswer (says (succeeds (length (keep (removes (x .entry)) (held f Spt (w .store)))))) (talliedFiled f w x .store .state);
+  left = talliedFiled f w x;
+  prune = put (prunedPairs f (w .store) (x .entry)) prune;
 }
 
 -- What an ingestion answers and leaves, of whatever it is handed.
 unfoldable pub ingested : Figures → Tallied → (prune : List ℕ) → Ingestion → IngestOutcome
-ingested f w prune i = carried f w prune (entryOf (i .entry)) (i .token) (judged f w prune (i .entry) (i .«prevent_pruning»))
+ingested f w prune i = carried f w prune (filing i) (judged f w prune (i .entry) (i .«prevent_pruning»))

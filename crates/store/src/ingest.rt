@@ -12,6 +12,7 @@ use crate::tallied::retally;
 use data_model::answer::ILLEGAL_PATH;
 use data_model::answer::OTHER_NAMESPACE;
 use data_model::entry::Entry;
+use data_model::entry_origin::EntryOrigin;
 use tree::by_value::is_legal;
 use tree::by_value::zero_entry;
 use tree::bytes::same_bytes;
@@ -52,11 +53,12 @@ pub struct Ingested {
     pub token: [u8; 64],
 }
 
-// What an ingestion is handed: the entry, its authorisation token, and whether pruning is prevented.
+// What an ingestion is handed: the entry, its authorisation token, whether pruning is prevented, and where the entry came from.
 pub struct Ingestion {
     pub entry: Entry,
     pub token: [u8; 64],
     pub prevent_pruning: bool,
+    pub origin: EntryOrigin,
 }
 
 // 1, 2, 3, 10, 4 or 6; else 0.
@@ -182,9 +184,9 @@ fn file(
     removed: &[u8],
 )
     requires { ⌜ (MayFile field (storeOf state (now spt) (now «spt_dir») (now tsp) (now «tsp_dir»)) (now prune) (ingestion .entry)) × (Marked (removes (entryOf (ingestion .entry))) (held field Spt (storeOf state (now spt) (now «spt_dir») (now tsp) (now «tsp_dir»))) (now removed)) × (limitMost ≤ length (now removed)) ⌝ }
-    ensures store { λ _. ⌜ storeOf (storeFiled field (storeOf state (now (spt .entry)) (now («spt_dir» .entry)) (now (tsp .entry)) (now («tsp_dir» .entry))) (entryOf (ingestion .entry)) (ingestion .token) .state) (now (spt .exit)) (now («spt_dir» .exit)) (now (tsp .exit)) (now («tsp_dir» .exit)) ≡ storeFiled field (storeOf state (now (spt .entry)) (now («spt_dir» .entry)) (now (tsp .entry)) (now («tsp_dir» .entry))) (entryOf (ingestion .entry)) (ingestion .token) ⌝ }
+    ensures store { λ _. ⌜ storeOf (storeFiled field (storeOf state (now (spt .entry)) (now («spt_dir» .entry)) (now (tsp .entry)) (now («tsp_dir» .entry))) (filing ingestion) .state) (now (spt .exit)) (now («spt_dir» .exit)) (now (tsp .exit)) (now («tsp_dir» .exit)) ≡ storeFiled field (storeOf state (now (spt .entry)) (now («spt_dir» .entry)) (now (tsp .entry)) (now («tsp_dir» .entry))) (filing ingestion) ⌝ }
     ensures pairs { λ _. ⌜ now (prune .exit) ≡ put (prunedPairs field (storeOf state (now (spt .entry)) (now («spt_dir» .entry)) (now (tsp .entry)) (now («tsp_dir» .entry))) (entryOf (ingestion .entry))) (now (prune .entry)) ⌝ }
-    ensures lawful { λ _. ⌜ Lawful field (filing (entryOf (ingestion .entry)) (ingestion .token)) ⌝ }
+    ensures lawful { λ _. ⌜ Lawful field (filing ingestion) ⌝ }
 {
     let limit = state.limit;
     let count = state.count;
@@ -192,10 +194,12 @@ fn file(
     let m = 2 * limit;
     let entry = ingestion.entry;
     let token = ingestion.token;
+    let origin = ingestion.origin;
     let a = LengthyAuthorisedEntry {
         entry,
         token,
         available: 0,
+        origin,
     };
     write_pairs(&spt_dir[..m], &removed[..count], prune);
     file_marked(

@@ -9,7 +9,7 @@ use native.Mathlib.Omega.{arith}
 use lib.Dec.{leb}
 use borrow.Author.Tests.{le-leb, leb-true}
 use lib.ListN.{length, take, drop, getD, length-append, length-drop, take-append-drop}
-use lib.Seq.{take-all, take-at, drop-at, drop-drop, drop-cons, length-take-le}
+use lib.Seq.{take-all, take-at, drop-at, drop-drop, drop-cons, getD-drop, length-take-le}
 use Rattle.laws.specs.Order.{below, isLess}
 use Rattle.laws.specs.Prefix.{Equality, sameNumber, sameList}
 use Rattle.laws.specs.Sorted.{_∈_}
@@ -18,10 +18,12 @@ use Rattle.laws.proofs.Prefix.{number-equality}
 use Rattle.data_model.specs.Path.{Figures, isPath, samePath, byBytes}
 use Rattle.data_model.specs.Subspace.{sameSubspace}
 use Rattle.data_model.specs.Entry.{Entry}
+use Rattle.data_model.specs.Origin.{originKind, originSession, isOrigin, originOf, sameOrigin}
 use Rattle.keys.specs.Encode.{be, Triple, keyMost}
 use Rattle.keys.specs.Decode.{Taken, refused, took, number, wasRead}
 use Rattle.keys.proofs.Encoding.{be-length}
 use Rattle.data_model.proofs.Orders.{component-equality, path-equality, subspace-equality}
+use Rattle.data_model.proofs.OriginLaws.{origin-is, origin-back, origin-forth, origin-equality}
 use Rattle.key_laws.specs.KeyOrder.{Sized}
 use Rattle.key_laws.specs.Bytes.{Bytes}
 use Rattle.key_laws.proofs.Fits.{bytes-take, bytes-drop}
@@ -29,7 +31,7 @@ use Rattle.key_laws.proofs.BigEndian.{number-back, number-forth, number-sized}
 use Rattle.key_laws.proofs.Inverse.{spt-back, tsp-back, spt-forth, tsp-forth}
 use Rattle.key_laws.proofs.Ordered.{spt-ordered, tsp-ordered, spt-apart, tsp-apart}
 use Rattle.key_laws.proofs.KeyLength.{spt-least, tsp-least, spt-most, tsp-most}
-use Rattle.tree.specs.Value.{valueLength, valueBytes, readValue, isValue}
+use Rattle.tree.specs.Value.{digestAt, tokenAt, availableAt, originAt, sessionAt, valueLength, originBytes, valueBytes, readValue, isValue}
 use Rattle.tree.specs.Stored.{keyIn, readIn, orderIn, keyOf, valuePart, keyBelow, isKey, isRecord, Stored, storedFrom, tripleRead, stored, contents, tripleOf, valueFor, recordOf, Lawful, sameEntry, sameStored}
 use Rattle.tree.specs.declared.value.Value.{Value}
 use Rattle.tree.specs.declared.stored.KeyOrder.{KeyOrder}
@@ -41,6 +43,7 @@ pub record Valued (v : Value) : Type 0 where
   pub digest : length (v .«payload_digest») ≡ 32
   pub token : length (v .token) ≡ 64
   pub available : v .available < 2 ^ 64
+  pub session : v .session < 2 ^ 64
 
 module _ (v : Value) where
   pub value-length : length (v .«payload_digest») ≡ 32 → length (v .token) ≡ 64 → length (valueBytes v) ≡ valueLength
@@ -52,38 +55,49 @@ module _ (v : Value) where
   value-back h =
       let d = v .«payload_digest» in
       let t = v .token in
-      let z = be 8 (v .available) in
+      let o = originBytes (v .kind) (v .session) in
+      let z = be 8 (v .available) ++ o in
       let b = be 8 (v .«payload_length») ++ (d ++ (t ++ z)) in
-      let b8 : drop 8 b ≡ d ++ (t ++ z) = drop-at (be 8 (v .«payload_length»)) (d ++ (t ++ z)) 8 (be-length 8 (v .«payload_length»)) in
-      let b40 : drop 40 b ≡ t ++ z = sym (drop-drop 32 8 b) ∙ ap (drop 32) b8 ∙ drop-at d (t ++ z) 32 (h .digest) in
-      let b104 : drop 104 b ≡ z = sym (drop-drop 64 40 b) ∙ ap (drop 64) b40 ∙ drop-at t z 64 (h .token) in
+      let at-digest : drop digestAt b ≡ d ++ (t ++ z) = drop-at (be 8 (v .«payload_length»)) (d ++ (t ++ z)) 8 (be-length 8 (v .«payload_length»)) in
+      let at-token : drop tokenAt b ≡ t ++ z = sym (drop-drop 32 digestAt b) ∙ ap (drop 32) at-digest ∙ drop-at d (t ++ z) 32 (h .digest) in
+      let at-available : drop availableAt b ≡ z = sym (drop-drop 64 tokenAt b) ∙ ap (drop 64) at-token ∙ drop-at t z 64 (h .token) in
+      let at-origin : drop originAt b ≡ o = sym (drop-drop 8 availableAt b) ∙ ap (drop 8) at-available ∙ drop-at (be 8 (v .available)) o 8 (be-length 8 (v .available)) in
+      let at-session : drop sessionAt b ≡ be 8 (v .session) = sym (drop-drop 1 originAt b) ∙ ap (drop 1) at-origin in
       let p : number b ≡ v .«payload_length» = number-back (v .«payload_length») (d ++ (t ++ z)) (h .payload) in
-      let q : take 32 (drop 8 b) ≡ d = ap (take 32) b8 ∙ take-at d (t ++ z) 32 (h .digest) in
-      let r : take 64 (drop 40 b) ≡ t = ap (take 64) b40 ∙ take-at t z 64 (h .token) in
-      let s : number (drop 104 b) ≡ v .available = ap number (b104 ∙ sym (append-nil z)) ∙ number-back (v .available) [] (h .available) in
-      λ i. record { «payload_length» = p i; «payload_digest» = q i; token = r i; available = s i }
+      let q : take 32 (drop digestAt b) ≡ d = ap (take 32) at-digest ∙ take-at d (t ++ z) 32 (h .digest) in
+      let r : take 64 (drop tokenAt b) ≡ t = ap (take 64) at-token ∙ take-at t z 64 (h .token) in
+      let s : number (drop availableAt b) ≡ v .available = ap number at-available ∙ number-back (v .available) o (h .available) in
+      let k : getD b originAt 0 ≡ v .kind = sym (getD-drop originAt b 0 0) ∙ ap (λ (l : List ℕ). getD l 0 0) at-origin in
+      let n : number (drop sessionAt b) ≡ v .session = ap number (at-session ∙ sym (append-nil (be 8 (v .session)))) ∙ number-back (v .session) [] (h .session) in
+      λ i. record { «payload_length» = p i; «payload_digest» = q i; token = r i; available = s i; kind = k i; session = n i }
 
 module _ (b : List ℕ) (bytes : Bytes b) (l : length b ≡ valueLength) where
+  parts : (n m : ℕ) → take n (drop m b) ++ drop (m + n) b ≡ drop m b
+  parts n m = ap (take n (drop m b) ++_) (sym (drop-drop n m b)) ∙ take-append-drop n (drop m b)
+
   pub value-forth : valueBytes (readValue b) ≡ b
   unfolding readValue valueBytes
   value-forth =
-      let n : length (drop 104 b) ≡ 8 = simp length-drop (omega arith) in
-      let p : be 8 (number b) ≡ take 8 b = number-forth b bytes (omega arith) in
-      let q : be 8 (number (drop 104 b)) ≡ drop 104 b
-      = number-forth (drop 104 b) (bytes-drop 104 b bytes) (omega arith) ∙ take-all 8 (drop 104 b) (omega arith) in
-      let b40 : take 64 (drop 40 b) ++ drop 104 b ≡ drop 40 b
-      = ap (take 64 (drop 40 b) ++_) (sym (drop-drop 64 40 b)) ∙ take-append-drop 64 (drop 40 b) in
-      let b8 : take 32 (drop 8 b) ++ drop 40 b ≡ drop 8 b
-      = ap (take 32 (drop 8 b) ++_) (sym (drop-drop 32 8 b)) ∙ take-append-drop 32 (drop 8 b) in
-      ap₂ _++_ p (ap (take 32 (drop 8 b) ++_) (ap (take 64 (drop 40 b) ++_) q ∙ b40) ∙ b8) ∙ take-append-drop 8 b
+      let session : be 8 (number (drop sessionAt b)) ≡ drop sessionAt b
+      = number-forth (drop sessionAt b) (bytes-drop sessionAt b bytes) (simp length-drop (omega arith)) ∙ take-all 8 (drop sessionAt b) (simp length-drop (omega arith)) in
+      let origin : originBytes (getD b originAt 0) (number (drop sessionAt b)) ≡ drop originAt b
+      = ap (getD b originAt 0 ∷_) session ∙ sym (drop-cons b originAt 0 (omega arith)) in
+      let available : be 8 (number (drop availableAt b)) ≡ take 8 (drop availableAt b)
+      = number-forth (drop availableAt b) (bytes-drop availableAt b bytes) (simp length-drop (omega arith)) in
+      ap₂ _++_ (number-forth b bytes (omega arith))
+      (ap (take 32 (drop digestAt b) ++_)
+      (ap (take 64 (drop tokenAt b) ++_) (ap₂ _++_ available origin ∙ parts 8 availableAt) ∙ parts 64 tokenAt)
+      ∙ parts 32 digestAt)
+      ∙ parts 8 0
 
   pub value-sized : Valued (readValue b)
   unfolding readValue
   value-sized = record {
     payload = number-sized b bytes (omega arith);
-    digest = length-take-le 32 (drop 8 b) (simp length-drop (omega arith));
-    token = length-take-le 64 (drop 40 b) (simp length-drop (omega arith));
-    available = number-sized (drop 104 b) (bytes-drop 104 b bytes) (simp length-drop (omega arith));
+    digest = length-take-le 32 (drop digestAt b) (simp length-drop (omega arith));
+    token = length-take-le 64 (drop tokenAt b) (simp length-drop (omega arith));
+    available = number-sized (drop availableAt b) (bytes-drop availableAt b bytes) (simp length-drop (omega arith));
+    session = number-sized (drop sessionAt b) (bytes-drop sessionAt b bytes) (simp length-drop (omega arith));
   }
 
 -- Keys: here alone a law tells the orders apart.
@@ -150,7 +164,7 @@ module _ (f : Figures) (s : Stored) (h : Lawful f s) where
 
   for-back : readValue (valueBytes (valueFor s)) ≡ valueFor s
   unfolding valueFor
-  for-back = value-back (valueFor s) (record { payload = h .payload; digest = h .digest; token = h .token; available = h .available })
+  for-back = value-back (valueFor s) (record { payload = h .payload; digest = h .digest; token = h .token; available = h .available; session = h .session })
 
   path-of : isPath f (tripleOf (s .entry) .path) ≡ true
   unfolding tripleOf
@@ -186,6 +200,7 @@ module _ (f : Figures) (s : Stored) (h : Lawful f s) where
     stored-parts ns k v e x y =
         let t : tripleRead (readIn o f k) ≡ tripleOf (s .entry) = ap (λ (k : List ℕ). tripleRead (readIn o f k)) x ∙ triple-back in
         let w : readValue v ≡ valueFor s = ap readValue y ∙ for-back in
+        let g : originOf (readValue v .kind) (readValue v .session) ≡ s .origin = ap (λ (x : Value). originOf (x .kind) (x .session)) w ∙ origin-back (s .origin) in
         λ i. record {
           entry = record {
             namespace = sym e i;
@@ -195,6 +210,7 @@ module _ (f : Figures) (s : Stored) (h : Lawful f s) where
           };
           token = w i .token;
           available = w i .available;
+          origin = g i;
         }
 
     pub stored-back : (ns : List ℕ) → s .entry .namespace ≡ ns → stored o f ns (recordOf o s) ≡ s
@@ -207,7 +223,7 @@ module _ (f : Figures) (s : Stored) (h : Lawful f s) where
         let k : isKey o f (keyOf (recordOf o s)) ≡ true
         = ap (isKey o f) key-of-record ∙ key-is o f (tripleOf (s .entry)) path-of (h .sized) in
         let v : isValue (readValue (valuePart (recordOf o s))) ≡ true
-        = ap (λ (b : List ℕ). isValue (readValue b)) value-of-record ∙ ap isValue for-back ∙ le-leb (s .available) (s .entry .rank .«payload_length») e in
+        = ap (λ (b : List ℕ). isValue (readValue b)) value-of-record ∙ ap isValue for-back ∙ ap₂ _&&_ (le-leb (s .available) (s .entry .rank .«payload_length») e) (origin-is (s .origin)) in
         rw (le-leb valueLength (length (recordOf o s)) (omega (arith, record-least)), k) v
 
 -- What is a record, of bytes: the record of what it says, which is lawful.
@@ -245,14 +261,28 @@ module _ (o : KeyOrder) (f : Figures) (ns r : List ℕ) (bytes : Bytes r) (is : 
   key-says : (keyIn o (tripleRead (readIn o f (keyOf r))) ≡ keyOf r) × (isPath f (tripleRead (readIn o f (keyOf r)) .path) ≡ true) × Sized (tripleRead (readIn o f (keyOf r)))
   key-says = key-is-forth o f (keyOf r) (bytes-take (length r - valueLength) r bytes) record-key
 
+  tests : (leb (readValue (valuePart r) .available) (readValue (valuePart r) .«payload_length») ≡ true)
+      × (isOrigin (readValue (valuePart r) .kind) (readValue (valuePart r) .session) ≡ true)
+  unfolding isValue
+  tests = let v = readValue (valuePart r) in and-true (leb (v .available) (v .«payload_length»)) (isOrigin (v .kind) (v .session)) record-value
+
+  -- The value is that of what it says.
+  says-value : valueFor (stored o f ns r) ≡ readValue (valuePart r)
+  unfolding stored storedFrom valueFor
+  says-value =
+      let v = readValue (valuePart r) in
+      let e = origin-forth (v .kind) (v .session) (tests .1) in
+      λ i. record { «payload_length» = v .«payload_length»; «payload_digest» = v .«payload_digest»; token = v .token; available = v .available; kind = e .0 i; session = e .1 i }
+
   says-again : recordOf o (stored o f ns r) ≡ r
-  unfolding recordOf stored storedFrom tripleOf valueFor
-  says-again = ap₂ _++_ (key-says .0) (value-forth (valuePart r) part-bytes part-length) ∙ take-append-drop (length r - valueLength) r
+  unfolding recordOf stored storedFrom tripleOf
+  says-again = ap₂ _++_ (key-says .0) (ap valueBytes says-value ∙ value-forth (valuePart r) part-bytes part-length) ∙ take-append-drop (length r - valueLength) r
 
   says-lawful : Lawful f (stored o f ns r)
   unfolding stored storedFrom tripleOf readValue
   says-lawful =
       let v = value-sized (valuePart r) part-bytes part-length in
+      let e = origin-forth (readValue (valuePart r) .kind) (readValue (valuePart r) .session) (tests .1) in
       record {
         path = key-says .1;
         sized = key-says .2;
@@ -260,11 +290,12 @@ module _ (o : KeyOrder) (f : Figures) (ns r : List ℕ) (bytes : Bytes r) (is : 
         digest = v .digest;
         token = v .token;
         available = v .available;
+        session = rw (e .1) (v .session);
       }
 
   says-within : stored o f ns r .available ≤ stored o f ns r .entry .rank .«payload_length»
-  unfolding stored storedFrom isValue
-  says-within = leb-true (readValue (valuePart r) .available) (readValue (valuePart r) .«payload_length») record-value
+  unfolding stored storedFrom
+  says-within = leb-true (readValue (valuePart r) .available) (readValue (valuePart r) .«payload_length») (tests .0)
 
   says-named : stored o f ns r .entry .namespace ≡ ns
   unfolding stored storedFrom
@@ -321,14 +352,16 @@ entry-equality = record {
 pub stored-equality : Equality Stored sameStored
 unfolding sameStored
 stored-equality = record {
-  self = λ a. cc (entry-equality .self (a .entry), component-equality .self (a .token), number-equality .self (a .available));
+  self = λ a. cc (entry-equality .self (a .entry), component-equality .self (a .token), number-equality .self (a .available), origin-equality .self (a .origin));
   equal = λ a b e.
-      let k = and-true (sameEntry (a .entry) (b .entry)) (sameList sameNumber (a .token) (b .token) && sameNumber (a .available) (b .available)) e in
-      let m = and-true (sameList sameNumber (a .token) (b .token)) (sameNumber (a .available) (b .available)) (k .1) in
+      let k = and-true (sameEntry (a .entry) (b .entry)) (sameList sameNumber (a .token) (b .token) && (sameNumber (a .available) (b .available) && sameOrigin (a .origin) (b .origin))) e in
+      let m = and-true (sameList sameNumber (a .token) (b .token)) (sameNumber (a .available) (b .available) && sameOrigin (a .origin) (b .origin)) (k .1) in
+      let n = and-true (sameNumber (a .available) (b .available)) (sameOrigin (a .origin) (b .origin)) (m .1) in
       let x = entry-equality .equal (a .entry) (b .entry) (k .0) in
       let y = component-equality .equal (a .token) (b .token) (m .0) in
-      let z = number-equality .equal (a .available) (b .available) (m .1) in
-      λ i. record { entry = x i; token = y i; available = z i };
+      let z = number-equality .equal (a .available) (b .available) (n .0) in
+      let w = origin-equality .equal (a .origin) (b .origin) (n .1) in
+      λ i. record { entry = x i; token = y i; available = z i; origin = w i };
 }
 
 -- What the records of a tree say, as a map of them.

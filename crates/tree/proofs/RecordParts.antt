@@ -6,19 +6,21 @@ use mathlib.Core.Bool.{Bool, true, false}
 use native.Mathlib.Omega.{arith}
 use lib.Dec.{leb}
 use borrow.Author.Tests.{le-leb, lt-leb}
-use lib.ListN.{length, take, drop, getD, replicate, length-append, length-drop, length-replicate, drop-of-length-le}
+use lib.ListN.{length, take, drop, getD, set, replicate, length-append, length-drop, length-replicate, drop-of-length-le}
 use lib.Seq.{take-nil, take-all, take-take, drop-drop, length-take-le}
 use borrow.Rule.Slice.PartMut.{putMid, midOf}
 use Rattle.laws.specs.Lists.{piece, put}
 use Rattle.laws.specs.Sorted.{all}
-use Rattle.laws.proofs.Lists.{Wrote, wrote-none, wrote-first, wrote-more, wrote-last, wrote-all}
+use Rattle.laws.proofs.Lists.{Wrote, wrote-none, wrote-first, wrote-more, wrote-last, wrote-all, put-snoc}
 use Rattle.layout.specs.Buffers.{written}
 use Rattle.layout.specs.Layout.{recordAt}
 use Rattle.data_model.specs.Path.{Figures, field, joined, components, legal, isPath}
 use Rattle.data_model.specs.Entry.{entryOf, rankOf}
+use Rattle.data_model.specs.Origin.{originKind, originSession, isOrigin, originOf}
 use Rattle.data_model.specs.Said.{Said, says}
 use Rattle.keys.specs.Encode.{be, Triple, triple, sptKey, tspKey, keyMost, encoded, encodedIn, roomy}
 use Rattle.keys.specs.Decode.{Taken, refused, took, readSpt, readTsp, number, decoded, wasRead}
+use Rattle.data_model.specs.declared.«entry_origin».EntryOrigin.{EntryOrigin}
 use Rattle.data_model.specs.declared.path.Path.{Path}
 use Rattle.data_model.specs.declared.parameters.Subspace.{Subspace}
 use Rattle.keys.specs.declared.decode.Decoded.{Decoded}
@@ -26,7 +28,7 @@ use Rattle.keys.proofs.Encoding.{be-length, legal-most}
 use Rattle.key_laws.proofs.KeyLength.{spt-length, tsp-length}
 use Rattle.key_laws.specs.Bytes.{Bytes}
 use Rattle.key_laws.proofs.Fits.{bytes-take, bytes-drop, legal-of, components-of}
-use Rattle.tree.specs.Value.{availableAt, valueLength, valueBytes, readValue, isValue}
+use Rattle.tree.specs.Value.{digestAt, tokenAt, availableAt, originAt, sessionAt, valueLength, originBytes, valueBytes, readValue, isValue}
 use Rattle.tree.specs.Stored.{readIn, keyOf, valuePart, availableIn, isKey, isRecord, Stored, storedFrom, tripleRead, stored, tripleOf, valueFor, recordOf, lengthy, storedOf, keyIn, writtenLength}
 use Rattle.tree.specs.Tree.{InBounds}
 use Rattle.tree.specs.declared.value.Value.{Value}
@@ -62,9 +64,15 @@ module _ (o : KeyOrder) (f : Figures) (k : List ℕ) (r : Bool) where
   unfolding isKey readIn
   judged-tsp e h = rw e h
 
-pub value-read : (v : Value) (m n : ℕ) → m ≡ v .available → n ≡ v .«payload_length» → leb m n ≡ isValue v
-unfolding isValue
-value-read v m n e h = rw (e, h)
+-- A value is judged by its lengths, and by its origin if these pass.
+module _ (v : Value) (m n : ℕ) (em : m ≡ v .available) (en : n ≡ v .«payload_length») where
+  pub value-over : n < m → false ≡ isValue v
+  unfolding isValue
+  value-over h = rw (← em, ← en) (rw (lt-leb m n h))
+
+  pub value-within : m ≤ n → (b : Bool) → b ≡ isOrigin (v .kind) (v .session) → b ≡ isValue v
+  unfolding isValue
+  value-within h b e = rw (← em, ← en) (rw (le-leb m n h) e)
 
 -- The three answers to what is no record, and what may be one.
 module _ (o : KeyOrder) (f : Figures) (r : List ℕ) where
@@ -132,16 +140,18 @@ written-zeros s out n l e =
     e ∙ ap (s ++_) (drop-of-length-le (replicate n 0) {i = 0 + length s} (simp length-replicate (omega arith))) ∙ append-nil s
 
 -- The parts of a value.
-pub value-parts : (b z d t : List ℕ) (m n : ℕ) → m ≡ number b → d ≡ piece 8 40 b → t ≡ piece 40 104 b → z ≡ drop 104 b → n ≡ number z
-    → record { «payload_length» = m; «payload_digest» = d; token = t; available = n } ≡ readValue b
+pub value-parts : (b y z d t : List ℕ) (m n k l : ℕ) → m ≡ number b → d ≡ piece digestAt tokenAt b → t ≡ piece tokenAt availableAt b → y ≡ drop availableAt b → n ≡ number y
+    → k ≡ getD b originAt 0 → z ≡ drop sessionAt b → l ≡ number z
+    → record { «payload_length» = m; «payload_digest» = d; token = t; available = n; kind = k; session = l } ≡ readValue b
 unfolding readValue
-value-parts b z d t m n p q r s e =
-    let g : n ≡ number (drop 104 b) = e ∙ ap number s in
-    λ i. record { «payload_length» = p i; «payload_digest» = q i; token = r i; available = g i }
+value-parts b y z d t m n k l p q r ey en ek ez el =
+    let g : n ≡ number (drop availableAt b) = en ∙ ap number ey in
+    let h : l ≡ number (drop sessionAt b) = el ∙ ap number ez in
+    λ i. record { «payload_length» = p i; «payload_digest» = q i; token = r i; available = g i; kind = ek i; session = h i }
 
 -- What is handed out for a key and a value that were read.
-abbrev handed : List ℕ → Decoded → Value → LengthyAuthorisedEntry
-handed ns d v = record {
+abbrev handed : List ℕ → Decoded → Value → EntryOrigin → LengthyAuthorisedEntry
+handed ns d v o = record {
   entry = record {
     «namespace_id» = ns;
     «subspace_id» = d .subspace;
@@ -152,13 +162,15 @@ handed ns d v = record {
   };
   token = v .token;
   available = v .available;
+  origin = o;
 }
 
-pub stored-read : (ns : List ℕ) (x : Taken Triple) (v : Value) (d : Decoded) (w : Value) → d ≡ decoded x → w ≡ v → handed ns d w ≡ lengthy (storedFrom ns (tripleRead x) v)
+pub stored-read : (ns : List ℕ) (x : Taken Triple) (v : Value) (d : Decoded) (w : Value) (o : EntryOrigin) → d ≡ decoded x → w ≡ v → o ≡ originOf (w .kind) (w .session)
+    → handed ns d w o ≡ lengthy (storedFrom ns (tripleRead x) v)
 unfolding lengthy storedFrom tripleRead decoded
-stored-read ns x v d w e g = ap₂ (handed ns) e g ∙ go x
+stored-read ns x v d w o e g h = ap (handed ns d w) h ∙ ap₂ (λ (a : Decoded) (b : Value). handed ns a b (originOf (b .kind) (b .session))) e g ∙ go x
   where
-    go : (x : Taken Triple) → handed ns (decoded x) v ≡ lengthy (storedFrom ns (tripleRead x) v)
+    go : (x : Taken Triple) → handed ns (decoded x) v (originOf (v .kind) (v .session)) ≡ lengthy (storedFrom ns (tripleRead x) v)
     go refused = refl
     go (took t n) = refl
 
@@ -178,6 +190,7 @@ stored-of s = λ i. record {
   entry = record { namespace = s .entry .namespace; subspace = s .entry .subspace; path = components-of (s .entry .path) i; rank = s .entry .rank };
   token = s .token;
   available = s .available;
+  origin = s .origin;
 }
 
 pub stored-says : (o : KeyOrder) (ns : List ℕ) (k : ℕ) (dir tree key value : List ℕ) (r : LengthyAuthorisedEntry) → Bytes tree
@@ -229,7 +242,7 @@ wrote-written w xs rest old out next at h fits e =
     let q : next ≡ take at out ++ (xs ++ drop (length xs) (drop at out)) = e ∙ append-assoc (take at out) xs (drop (at + length xs) out) ∙ ap (λ (z : List ℕ). take at out ++ (xs ++ z)) (sym (drop-drop (length xs) at out)) in
     rw q (wrote-more w xs rest old out at h fits)
 
--- The two halves of a value: a number and bytes behind it, bytes and a number behind them.
+-- The two halves of a value: a number and bytes behind it, bytes and the end of a value behind them.
 pub front-wrote : (n : ℕ) (d : List ℕ) → length d ≡ 32 → (old out1 out2 : List ℕ) → 40 ≤ length old → out1 ≡ put (be 8 n) old → out2 ≡ written 8 d out1 → out2 ≡ put (be 8 n ++ d) old
 front-wrote n d ld old out1 out2 h e1 e2 =
     let w = be 8 n ++ (d ++ []) in
@@ -237,50 +250,79 @@ front-wrote n d ld old out1 out2 h e1 e2 =
     let s2 : Wrote w [] old out2 (8 + length d) = wrote-written w d [] old out1 out2 8 s1 (omega (arith, s1 .size)) e2 in
     wrote-all w old out2 (8 + length d) s2 ∙ ap (λ (z : List ℕ). put (be 8 n ++ z) old) (append-nil d)
 
-pub back-wrote : (t : List ℕ) (n : ℕ) → length t ≡ 64 → (old out last : List ℕ) → 72 ≤ length old → out ≡ written 0 t old
-    → last ≡ put (be 8 n) (midOf 64 (length out - 64) out) → putMid 64 (length out - 64) out last ≡ put (t ++ be 8 n) old
-back-wrote t n lt old out last h e1 e2 =
-    let w = t ++ be 8 n in
-    let s1 : Wrote w (be 8 n) old out (0 + length t) = wrote-written w t (be 8 n) old old out 0 (wrote-none w old) (omega arith) e1 in
-    let s2 : Wrote w (be 8 n) old out 64 = rw lt at s1 in
-    wrote-last w (be 8 n) old out last 64 8 s2 (omega (arith, s2 .size)) (sym (be-length 8 n)) e2 .1
+-- The end of a value: an available length, and an origin behind it.
+abbrev endBytes : (n kind session : ℕ) → List ℕ
+endBytes n kind session = be 8 n ++ originBytes kind session
+
+origin-length : (kind session : ℕ) → length (originBytes kind session) ≡ valueLength - originAt
+origin-length kind session = ap suc (be-length 8 session)
+
+end-length : (n kind session : ℕ) → length (endBytes n kind session) ≡ valueLength - availableAt
+end-length n kind session = length-append (be 8 n) (originBytes kind session) ∙ omega (arith, be-length 8 n, origin-length kind session)
+
+pub origin-wrote : (kind session : ℕ) (old last : List ℕ) → valueLength - originAt ≤ length old → last ≡ put (be 8 session) (midOf 1 (length (set old 0 kind) - 1) (set old 0 kind))
+    → putMid 1 (length (set old 0 kind) - 1) (set old 0 kind) last ≡ put (originBytes kind session) old
+unfolding put
+origin-wrote kind session old last h e =
+    let first : set old 0 kind ≡ put (kind ∷ []) old = put-snoc [] old 0 kind refl (omega arith) in
+    let s : Wrote (kind ∷ be 8 session) (be 8 session) old (set old 0 kind) 1 = wrote-first (kind ∷ []) (be 8 session) old (set old 0 kind) 1 (omega arith) refl first in
+    wrote-last (kind ∷ be 8 session) (be 8 session) old (set old 0 kind) last 1 8 s (omega (arith, s .size)) (sym (be-length 8 session)) e .1
+
+pub end-wrote : (n kind session : ℕ) (old out last : List ℕ) → valueLength - availableAt ≤ length old → out ≡ put (be 8 n) old
+    → last ≡ put (originBytes kind session) (midOf 8 (length out - 8) out) → putMid 8 (length out - 8) out last ≡ put (endBytes n kind session) old
+end-wrote n kind session old out last h e1 e2 =
+    let o = originBytes kind session in
+    let s : Wrote (be 8 n ++ o) o old out 8 = wrote-first (be 8 n) o old out 8 (omega arith) (sym (be-length 8 n)) e1 in
+    wrote-last (be 8 n ++ o) o old out last 8 (valueLength - originAt) s (omega (arith, s .size)) (sym (origin-length kind session)) e2 .1
+
+pub back-wrote : (t : List ℕ) (n kind session : ℕ) → length t ≡ 64 → (old out last : List ℕ) → valueLength - tokenAt ≤ length old → out ≡ written 0 t old
+    → last ≡ put (be 8 n ++ originBytes kind session) (midOf 64 (length out - 64) out) → putMid 64 (length out - 64) out last ≡ put (t ++ (be 8 n ++ originBytes kind session)) old
+back-wrote t n kind session lt old out last h e1 e2 =
+    let z = endBytes n kind session in
+    let w = t ++ z in
+    let s1 : Wrote w z old out (0 + length t) = wrote-written w t z old old out 0 (wrote-none w old) (omega arith) e1 in
+    let s2 : Wrote w z old out 64 = rw lt at s1 in
+    wrote-last w z old out last 64 (valueLength - availableAt) s2 (omega (arith, s2 .size)) (sym (end-length n kind session)) e2 .1
 
 pub value-wrote : (v : Value) → length (v .«payload_digest») ≡ 32 → length (v .token) ≡ 64 → (old out last : List ℕ) → valueLength ≤ length old
     → out ≡ put (be 8 (v .«payload_length») ++ v .«payload_digest») old
-    → last ≡ put (v .token ++ be 8 (v .available)) (midOf 40 (length out - 40) out)
+    → last ≡ put (v .token ++ (be 8 (v .available) ++ originBytes (v .kind) (v .session))) (midOf 40 (length out - 40) out)
     → putMid 40 (length out - 40) out last ≡ put (valueBytes v) old
 unfolding valueBytes
 value-wrote v ld lt old out last h e1 e2 =
     let x = be 8 (v .«payload_length») in
     let d = v .«payload_digest» in
-    let y = v .token ++ be 8 (v .available) in
+    let z = endBytes (v .available) (v .kind) (v .session) in
+    let y = v .token ++ z in
     let lx : length (x ++ d) ≡ 40 = length-append x d ∙ omega (arith, be-length 8 (v .«payload_length»)) in
-    let ly : length y ≡ 72 = length-append (v .token) (be 8 (v .available)) ∙ omega (arith, be-length 8 (v .available)) in
+    let ly : length y ≡ valueLength - tokenAt = length-append (v .token) z ∙ omega (arith, end-length (v .available) (v .kind) (v .session)) in
     let s : Wrote ((x ++ d) ++ y) y old out 40 = wrote-first (x ++ d) y old out 40 (omega arith) (sym lx) e1 in
-    wrote-last ((x ++ d) ++ y) y old out last 40 72 s (omega (arith, s .size)) (sym ly) e2 .1
+    wrote-last ((x ++ d) ++ y) y old out last 40 (valueLength - tokenAt) s (omega (arith, s .size)) (sym ly) e2 .1
     ∙ ap (λ (z : List ℕ). put z old) (append-assoc x d y)
 
 -- A key, and a value behind it.
 abbrev pub keyFor : KeyOrder → LengthyAuthorisedEntry → List ℕ
 keyFor o a = keyIn o (triple (a .entry .«subspace_id») (components (a .entry .path)) (a .entry .timestamp))
 
-abbrev valueIn : LengthyAuthorisedEntry → Value
-valueIn a = record {
+abbrev valueIn : LengthyAuthorisedEntry → (kind session : ℕ) → Value
+valueIn a kind session = record {
   «payload_length» = a .entry .«payload_length»;
   «payload_digest» = a .entry .«payload_digest»;
   token = a .token;
   available = a .available;
+  kind = kind;
+  session = session;
 }
 
-record-is : (o : KeyOrder) (a : LengthyAuthorisedEntry) → recordOf o (storedOf a) ≡ keyFor o a ++ valueBytes (valueIn a)
+record-is : (o : KeyOrder) (a : LengthyAuthorisedEntry) → recordOf o (storedOf a) ≡ keyFor o a ++ valueBytes (valueIn a (originKind (a .origin)) (originSession (a .origin)))
 unfolding recordOf storedOf tripleOf valueFor entryOf rankOf
 record-is o a = refl
 
-pub record-wrote : (o : KeyOrder) (a : LengthyAuthorisedEntry) → length (a .entry .«payload_digest») ≡ 32 → length (a .token) ≡ 64 → (old out last : List ℕ) (n m : ℕ)
+pub record-wrote : (o : KeyOrder) (a : LengthyAuthorisedEntry) → length (a .entry .«payload_digest») ≡ 32 → length (a .token) ≡ 64 → (kind session : ℕ) → kind ≡ originKind (a .origin) → session ≡ originSession (a .origin) → (old out last : List ℕ) (n m : ℕ)
     → n ≤ length old → n ≡ length (keyFor o a) → out ≡ put (keyFor o a) old → n + m ≤ length out → m ≡ valueLength
-    → last ≡ put (valueBytes (valueIn a)) (midOf n (length out - n) out)
+    → last ≡ put (valueBytes (valueIn a kind session)) (midOf n (length out - n) out)
     → (n + m ≡ length (recordOf o (storedOf a))) × (putMid n (length out - n) out last ≡ put (recordOf o (storedOf a)) old)
-record-wrote o a ld lt old out last n m h e1 e2 fits e3 e4 =
-    let v = valueBytes (valueIn a) in
-    rw (record-is o a)
-    (wrote-last (keyFor o a ++ v) v old out last n m (wrote-first (keyFor o a) v old out n h e1 e2) fits (e3 ∙ sym (value-length (valueIn a) ld lt)) e4)
+record-wrote o a ld lt kind session ek es old out last n m h e1 e2 fits e3 e4 =
+    let v = valueBytes (valueIn a kind session) in
+    rw (record-is o a, ← ek, ← es)
+    (wrote-last (keyFor o a ++ v) v old out last n m (wrote-first (keyFor o a) v old out n h e1 e2) fits (e3 ∙ sym (value-length (valueIn a kind session) ld lt)) e4)

@@ -22,7 +22,7 @@ outdates e s = prunes (s .entry) e
 unfoldable pub removes : Entry → Stored → Bool
 removes e s = prunes e (s .entry)
 
--- An entry repeats it: the same subspace, path, timestamp, digest and length, whatever the token and the available length.
+-- An entry repeats it: the same subspace, path, timestamp, digest and length, whatever the token, the available length and the origin.
 unfoldable pub repeats : Entry → Stored → Bool
 repeats e s = sameEntry e (s .entry)
 

@@ -1,4 +1,4 @@
--- A record: the key of an entry and its value. What it says is the entry that is stored, with its token and available length.
+-- A record: the key of an entry and its value. What it says is the entry that is stored, with its token, available length and origin.
 use Prim.Native.Nat.{ℕ, _+_, _-_, _<_, _^_}
 use mathlib.Core.Path.{_≡_}
 use mathlib.Core.List.{List, [], _∷_, _++_}
@@ -11,6 +11,8 @@ use Rattle.data_model.specs.Said.{Said, refuses, says}
 use Rattle.data_model.specs.Path.{Figures, isPath, pathOf, samePath, byBytes}
 use Rattle.data_model.specs.Subspace.{firstSubspace, sameSubspace}
 use Rattle.data_model.specs.Entry.{Entry, entryOf}
+use Rattle.data_model.specs.Origin.{originKind, originSession, originOf, sameOrigin}
+use Rattle.data_model.specs.declared.«entry_origin».EntryOrigin.{EntryOrigin}
 use Rattle.keys.specs.Encode.{Triple, triple, sptKey, tspKey}
 use Rattle.keys.specs.Decode.{Taken, refused, took, readSpt, readTsp, wasRead}
 use Rattle.key_laws.specs.KeyOrder.{Sized, sptOrder, tspOrder}
@@ -61,6 +63,7 @@ pub record Stored : Type 0 where
   pub entry : Entry
   pub token : List ℕ
   pub available : ℕ
+  pub origin : EntryOrigin
 
 unfoldable pub storedFrom : List ℕ → Triple → Value → Stored
 storedFrom namespace t v = record {
@@ -72,6 +75,7 @@ storedFrom namespace t v = record {
   };
   token = v .token;
   available = v .available;
+  origin = originOf (v .kind) (v .session);
 }
 
 -- What a key says; all 0 for what is no key.
@@ -102,6 +106,8 @@ valueFor s = record {
   «payload_digest» = s .entry .rank .«payload_digest»;
   token = s .token;
   available = s .available;
+  kind = originKind (s .origin);
+  session = originSession (s .origin);
 }
 
 unfoldable pub recordOf : KeyOrder → Stored → List ℕ
@@ -115,6 +121,7 @@ pub record Lawful (f : Figures) (s : Stored) : Type 0 where
   pub digest : length (s .entry .rank .«payload_digest») ≡ 32
   pub token : length (s .token) ≡ 64
   pub available : s .available < 2 ^ 64
+  pub session : originSession (s .origin) < 2 ^ 64
 
 -- The value that is handed out for it, and what such a value says.
 unfoldable pub lengthy : Stored → LengthyAuthorisedEntry
@@ -129,10 +136,11 @@ lengthy s = record {
   };
   token = s .token;
   available = s .available;
+  origin = s .origin;
 }
 
 unfoldable pub storedOf : LengthyAuthorisedEntry → Stored
-storedOf a = record { entry = entryOf (a .entry); token = a .token; available = a .available }
+storedOf a = record { entry = entryOf (a .entry); token = a .token; available = a .available; origin = a .origin }
 
 -- Equality, as tests.
 unfoldable pub sameEntry : Entry → Entry → Bool
@@ -142,4 +150,5 @@ sameEntry a b =
     sameNumber (a .rank .«payload_length») (b .rank .«payload_length»)))))
 
 unfoldable pub sameStored : Stored → Stored → Bool
-sameStored a b = sameEntry (a .entry) (b .entry) && (sameList sameNumber (a .token) (b .token) && sameNumber (a .available) (b .available))
+sameStored a b =
+    sameEntry (a .entry) (b .entry) && (sameList sameNumber (a .token) (b .token) && (sameNumber (a .available) (b .available) && sameOrigin (a .origin) (b .origin)))

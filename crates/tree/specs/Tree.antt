@@ -72,6 +72,6 @@ hasKey key recs = any (λ (r : List ℕ). isSame (byBytes (keyOf r) key)) recs
 unfoldable pub hasRecord : List ℕ → List ℕ → List (List ℕ) → Bool
 hasRecord key value recs = any (λ (r : List ℕ). sameList sameNumber (keyOf r) key && sameList sameNumber (valuePart r) value) recs
 
--- Each of the first is among the second, with the same token and available length.
+-- Each of the first is among the second, with the same token, available length and origin.
 unfoldable pub within : List Stored → List Stored → Bool
 within l m = all (λ (a : Stored). any (sameStored a) m) l

@@ -192,7 +192,7 @@ pub fn mark_at(
     standing_from(order, count, dir, tree, &key[..n], marks);
 }
 
-// Whether a tree of its namespace has the entry already, whatever the token and the available length: at its key, and of its rank.
+// Whether a tree of its namespace has the entry already, whatever the token, the available length and the origin: at its key, and of its rank.
 pub fn has_entry(order: KeyOrder, count: usize, dir: &[u32], tree: &[u8], e: Entry) -> bool
     requires { ⌜ (Ordered order count (now dir) (now tree)) × (legal field (e .path) ≡ true) ⌝ }
     ensures { λ r. ⌜ r ≡ any (repeats (entryOf e)) (contents order field (e .«namespace_id») (records count (now (dir .entry)) (now (tree .entry)))) ⌝ }

@@ -5,6 +5,7 @@ use crate::value::decode_entry_values;
 use crate::value::encode_entry_values;
 use crate::value::is_value;
 use data_model::entry::Entry;
+use data_model::entry_origin::EntryOrigin;
 use data_model::parameters::Subspace;
 use data_model::path::Path;
 use keys::decode::Decoded;
@@ -19,12 +20,13 @@ use layout::directory::offset;
 use layout::directory::size;
 ghost use mathlib.Core.Path.{_≡_};
 ghost use mathlib.Core.Bool.{true};
-ghost use Prim.Native.Nat.{_+_, _≤_};
+ghost use Prim.Native.Nat.{_+_, _≤_, _<_, _^_};
 ghost use lib.ListN.{length};
 ghost use Rattle.laws.specs.Lists.{put};
 ghost use Rattle.laws.specs.Parts.{partBegins};
 ghost use Rattle.layout.specs.Layout.{CutsOut, recordAt, offsetAt};
 ghost use Rattle.data_model.specs.Path.{field, legal, components};
+ghost use Rattle.data_model.specs.Origin.{originSession};
 ghost use Rattle.keys.specs.Encode.{triple, keyMost, encodedSays};
 ghost use Rattle.keys.specs.Decode.{decoded};
 ghost use Rattle.tree.specs.Value.{valueLength, readValue};
@@ -37,12 +39,12 @@ pub enum KeyOrder {
     Tsp,
 }
 
-// An entry with its token and how much of its payload is available.
-#[repr(C)]
+// An entry with its token, how much of its payload is available, and where it came from.
 pub struct LengthyAuthorisedEntry {
     pub entry: Entry,
     pub token: [u8; 64],
     pub available: u64,
+    pub origin: EntryOrigin,
 }
 
 pub fn decode_key(order: KeyOrder, key: &[u8]) -> Decoded
@@ -139,6 +141,7 @@ pub fn stored_in(
     let path = d.path;
     let digest = v.payload_digest;
     let token = v.token;
+    let origin = EntryOrigin::new(v.kind, v.session);
     LengthyAuthorisedEntry {
         entry: Entry {
             namespace_id: namespace,
@@ -150,6 +153,7 @@ pub fn stored_in(
         },
         token,
         available: v.available,
+        origin,
     }
 }
 
@@ -170,22 +174,28 @@ pub fn stored_at(
     stored_in(order, namespace, key, value)
 }
 
-// Writes the record of an entry at the front of the buffer, and answers how many bytes.
+// Writes the record of an entry at the front of the buffer, and answers how many bytes. Ensures besides that the origin's session is below 2 ^ 64, which of an
+// enum that is handed in nothing else says.
 pub fn encode_record(order: KeyOrder, a: LengthyAuthorisedEntry, out: &mut [u8]) -> usize
     requires { ⌜ (legal field (a .entry .path) ≡ true) × (keyMost field + valueLength ≤ length (now out)) ⌝ }
-    ensures { λ r. ⌜ (r ≡ length (recordOf order (storedOf a))) × (now (out .exit) ≡ put (recordOf order (storedOf a)) (now (out .entry))) ⌝ }
+    ensures { λ r. ⌜ (r ≡ length (recordOf order (storedOf a))) × (now (out .exit) ≡ put (recordOf order (storedOf a)) (now (out .entry))) × (originSession (a .origin) < 2 ^ 64) ⌝ }
 {
     let e = a.entry;
     let subspace = e.subspace_id;
     let path = e.path;
     let payload_digest = e.payload_digest;
     let token = a.token;
+    let origin = a.origin;
+    let kind = origin.kind();
+    let session = origin.session();
     let n = encode_key(order, subspace, path, e.timestamp, out);
     let v = Value {
         payload_length: e.payload_length,
         payload_digest,
         token,
         available: a.available,
+        kind,
+        session,
     };
     n + encode_entry_values(v, &mut out[n..])
 }

@@ -11,6 +11,7 @@ use plain::answer::PlainNumbersIngested;
 use plain::answer::plain_ingested;
 use plain::answer::plain_numbers;
 use plain::input::PlainArea;
+use plain::input::PlainOrigin;
 use plain::input::PlainPairs;
 use plain::input::area_of;
 use plain::input::ingestion_of;
@@ -63,10 +64,11 @@ pub extern "C" fn vb_ingest_entry_numbers(
     entry: Entry,
     token: &[u8; 64],
     prevent_pruning: u8,
+    origin: PlainOrigin,
 ) -> PlainIngested
-    ensures { λ r. ⌜ numbersLeft r (now (spt .exit)) (now («spt_dir» .exit)) (now (tsp .exit)) (now («tsp_dir» .exit)) (now (tally .exit)) (now (prune .exit)) ≡ toldNumbers (ingested field (talliedOf state (now (spt .entry)) (now («spt_dir» .entry)) (now (tsp .entry)) (now («tsp_dir» .entry)) (now (tally .entry))) (now (prune .entry)) (ingestionOf entry (now (token .entry)) «prevent_pruning»)) ⌝ }
+    ensures { λ r. ⌜ numbersLeft r (now (spt .exit)) (now («spt_dir» .exit)) (now (tsp .exit)) (now («tsp_dir» .exit)) (now (tally .exit)) (now (prune .exit)) ≡ toldNumbers (ingested field (talliedOf state (now (spt .entry)) (now («spt_dir» .entry)) (now (tsp .entry)) (now («tsp_dir» .entry)) (now (tally .entry))) (now (prune .entry)) (ingestionOf entry (now (token .entry)) «prevent_pruning» origin)) ⌝ }
 {
-    let ingestion = ingestion_of(entry, *token, prevent_pruning);
+    let ingestion = ingestion_of(entry, *token, prevent_pruning, origin);
     let given = ingest_entry_numbers(state, spt, spt_dir, tsp, tsp_dir, tally, prune, ingestion);
     plain_ingested(given)
 }
@@ -84,10 +86,11 @@ pub extern "C" fn vb_ingest_entry_by_value(
     entry: Entry,
     token: &[u8; 64],
     prevent_pruning: u8,
+    origin: PlainOrigin,
 ) -> PlainNumbersIngested
-    ensures { λ r. ⌜ pairsLeft (r .ingested) (now (spt .exit)) (now («spt_dir» .exit)) (now (tsp .exit)) (now («tsp_dir» .exit)) (now (tally .exit)) (pairsOf (r .numbers)) ≡ toldPairs (pairsIngested field (talliedOf state (now (spt .entry)) (now («spt_dir» .entry)) (now (tsp .entry)) (now («tsp_dir» .entry)) (now (tally .entry))) (prune .pairs) (ingestionOf entry (now (token .entry)) «prevent_pruning»)) ⌝ }
+    ensures { λ r. ⌜ pairsLeft (r .ingested) (now (spt .exit)) (now («spt_dir» .exit)) (now (tsp .exit)) (now («tsp_dir» .exit)) (now (tally .exit)) (pairsOf (r .numbers)) ≡ toldPairs (pairsIngested field (talliedOf state (now (spt .entry)) (now («spt_dir» .entry)) (now (tsp .entry)) (now («tsp_dir» .entry)) (now (tally .entry))) (prune .pairs) (ingestionOf entry (now (token .entry)) «prevent_pruning» origin)) ⌝ }
 {
-    let ingestion = ingestion_of(entry, *token, prevent_pruning);
+    let ingestion = ingestion_of(entry, *token, prevent_pruning, origin);
     let pairs = prune.pairs;
     let given = ingest_entry_by_value(state, spt, spt_dir, tsp, tsp_dir, tally, pairs, ingestion);
     plain_numbers(given)

@@ -3,6 +3,8 @@ use data_model::parameters::Subspace;
 use data_model::path::Path;
 use plain::answer::PlainListed;
 use plain::answer::plain_listed;
+use plain::found::PlainEntryFound;
+use plain::found::plain_found;
 use plain::input::PlainArea;
 use plain::input::PlainIgnore;
 use plain::input::PlainInterest;
@@ -16,7 +18,6 @@ use plain::part::plain_part;
 use plain::range_answer::PlainAreaRange;
 use plain::range_answer::plain_interest_range;
 use query::answer::Counted;
-use query::answer::EntryFound;
 use query::count::count_area;
 use query::count::summarise;
 use query::entry::entry;
@@ -34,10 +35,11 @@ ghost use Rattle.query.specs.Count.{areaCounted, summarised};
 ghost use Rattle.query.specs.Interest.{interestRange};
 ghost use Rattle.plain.specs.Input.{areaOf, rangeOf, interestOf, ignoreOf};
 ghost use Rattle.plain.specs.Answer.{plainListed};
+ghost use Rattle.plain.specs.Found.{plainFound};
 ghost use Rattle.plain.specs.RangeAnswer.{plainInterestRange};
 ghost use Rattle.plain.specs.Part.{plainPart};
 
-// `query::entry::entry`: the entry at a subspace and path, its token and available length; or none.
+// `query::entry::entry`: the entry at a subspace and path, its token, available length and origin; or none.
 #[no_mangle]
 pub extern "C" fn vb_find_entry(
     state: State,
@@ -48,11 +50,11 @@ pub extern "C" fn vb_find_entry(
     subspace: Subspace,
     path: Path,
     ignore: PlainIgnore,
-) -> EntryFound
-    ensures { λ r. ⌜ r ≡ entryFound field (storeOf state (now (spt .entry)) (now («spt_dir» .entry)) (now (tsp .entry)) (now («tsp_dir» .entry))) subspace path (ignoreOf ignore) ⌝ }
+) -> PlainEntryFound
+    ensures { λ r. ⌜ r ≡ plainFound (entryFound field (storeOf state (now (spt .entry)) (now («spt_dir» .entry)) (now (tsp .entry)) (now («tsp_dir» .entry))) subspace path (ignoreOf ignore)) ⌝ }
 {
     let flags = ignore_of(ignore);
-    entry(state, spt, spt_dir, tsp, tsp_dir, subspace, path, flags)
+    plain_found(entry(state, spt, spt_dir, tsp, tsp_dir, subspace, path, flags))
 }
 
 // `query::listing::query_area_place`: the place of an area's first match at or after a place, in key order.

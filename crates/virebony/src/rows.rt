@@ -3,6 +3,7 @@ use data_model::entry::Entry;
 use pairs::ingest_with_room;
 use plain::answer::PlainIngested;
 use plain::answer::plain_ingested;
+use plain::input::PlainOrigin;
 use plain::input::ingestion_of;
 use plain::rows::write_rows;
 use store::state::State;
@@ -28,10 +29,11 @@ pub extern "C" fn vb_ingest_entry(
     entry: Entry,
     token: &[u8; 64],
     prevent_pruning: u8,
+    origin: PlainOrigin,
 ) -> PlainIngested
-    ensures { λ r. ⌜ pairsLeft r (now (spt .exit)) (now («spt_dir» .exit)) (now (tsp .exit)) (now («tsp_dir» .exit)) (now (tally .exit)) (map pairOf (now (prune .exit))) ≡ toldPairs (pairsIngested field (talliedOf state (now (spt .entry)) (now («spt_dir» .entry)) (now (tsp .entry)) (now («tsp_dir» .entry)) (now (tally .entry))) (map pairOf (now (prune .entry))) (ingestionOf entry (now (token .entry)) «prevent_pruning»)) ⌝ }
+    ensures { λ r. ⌜ pairsLeft r (now (spt .exit)) (now («spt_dir» .exit)) (now (tsp .exit)) (now («tsp_dir» .exit)) (now (tally .exit)) (map pairOf (now (prune .exit))) ≡ toldPairs (pairsIngested field (talliedOf state (now (spt .entry)) (now («spt_dir» .entry)) (now (tsp .entry)) (now («tsp_dir» .entry)) (now (tally .entry))) (map pairOf (now (prune .entry))) (ingestionOf entry (now (token .entry)) «prevent_pruning» origin)) ⌝ }
 {
-    let ingestion = ingestion_of(entry, *token, prevent_pruning);
+    let ingestion = ingestion_of(entry, *token, prevent_pruning, origin);
     let r = ingest_with_room(
         state,
         spt,

@@ -6,6 +6,21 @@ use std::cmp::Ordering;
 /// A tree's records, key and value.
 pub type Records = Vec<(Vec<u8>, Vec<u8>)>;
 
+/// A stored entry as it is shown. The Rust's has no origin (cuts.rs).
+#[derive(Clone, Debug, PartialEq)]
+pub struct Shown {
+    pub entry: Entry,
+    pub token: Token,
+    pub available: u64,
+    pub origin: Option<EntryOrigin>,
+}
+
+impl From<Stored> for Shown {
+    fn from(x: Stored) -> Shown {
+        Shown { entry: x.entry, token: x.token, available: x.available, origin: Some(x.origin) }
+    }
+}
+
 #[derive(Clone, Debug, PartialEq)]
 pub enum Answer {
     Refused(u8),
@@ -20,8 +35,8 @@ pub enum Answer {
     /// There is no such entry to poke.
     Absent,
     Forgot(u64),
-    Found(Option<Stored>),
-    List(Vec<Stored>),
+    Found(Option<Shown>),
+    List(Vec<Shown>),
     /// The place of the next match, or finished.
     Next(Option<u64>),
     Count(u64),

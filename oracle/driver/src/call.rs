@@ -7,8 +7,8 @@ pub const LINE: usize = 1024;
 #[derive(Clone, Debug, PartialEq)]
 pub enum Call {
     Open(Namespace, Option<u64>),
-    /// With its token; whether pruning is prevented.
-    Ingest(Entry, Token, bool),
+    /// With its token; whether pruning is prevented; where it came from.
+    Ingest(Entry, Token, bool, EntryOrigin),
     Forget(Subspace, Path, Option<Digest>),
     ForgetArea(Area, Option<Area>),
     Entry(Subspace, Path, Ignore),
@@ -147,6 +147,10 @@ fn entry(f: &[&str]) -> Option<(Entry, Token)> {
     };
     Some((e, fill(k)?))
 }
+/// - for local, or the session of a remote one.
+fn origin(t: &str) -> Option<EntryOrigin> {
+    if t == "-" { Some(EntryOrigin::Local) } else { number(t).map(EntryOrigin::Remote) }
+}
 /// A subspace, path and timestamp; the rest 0.
 fn triple(f: &[&str]) -> Option<Entry> {
     let [s, p, t] = f else { return None };
@@ -178,10 +182,10 @@ pub fn call(line: &str) -> Option<Call> {
     let flags = |f: &[&str]| Some(Ignore { incomplete: flag(f[0])?, empty: flag(f[1])? });
     Some(match (*name, f.len()) {
         ("open", 2) => Call::Open(last(f[0])?, open(f[1], number)?),
-        ("in", 5) => entry(f).map(|(e, k)| Call::Ingest(e, k, false))?,
-        ("ingest", 7 | 8) => {
-            let (e, k) = entry(&f[1..])?;
-            Call::Ingest(e, k, flag(f[0])?)
+        ("in", 5) => entry(f).map(|(e, k)| Call::Ingest(e, k, false, EntryOrigin::Local))?,
+        ("ingest", 7..=9) => {
+            let (e, k) = entry(&f[1..f.len().min(8)])?;
+            Call::Ingest(e, k, flag(f[0])?, f.get(8).map_or(Some(EntryOrigin::Local), |t| origin(t))?)
         }
         ("forget", 2) => Call::Forget(sub(f[0])?, path(f[1])?, None),
         ("forget", 3) => Call::Forget(sub(f[0])?, path(f[1])?, Some(fill(f[2])?)),
@@ -233,6 +237,24 @@ pub fn call(line: &str) -> Option<Call> {
 mod tests {
     use super::*;
 
+    #[test]
+    fn origins() {
+        let e = Entry { namespace: [0; 16], subspace: last("01").unwrap(), path: vec![vec![0x61]], timestamp: 5, payload_length: 3, payload_digest: [10; 32] };
+        let other = Entry { namespace: last("02").unwrap(), ..e.clone() };
+        let of = |e: &Entry, origin| Some(Call::Ingest(e.clone(), [7; 64], true, origin));
+        let (local, remote) = (EntryOrigin::Local, EntryOrigin::Remote);
+        for (line, wanted) in [
+            ("ingest 1 01 61 5 3 0a 07", of(&e, local)), ("ingest 1 01 61 5 3 0a 07 02", of(&other, local)), ("ingest 1 01 61 5 3 0a 07 00 -", of(&e, local)),
+            ("ingest 1 01 61 5 3 0a 07 00 0", of(&e, remote(0))), ("ingest 1 01 61 5 3 0a 07 02 7", of(&other, remote(7))),
+            ("ingest 1 01 61 5 3 0a 07 00 18446744073709551615", of(&e, remote(u64::MAX))), ("in 01 61 5 3 0a", Some(Call::Ingest(e.clone(), [0; 64], false, local))),
+        ] {
+            assert_eq!(call(line), wanted, "{line}");
+        }
+        for bad in ["00 07", "00 --", "00 +7", "00 18446744073709551616", "00 ", "00 - 7", "00 7 -", "- 7"] {
+            assert_eq!(call(&format!("ingest 1 01 61 5 3 0a 07 {bad}")), None, "{bad}");
+        }
+        assert_eq!(call("in 01 61 5 3 0a 07 00 7"), None);
+    }
     #[test]
     fn arrivals() {
         let (s, p) = (last("01").unwrap(), vec![vec![0x61]]);

@@ -1,10 +1,10 @@
 //! From the line language's values to the Rust's and back. A path that `Path::from_slices` refuses is `refused 4`.
-use crate::answer::Answer;
+use crate::answer::{Answer, Shown};
 use crate::params::*;
 use either::Either;
 use ufotofu::Producer;
 use ufotofu_codec::block_on;
-use model::{Area, Ignore, Range3d, Stored};
+use model::{Area, Ignore, Range3d};
 use willow_data_model::{grouping as g, *};
 
 /// Refusal 4, or another outcome that ends a call early.
@@ -59,7 +59,7 @@ pub fn entry<const MCL: usize, const MCC: usize, const MPL: usize>(
 pub fn unentry<const MCL: usize, const MCC: usize, const MPL: usize>(
     e: &AuthorisedEntry<MCL, MCC, MPL, Ns, Sub, Dig, Tok>,
     available: u64,
-) -> Stored {
+) -> Shown {
     let (token, e) = (e.token().0, e.entry());
     let entry = model::Entry {
         namespace: e.namespace_id().0,
@@ -69,14 +69,20 @@ pub fn unentry<const MCL: usize, const MCC: usize, const MPL: usize>(
         payload_length: e.payload_length(),
         payload_digest: e.payload_digest().0,
     };
-    Stored { entry, token, available }
+    Shown { entry, token, available, origin: None }
+}
+pub fn origin(o: model::EntryOrigin) -> EntryOrigin {
+    match o {
+        model::EntryOrigin::Local => EntryOrigin::Local,
+        model::EntryOrigin::Remote(session) => EntryOrigin::Remote(session),
+    }
 }
 pub fn ignore(i: Ignore) -> QueryIgnoreParams {
     QueryIgnoreParams { ignore_incomplete_payloads: i.incomplete, ignore_empty_payloads: i.empty }
 }
 pub fn drain<const MCL: usize, const MCC: usize, const MPL: usize>(
     mut p: impl Producer<Item = LengthyAuthorisedEntry<MCL, MCC, MPL, Ns, Sub, Dig, Tok>>,
-) -> Vec<Stored> {
+) -> Vec<Shown> {
     let mut out = Vec::new();
     while let Ok(Either::Left(e)) = block_on(p.produce()) {
         out.push(unentry(e.entry(), e.available()));

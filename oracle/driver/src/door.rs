@@ -1,5 +1,6 @@
 //! The door to the port (bindings/c/virebony.h), as far as `beside` goes through it: one store with its buffers.
 #![allow(dead_code)] // fields of answers that are not looked at
+use model::{ITEM, RECORD_MOST};
 use std::mem::size_of;
 
 #[repr(C)]
@@ -112,24 +113,28 @@ struct AreaRange {
 #[repr(C)]
 #[derive(Clone, Copy)]
 struct Ignore(u8, u8);
+#[repr(C)]
+#[derive(Clone, Copy)]
+struct Origin {
+    remote: u8,
+    session: u64,
+}
 
 const _: () = assert!(size_of::<Entry>() == 280 && size_of::<Area>() == 248 && size_of::<Interest>() == 264 && size_of::<State>() == 32);
-const _: () = assert!(size_of::<Ingested>() == 392 && size_of::<AreaForgotten>() == 48 && size_of::<Decoded>() == 232 && size_of::<AreaRange>() == 480);
+const _: () = assert!(size_of::<Ingested>() == 392 && size_of::<AreaForgotten>() == 48 && size_of::<Decoded>() == 232 && size_of::<AreaRange>() == 480 && size_of::<Origin>() == 16);
 
 extern "C" {
     fn vb_edition() -> u32;
     fn vb_decode_spt_entry_key(key: *const u8, len: usize) -> Decoded;
     fn vb_open(namespace_id: *const u8, limit: usize, a: *mut u8, al: usize, b: *mut u32, bl: usize, c: *mut u8, cl: usize, d: *mut u32, dl: usize, t: *mut u8, tl: usize) -> Opened;
-    fn vb_ingest_entry(s: State, a: *mut u8, al: usize, b: *mut u32, bl: usize, c: *mut u8, cl: usize, d: *mut u32, dl: usize, t: *mut u8, tl: usize, prune: *mut [u32; 2], pairs: usize, entry: Entry, token: *const u8, prevent: u8) -> Ingested;
+    fn vb_ingest_entry(s: State, a: *mut u8, al: usize, b: *mut u32, bl: usize, c: *mut u8, cl: usize, d: *mut u32, dl: usize, t: *mut u8, tl: usize, prune: *mut [u32; 2], pairs: usize, entry: Entry, token: *const u8, prevent: u8, origin: Origin) -> Ingested;
     fn vb_forget_entry(s: State, a: *mut u8, al: usize, b: *mut u32, bl: usize, c: *mut u8, cl: usize, d: *mut u32, dl: usize, t: *mut u8, tl: usize, subspace: Subspace, path: Path, expects: u8, digest: *const u8) -> Opened;
     fn vb_forget_area(s: State, a: *mut u8, al: usize, b: *mut u32, bl: usize, c: *mut u8, cl: usize, d: *mut u32, dl: usize, t: *mut u8, tl: usize, area: Area, protects: u8, protected: Area) -> AreaForgotten;
     fn vb_count_area(s: State, a: *const u8, al: usize, b: *const u32, bl: usize, c: *const u8, cl: usize, d: *const u32, dl: usize, area: Area) -> Counted;
     fn vb_query_area_place(s: State, a: *const u8, al: usize, b: *const u32, bl: usize, c: *const u8, cl: usize, d: *const u32, dl: usize, area: Area, ignore: Ignore, place: usize) -> Listed;
     fn vb_area_of_interest_to_range(s: State, a: *const u8, al: usize, b: *const u32, bl: usize, c: *const u8, cl: usize, d: *const u32, dl: usize, interest: Interest) -> AreaRange;
 }
-const RECORD: usize = 410;
-const ITEM: usize = 28;
-const EDITION: u32 = 5;
+const EDITION: u32 = 6;
 
 /// A record's key and value, read: what a call is handed.
 #[derive(Clone, Copy)]
@@ -137,21 +142,22 @@ pub struct Place {
     entry: Entry,
     token: [u8; 64],
 }
-/// The place of a subspace-first key, with the value that belongs to it, if any.
+/// The place of a subspace-first key, with the Rust's value that belongs to it, if any.
 pub fn place(key: &[u8], value: &[u8]) -> Place {
     let d = unsafe { vb_decode_spt_entry_key(key.as_ptr(), key.len()) };
     assert_eq!(d.refusal, 0);
-    let mut v = [0; 112];
-    v[..value.len()].copy_from_slice(value);
+    let (payload_length, value) = value.split_first_chunk().unwrap_or((&[0; 8], &[]));
+    let (payload_digest, value) = value.split_first_chunk().unwrap_or((&[0; 32], &[]));
+    let token = value.first_chunk().unwrap_or(&[0; 64]);
     let entry = Entry {
         namespace_id: [0; 16],
         subspace_id: d.subspace,
         path: d.path,
         timestamp: d.timestamp,
-        payload_length: u64::from_be_bytes(v[..8].try_into().unwrap()),
-        payload_digest: v[8..40].try_into().unwrap(),
+        payload_length: u64::from_be_bytes(*payload_length),
+        payload_digest: *payload_digest,
     };
-    Place { entry, token: v[40..104].try_into().unwrap() }
+    Place { entry, token: *token }
 }
 
 /// A store: its state and buffers.
@@ -187,11 +193,11 @@ impl Port {
         // Not zero before it is opened.
         let mut s = Port {
             state: State { namespace_id: [0; 16], count: 0, limit },
-            spt: vec![7; RECORD * limit],
+            spt: vec![7; RECORD_MOST as usize * limit],
             spt_dir: vec![7; 2 * limit],
-            tsp: vec![7; RECORD * limit],
+            tsp: vec![7; RECORD_MOST as usize * limit],
             tsp_dir: vec![7; 2 * limit],
-            tally: vec![7; ITEM * limit],
+            tally: vec![7; ITEM as usize * limit],
             prune: vec![[0; 2]; limit],
         };
         let o = call_mut!(vb_open, [[0u8; 16].as_ptr(), limit], s);
@@ -213,7 +219,8 @@ impl Port {
         self.state.count
     }
     fn file(&mut self, at: &Place, held: u8) -> usize {
-        let r = call_mut!(vb_ingest_entry, [self.state], self, self.prune.as_mut_ptr(), self.prune.len(), at.entry, at.token.as_ptr(), 0);
+        let local = Origin { remote: 0, session: 0 };
+        let r = call_mut!(vb_ingest_entry, [self.state], self, self.prune.as_mut_ptr(), self.prune.len(), at.entry, at.token.as_ptr(), 0, local);
         assert_eq!((r.refusal, r.obsolete, r.held), (0, 0, held));
         self.state = r.state;
         r.state.count

@@ -5,12 +5,14 @@
 //! area's range ending as 01 says); `hall` the same at 16/4/32; `wide` the same with many paths and times, so that the
 //! store grows to its limit of 64, 256 or 1,024; `refusals` the same with many openings, of limits and namespaces that
 //! refuse much, for the model; `calls` also those where document 01 differs (qarea, aoi, arange);
-//! `keys` and `raw`, which need no store, are in gen_keys.rs.
+//! `keys` and `raw`, which need no store, are in gen_keys.rs. Half of the ingestions name their origin (02, U6), by numbers of their own, so that all else is what it
+//! would be without them.
 //! In `in`, `shared`, `hall` and `wide` no two entries that are handed in since an opening tie (02, U3: the Rust stays the
 //! comparison for such sequences); in `refusals` and `calls` ties are common.
 use crate::call::{call, Call};
+use crate::gen_origins::any_origin;
 use crate::rng::Rng;
-use model::Entry;
+use model::{Entry, EntryOrigin};
 use std::io::Write;
 
 pub const KINDS: [&str; 8] = ["in", "shared", "hall", "wide", "refusals", "calls", "keys", "raw"];
@@ -26,6 +28,8 @@ pub struct Gen {
     pub paths: Vec<String>,
     /// Handed in since the opening, whatever became of it.
     handed: Vec<Entry>,
+    /// For the origins.
+    origins: Rng,
 }
 
 impl Gen {
@@ -41,12 +45,28 @@ impl Gen {
                     self.sent.truncate(sent);
                     continue;
                 }
-                Some(Call::Ingest(e, ..)) => self.handed.push(e),
+                Some(Call::Ingest(e, ..)) => {
+                    self.handed.push(e);
+                    return self.named(line);
+                }
                 Some(Call::Open(..)) => self.handed.clear(),
                 _ => {}
             }
             return line;
         }
+    }
+    /// An ingestion's line, half of the time with its origin.
+    fn named(&mut self, line: String) -> String {
+        if self.kind == "in" || self.origins.one_in(2) {
+            return line;
+        }
+        let origin = match any_origin(&mut self.origins) {
+            EntryOrigin::Local => "-".into(),
+            EntryOrigin::Remote(session) => session.to_string(),
+        };
+        // The namespace stands before it.
+        let namespace = if line.split(' ').count() == 8 { " 00" } else { "" };
+        format!("{line}{namespace} {origin}")
     }
     fn line(&mut self) -> String {
         if self.kind == "refusals" && self.r.one_in(25) {
@@ -166,7 +186,7 @@ pub fn write(seed: u64, n: u64, kind: &str, out: &mut impl Write) {
         return crate::gen_keys::write(seed, n, kind == "raw", out);
     }
     let max = if kind == "hall" { (16, 4, 32) } else { (64, 8, 128) };
-    let mut g = Gen { r: Rng(seed), kind: kind.into(), max, sent: vec![], paths: vec![], handed: vec![] };
+    let mut g = Gen { r: Rng(seed), kind: kind.into(), max, sent: vec![], paths: vec![], handed: vec![], origins: Rng(!seed ^ 0x0e16_1257_0000_0000) };
     if kind != "in" {
         let limits: &[&str] = if kind == "wide" { &["64", "256", "1024"] } else { &["4", "16", "64", "1024", "*"] };
         writeln!(out, "open 00 {}", g.r.pick(limits)).unwrap();

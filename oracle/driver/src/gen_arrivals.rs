@@ -2,7 +2,7 @@
 //! places, above and below them, elsewhere and at illegal paths, with lengths around the payload's and with digests that are right, wrong or not expected;
 //! between them resends, newer entries at the same places, ties, forgettings and filing again, and lookups and listings with flags.
 use crate::call::Call;
-use crate::gen_steps::Gen;
+use crate::gen_steps::{ingest, Gen};
 use crate::step::Front;
 use model::*;
 
@@ -79,7 +79,7 @@ impl Gen {
             return match self.a.r.below(8) {
                 0 => Call::Record(e.subspace, e.path, self.a.number(), Some(e.payload_digest).filter(|_| self.a.r.one_in(2))),
                 1 => Call::Unrecord(e.subspace, e.path, Some(e.payload_digest).filter(|_| self.a.r.one_in(2))),
-                _ => Call::Ingest(e, token, prevent),
+                _ => ingest(e, token, prevent),
             };
         };
         let e = x.entry.clone();
@@ -93,13 +93,13 @@ impl Gen {
                 Call::Unrecord(s, p, d)
             }
             // A resend, often with the token that it came with.
-            42..=48 => Call::Ingest(e, if self.a.r.one_in(3) { token } else { x.token }, prevent),
-            49..=55 => Call::Ingest(self.anew(&e), token, prevent),
-            56..=58 => Call::Ingest(self.tied(e), token, prevent),
-            59..=65 => Call::Ingest(self.arrives(), token, prevent),
+            42..=48 => ingest(e, if self.a.r.one_in(3) { token } else { x.token }, prevent),
+            49..=55 => ingest(self.anew(&e), token, prevent),
+            56..=58 => ingest(self.tied(e), token, prevent),
+            59..=65 => ingest(self.arrives(), token, prevent),
             66..=69 => Call::Forget(e.subspace, e.path.clone(), self.expected(&e)),
             // Filed again, or once more, as it came since the opening.
-            70..=74 if !self.sent.is_empty() => Call::Ingest(self.a.r.of(&self.sent), token, prevent),
+            70..=74 if !self.sent.is_empty() => ingest(self.a.r.of(&self.sent), token, prevent),
             75 => {
                 let a = Area { subspace: Some(e.subspace), ..self.a.area_around(&e) };
                 Call::ForgetArea(a, None)
@@ -135,6 +135,6 @@ impl Gen {
         for (k, v) in &list[..=self.a.r.at(list.len())] {
             at += k.len() + v.len();
         }
-        Front::Changed(which, (at - 1 - self.a.r.at(8)) as u64, self.a.r.next() as u32)
+        Front::Changed(which, (at - ORIGIN - 1 - self.a.r.at(8)) as u64, self.a.r.next() as u32)
     }
 }

@@ -36,6 +36,8 @@ impl Gen {
             Call::Ingest(..) if self.kind == "held" && self.a.r.one_in(12) => return Front::Changed(4, self.a.r.below(ITEM), self.a.r.next() as u32),
             // An available length in one tree alone.
             _ if self.kind == "arrivals" && on_store(call) && self.a.r.one_in(40) => return self.one_tree(),
+            // An origin that is none, or another in one tree; a tree that has no room for origins.
+            _ if self.kind == "origins" && on_store(call) && self.a.r.one_in(if matches!(call, Call::Ingest(..) | Call::Entry(..)) { 16 } else { 3 }) => return self.wrong_origin(),
             _ if !on_store(call) || !self.a.r.one_in(14) => return Front::Plain,
             _ => {}
         }
@@ -49,7 +51,7 @@ impl Gen {
             _ => {
                 let which = self.a.r.at(4 + changes(call) as usize);
                 // Mostly where records, or items, lie.
-                let used = [150 * count + 60, 2 * count + 2, 150 * count + 60, 2 * count + 2, ITEM * (items(self.judge.store.entries()).len() as u64 + 1)][which];
+                let used = [159 * count + 60, 2 * count + 2, 159 * count + 60, 2 * count + 2, ITEM * (items(self.judge.store.entries()).len() as u64 + 1)][which];
                 let any = self.a.r.next();
                 let at = self.a.r.of(&[any % used, any % used, any]);
                 Front::Changed(which, at, self.a.r.next() as u32)

@@ -1,16 +1,18 @@
 //! Random sequences of steps over all values (gen_any.rs). The generator keeps a model of its own, so that it can ask for
 //! what is stored. KIND: `untied`, without ties among the entries that are handed in, so that the Rust stays the comparison
 //! (02, U3); `tied`, with many; `held`, mostly what is stored once more, or nearly; `full`, stores of up to 1,024 entries,
-//! filled and kept full; `values`, calls that need no store; `arrivals`, how much of a payload has arrived (gen_arrivals.rs).
-//! The same seed gives the same steps.
+//! filled and kept full; `values`, calls that need no store; `arrivals`, how much of a payload has arrived (gen_arrivals.rs);
+//! `origins`, where an entry came from (gen_origins.rs). The same seed gives the same steps.
 use crate::answer::Answer;
 use crate::call::Call;
 use crate::gen_any::Any;
+use crate::gen_origins::any_origin;
 use crate::judge::Judge;
+use crate::rng::Rng;
 use crate::step::{Front, Step};
 use model::*;
 
-pub const KINDS: [&str; 6] = ["untied", "tied", "held", "full", "values", "arrivals"];
+pub const KINDS: [&str; 7] = ["untied", "tied", "held", "full", "values", "arrivals", "origins"];
 
 pub struct Gen {
     pub a: Any,
@@ -18,6 +20,13 @@ pub struct Gen {
     pub judge: Judge,
     /// Handed in since the last opening that was not refused.
     pub sent: Vec<Entry>,
+    /// Forgotten since then, with the origin that it had (`origins`).
+    pub gone: Vec<(Entry, EntryOrigin)>,
+}
+
+/// An ingestion whose origin is yet to be drawn.
+pub fn ingest(e: Entry, token: Token, prevent: bool) -> Call {
+    Call::Ingest(e, token, prevent, EntryOrigin::Local)
 }
 
 impl Gen {
@@ -25,7 +34,7 @@ impl Gen {
         let limits: &[u64] = match &self.kind[..] {
             "full" => &[1024, 1024, 1024, 1024, 1023, 700],
             "held" => &[1, 2, 2, 3, 4, 6, 8, 16, 32],
-            "arrivals" => &[1, 2, 3, 4, 6, 8, 12, 16, 24],
+            "arrivals" | "origins" => &[1, 2, 3, 4, 6, 8, 12, 16, 24],
             _ => &[1, 2, 4, 8, 16, 24, 32, 48, 64, 64, 64, 64, 100, 200],
         };
         let namespace = if self.a.r.one_in(4) { [0; 16] } else { self.a.subspace() };
@@ -87,7 +96,7 @@ impl Gen {
     /// What is stored once more, with any token, flag or namespace; or at its place with another digest, length or time; or tied with it. Some available
     /// lengths, and little else.
     fn again(&mut self) -> Call {
-        let Some(x) = self.stored() else { return Call::Ingest(Entry { namespace: self.judge.store.namespace, ..self.a.entry([0; 16]) }, self.a.token(), self.a.r.one_in(3)) };
+        let Some(x) = self.stored() else { return ingest(Entry { namespace: self.judge.store.namespace, ..self.a.entry([0; 16]) }, self.a.token(), self.a.r.one_in(3)) };
         let (mut e, other) = (x.entry.clone(), self.a.token());
         let token = if self.a.r.one_in(2) { other } else { x.token };
         match self.a.r.below(100) {
@@ -112,7 +121,7 @@ impl Gen {
             87..=91 => e = Entry { namespace: e.namespace, ..self.a.entry([0; 16]) },
             _ => return self.store_call(),
         }
-        Call::Ingest(e, token, self.a.r.one_in(3))
+        ingest(e, token, self.a.r.one_in(3))
     }
     /// Of many subspaces and paths, so that little is pruned.
     fn filler(&mut self) -> Call {
@@ -122,9 +131,9 @@ impl Gen {
         let path = (0..1 + r.below(3)).map(|_| (0..1 + r.below(3)).map(|_| r.next() as u8).collect()).collect();
         let (timestamp, prevent) = (r.next() >> r.below(64), r.one_in(4));
         let e = Entry { namespace: self.judge.store.namespace, subspace, path, timestamp, payload_length: self.a.length(), payload_digest: self.a.digest() };
-        Call::Ingest(e, self.a.token(), prevent)
+        ingest(e, self.a.token(), prevent)
     }
-    fn interest(&mut self) -> Call {
+    pub fn interest(&mut self) -> Call {
         let e = self.about();
         let mut a = self.a.area_around(&e);
         // Often wide, so that several match.
@@ -162,7 +171,7 @@ impl Gen {
         match self.a.r.below(100) {
             0..=40 => {
                 let (e, k) = self.entry();
-                Call::Ingest(e, k, self.a.r.one_in(4))
+                ingest(e, k, self.a.r.one_in(4))
             }
             41..=44 => {
                 let mut d = e.payload_digest;
@@ -299,16 +308,23 @@ impl Gen {
         match &self.kind[..] {
             "held" => self.again(),
             "arrivals" => self.arrival(),
+            "origins" => self.from_elsewhere(),
             _ => self.store_call(),
         }
     }
 }
 
 pub fn steps(seed: u64, n: u64, kind: &str) -> Vec<Step> {
-    let mut g = Gen { a: Any::new(seed), kind: kind.into(), judge: Judge { store: Store::closed(FIELD) }, sent: vec![] };
-    let mut out = vec![];
+    let mut g = Gen { a: Any::new(seed), kind: kind.into(), judge: Judge { store: Store::closed(FIELD) }, sent: vec![], gone: vec![] };
+    // Numbers of their own for the origins, so that all else is what it would be without them.
+    let (mut out, mut origins) = (vec![], Rng(!seed ^ 0x0e16_1257_0000_0000));
     for i in 0..n {
-        let call = if i == 0 && kind != "values" { g.open() } else { g.call() };
+        let mut call = if i == 0 && kind != "values" { g.open() } else { g.call() };
+        if let Call::Ingest(_, _, _, origin) = &mut call {
+            if kind != "origins" {
+                *origin = any_origin(&mut origins);
+            }
+        }
         let front = if i == 0 { Front::Plain } else { g.front(&call) };
         let salt = if g.a.r.one_in(12) { 0 } else { g.a.r.next() };
         if let Call::Ingest(e, ..) = &call {
@@ -317,6 +333,7 @@ pub fn steps(seed: u64, n: u64, kind: &str) -> Vec<Step> {
         // What the generator knows is what the call does where nothing is wrong with what it is handed.
         if front == Front::Plain && g.judge.exec(&call) == Answer::Opened {
             g.sent.clear();
+            g.gone.clear();
         }
         out.push(Step { call, front, salt });
     }

@@ -15,7 +15,7 @@ impl Judge {
         Judge { store: Store::open([0; 16], limit, bounds).unwrap() }
     }
     fn list(&self, places: Vec<u64>) -> Answer {
-        Answer::List(places.into_iter().map(|i| self.store.entries()[i as usize].clone()).collect())
+        Answer::List(places.into_iter().map(|i| self.store.entries()[i as usize].clone().into()).collect())
     }
     /// Of calls that need no store: 4 if one of the paths is illegal.
     fn legal(&self, paths: &[&Path], f: impl Fn() -> Answer) -> Answer {
@@ -31,12 +31,12 @@ impl Judge {
                 self.store = opened.unwrap_or(Store::closed(b));
                 answer
             }
-            Call::Ingest(e, token, prevent) => self.store.ingest(e, token, *prevent).into(),
+            Call::Ingest(e, token, prevent, origin) => self.store.ingest(e, token, *prevent, *origin).into(),
             Call::Forget(s, p, d) => either(self.store.forget_entry(s, p, d.as_ref()), |_| Answer::Done),
             Call::Record(s, p, n, d) => either(self.store.record_available_length(s, p, d.as_ref(), *n), |_| Answer::Done),
             Call::Unrecord(s, p, d) => either(self.store.forget_payload(s, p, d.as_ref()), |_| Answer::Done),
             Call::ForgetArea(a, protected) => either(self.store.forget_area(a, protected.as_ref()), Answer::Forgot),
-            Call::Entry(s, p, ignore) => either(self.store.entry(s, p, *ignore), Answer::Found),
+            Call::Entry(s, p, ignore) => either(self.store.entry(s, p, *ignore), |x| Answer::Found(x.map(Into::into))),
             Call::QueryArea(a, ignore) | Call::IncludedIn(a, ignore) => {
                 either(self.store.query_area(a, *ignore), |l| self.list(l))
             }

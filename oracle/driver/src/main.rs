@@ -2,16 +2,16 @@
 //! oracle list               document 01's listing program, likewise
 //! oracle calls held [hall]  the calls with the model beside the Rust: where the model says held, `held` and the Rust's own answer, and its trees
 //!                           are put back if that changed them (`held back` and the answer); above a stored extension that ties, `tied`, the
-//!                           answer with that put back, and the Rust's own in brackets
+//!                           answer with that put back, and the Rust's own in brackets; origins, which the Rust has not, as the model has them
 //! oracle list held          the listing program, likewise
 //! oracle model [hall]       the call language, answered by the model of the papers; not the Rust
 //! oracle list model         the listing program over the model; not the Rust
 //! oracle like [hall]        the calls themselves, without those that the Rust answers `unlike` (for vectors/)
-//! oracle gen SEED N KIND    N random calls; KIND: in, shared, hall, wide, refusals, calls, keys, raw, untied, tied, held, full, values, arrivals
+//! oracle gen SEED N KIND    N random calls; KIND: in, shared, hall, wide, refusals, calls, keys, raw, untied, tied, held, full, values, arrivals, origins
 //! oracle bench              the Rust's speed
 //! oracle exhaust            all short sequences of a small set of ingests, the Rust beside the model
 //! oracle paths              successor and greater_but_not_prefixed against a walk over all short paths
-use driver::answer::Answer;
+use driver::answer::{Answer, Shown};
 use driver::call::*;
 use driver::judge::Judge;
 use driver::show::{short, show, show_call};
@@ -47,7 +47,7 @@ fn list(input: &[u8], out: &mut impl Write, mut exec: impl FnMut(&Call) -> Answe
     }
 }
 
-fn at_end(all: &[model::Stored], out: &mut impl Write) {
+fn at_end(all: &[Shown], out: &mut impl Write) {
     writeln!(out, "list {}", all.len()).unwrap();
     for x in all {
         writeln!(out, "{}", short(&x.entry)).unwrap();
@@ -117,7 +117,7 @@ fn main() {
         ["list", "model"] => {
             let mut m = Judge::limited(64, FIELD);
             list(&input, &mut out, |c| m.exec(c));
-            at_end(m.store.entries(), &mut out)
+            at_end(&m.store.entries().iter().cloned().map(Shown::from).collect::<Vec<_>>(), &mut out)
         }
         ["gen", seed, n, kind] => match (seed.parse(), n.parse()) {
             (Ok(seed), Ok(n)) if gen::KINDS.contains(&kind) => gen::write(seed, n, kind, &mut out),

@@ -1,13 +1,15 @@
 //! ORACLE: the customer's Rust, called. Every answer below comes out of the unchanged files, but for what this driver
 //! does itself: the limit (refusal 8: the call is made, and taken back if the count then exceeds the limit), the names
 //! of the outcomes, `unlike` (README.md), `spt01` and `tsp01`, which are the model's and say so in their names, and
-//! `resend` and `beside_ties`, which put back what 02's U2 and U3 want unchanged.
-use crate::answer::Answer;
+//! `resend` and `beside_ties`, which put back what 02's U2 and U3 want unchanged, and `compared`, which reckons pairs with the
+//! nine bytes of 02's U6.
+use crate::answer::{Answer, Shown};
 use crate::call::*;
 use crate::convert::*;
+use crate::cuts;
 use crate::params::*;
 use crate::tally::counted;
-use model::{Bounds, Ignore, Pair, Recency, Stored, Token};
+use model::{Bounds, Ignore, Pair, Recency, Token};
 use std::panic::{catch_unwind, AssertUnwindSafe};
 use std::rc::Rc;
 use ufotofu_codec::block_on;
@@ -29,6 +31,8 @@ pub struct Oracle<const MCL: usize, const MCC: usize, const MPL: usize> {
     pub db: sled::Db,
     limit: Option<u64>,
     bend: bool,
+    /// With how many bytes more a record the pairs of a prune list are reckoned.
+    longer: usize,
 }
 
 /// In what way the Rust's answer was come by, with the model's beside it.
@@ -61,7 +65,11 @@ impl<const MCL: usize, const MCC: usize, const MPL: usize> Oracle<MCL, MCC, MPL>
     pub fn open(n: Ns, limit: Option<u64>) -> Self {
         let db = sled::Db::default();
         let store = Rc::new(St::new(&n, db.clone()).unwrap());
-        Oracle { store, db, limit, bend: false }
+        Oracle { store, db, limit, bend: false, longer: 0 }
+    }
+    /// For the comparison with the port: pairs are reckoned as they are with its records (cuts.rs).
+    pub fn compared(n: Ns, limit: Option<u64>) -> Self {
+        Oracle { longer: cuts::LONGER, ..Self::open(n, limit) }
     }
     pub fn tree(&self, tsp: bool) -> sled::Tree {
         self.db.open_tree([tsp as u8]).unwrap()
@@ -86,30 +94,41 @@ impl<const MCL: usize, const MCC: usize, const MPL: usize> Oracle<MCL, MCC, MPL>
             }
         }
     }
-    pub fn list(&self) -> Vec<Stored> {
+    pub fn list(&self) -> Vec<Shown> {
         self.range_list(&g::Range3d::new_full(), ALL)
     }
-    fn range_list(&self, r: &g::Range3d<MCL, MCC, MPL, Sub>, i: Ignore) -> Vec<Stored> {
+    fn range_list(&self, r: &g::Range3d<MCL, MCC, MPL, Sub>, i: Ignore) -> Vec<Shown> {
         let s = self.store.clone();
         drain(RbsrStore::<MCL, MCC, MPL, Ns, Sub, Dig, Tok, NoPrint>::query_range(s, r, ignore(i)))
     }
-    fn area_list(&self, a: &g::Area<MCL, MCC, MPL, Sub>, i: Ignore) -> Vec<Stored> {
+    fn area_list(&self, a: &g::Area<MCL, MCC, MPL, Sub>, i: Ignore) -> Vec<Shown> {
         let mut l = self.range_list(&g::Range3d::new_full(), i);
         l.retain(|x| a.includes_triplet(&Sub(x.entry.subspace), &path(&x.entry.path).unwrap(), x.entry.timestamp));
         l
     }
     /// The place in the whole listing of the first of these entries at or after a place.
-    fn next(&self, listed: Vec<Stored>, from: u64) -> Answer {
+    fn next(&self, listed: Vec<Shown>, from: u64) -> Answer {
         let all = self.list();
-        let place = |x: &Stored| all.iter().position(|y| x == y).unwrap() as u64;
+        let place = |x: &Shown| all.iter().position(|y| x == y).unwrap() as u64;
         Answer::Next(listed.iter().map(place).find(|n| *n >= from))
     }
 
-    pub fn ingest(&self, e: &model::Entry, k: &Token, prevent: bool) -> Out<Answer> {
+    /// Offset and length of each record of the subspace-first tree.
+    fn pairs(&self, records: &Raw) -> Vec<Pair> {
+        let mut at = 0;
+        let place = |(k, v): &(sled::IVec, sled::IVec)| {
+            let pair = (at, (k.len() + v.len() + self.longer) as u32);
+            at += pair.1;
+            pair
+        };
+        records.iter().map(place).collect()
+    }
+
+    pub fn ingest(&self, e: &model::Entry, k: &Token, prevent: bool, from: model::EntryOrigin) -> Out<Answer> {
         let authed = AuthorisedEntry::new(entry(e)?, Tok(*k)).unwrap();
         let before = self.both();
         self.tree(false).take_journal();
-        match block_on(self.store.ingest_entry(authed, prevent, EntryOrigin::Local)) {
+        match block_on(self.store.ingest_entry(authed, prevent, origin(from))) {
             Ok(EntryIngestionSuccess::Success) => {}
             Ok(EntryIngestionSuccess::Obsolete { newer, .. }) => {
                 let newer = unentry(&newer, 0);
@@ -123,11 +142,7 @@ impl<const MCL: usize, const MCC: usize, const MPL: usize> Oracle<MCL, MCC, MPL>
             return Ok(Answer::Refused(8));
         }
         // keys_to_prune, as the batch had them, as offset and length in the tree before the call.
-        let (mut at, mut places) = (0, std::collections::BTreeMap::new());
-        for (k, v) in &before[0] {
-            places.insert(k.clone(), (at as u32, (k.len() + v.len()) as u32));
-            at += k.len() + v.len();
-        }
+        let places: std::collections::BTreeMap<_, _> = before[0].iter().map(|(k, _)| k.clone()).zip(self.pairs(&before[0])).collect();
         let pruned = self.tree(false).take_journal().into_iter().filter(|w| w.1.is_none());
         Ok(Answer::Taken(pruned.map(|(k, _)| places[&k]).collect()))
     }
@@ -137,10 +152,9 @@ impl<const MCL: usize, const MCC: usize, const MPL: usize> Oracle<MCL, MCC, MPL>
         let (key, length) = (model::key(e, false), e.payload_length.to_be_bytes());
         // The subspace and the components, each with its end: the keys at the path and below begin so, and no other.
         let (stem, time) = (&key[..key.len() - 10], &key[key.len() - 8..]);
-        let (mut at, mut out) = (0, vec![]);
-        for (k, v) in self.raw(false) {
-            let pair = (at, (k.len() + v.len()) as u32);
-            at += pair.1;
+        let (records, mut out) = (self.raw(false), vec![]);
+        let pairs = self.pairs(&records);
+        for ((k, v), pair) in records.into_iter().zip(pairs) {
             if k.starts_with(stem) {
                 let rank = (&k[k.len() - 8..], &v[8..40], &v[..8]).cmp(&(time, &e.payload_digest, &length));
                 if rank.is_le() {
@@ -153,9 +167,9 @@ impl<const MCL: usize, const MCC: usize, const MPL: usize> Oracle<MCL, MCC, MPL>
 
     /// An ingestion of an entry that no stored one outdates, where something is to go by 01's rule. The Rust must answer and file just that: with
     /// pruning prevented it refuses with 7 and changes nothing, else it names all that goes, and files the entry with its token and available length 0.
-    fn by_01(&mut self, e: &model::Entry, token: &Token, prevent: bool) -> Result<(Answer, Vec<Outdated>), String> {
+    fn by_01(&mut self, e: &model::Entry, token: &Token, prevent: bool, from: model::EntryOrigin) -> Result<(Answer, Vec<Outdated>), String> {
         let (before, gone) = (self.both(), self.outdated(e));
-        let answer = self.exec(&Call::Ingest(e.clone(), *token, prevent));
+        let answer = self.exec(&Call::Ingest(e.clone(), *token, prevent, from));
         let wanted = if prevent { Answer::Refused(7) } else { Answer::Taken(gone.iter().map(|g| g.pair).collect()) };
         if gone.is_empty() || answer != wanted {
             return Err(format!("an ingestion of {e:?}, prevented {prevent}: the Rust says {answer:?}, by 01's rule it is {wanted:?}"));
@@ -178,9 +192,9 @@ impl<const MCL: usize, const MCC: usize, const MPL: usize> Oracle<MCL, MCC, MPL>
     /// stored one the extensions that tie; with pruning prevented it refuses with 7 (`by_01`). Its trees are then put back, if they
     /// are not as they were by themselves: if the token is another, the available length was not 0, or an extension went. The Rust's
     /// own answer, and whether anything was put back.
-    fn resend(&mut self, e: &model::Entry, token: &Token, prevent: bool) -> Result<(Answer, bool), String> {
+    fn resend(&mut self, e: &model::Entry, token: &Token, prevent: bool, from: model::EntryOrigin) -> Result<(Answer, bool), String> {
         let before = self.both();
-        let (answer, gone) = self.by_01(e, token, prevent)?;
+        let (answer, gone) = self.by_01(e, token, prevent, from)?;
         if !gone[0].own || !gone.iter().all(|g| g.same) {
             return Err(format!("{e:?} is held, and the Rust has it not, or something older below it"));
         }
@@ -195,15 +209,15 @@ impl<const MCL: usize, const MCC: usize, const MPL: usize> Oracle<MCL, MCC, MPL>
     /// pruning prevented it refuses on their account too (`by_01`); by 02's U3 they stay, and nobody asks whether they may go. So, unless something older is
     /// there to be protected, the Rust is asked once more without the flag; then what ties is put back into both trees, and they are put back as they were if
     /// they hold more than the limit. The Rust's own answer, and what it is then.
-    fn beside_ties(&mut self, e: &model::Entry, token: &Token, prevent: bool) -> Result<(Answer, Answer), String> {
+    fn beside_ties(&mut self, e: &model::Entry, token: &Token, prevent: bool, from: model::EntryOrigin) -> Result<(Answer, Answer), String> {
         let before = self.both();
-        let (answer, gone) = self.by_01(e, token, prevent)?;
+        let (answer, gone) = self.by_01(e, token, prevent, from)?;
         let (ties, older): (Vec<_>, Vec<_>) = gone.into_iter().partition(|g| g.same);
         if prevent {
             if !older.is_empty() {
                 return Ok((answer, Answer::Refused(7)));
             }
-            self.by_01(e, token, false)?;
+            self.by_01(e, token, false, from)?;
         }
         for (time_first, was) in [false, true].into_iter().zip(&before) {
             for (k, v) in was.iter().filter(|(k, _)| ties.iter().any(|g| k[..] == turned(&g.key, time_first)[..])) {
@@ -226,9 +240,9 @@ impl<const MCL: usize, const MCC: usize, const MPL: usize> Oracle<MCL, MCC, MPL>
     /// A call with the model's answer to it beside: where the two part by 02's U2 or U3, as above. The Rust's own answer, and in what way it was come by.
     pub fn beside(&mut self, call: &Call, model: &Answer) -> Result<(Answer, Way), String> {
         match (call, model) {
-            (Call::Ingest(e, token, prevent), Answer::Held) => self.resend(e, token, *prevent).map(|(answer, back)| (answer, Way::Held(back))),
-            (Call::Ingest(e, token, prevent), Answer::Taken(_) | Answer::Refused(7 | 8)) if self.ties(e) => {
-                self.beside_ties(e, token, *prevent).map(|(answer, then)| (answer, Way::Tied(then)))
+            (Call::Ingest(e, token, prevent, from), Answer::Held) => self.resend(e, token, *prevent, *from).map(|(answer, back)| (answer, Way::Held(back))),
+            (Call::Ingest(e, token, prevent, from), Answer::Taken(_) | Answer::Refused(7 | 8)) if self.ties(e) => {
+                self.beside_ties(e, token, *prevent, *from).map(|(answer, then)| (answer, Way::Tied(then)))
             }
             _ => Ok((self.exec(call), Way::Plain)),
         }
@@ -260,10 +274,10 @@ impl<const MCL: usize, const MCC: usize, const MPL: usize> Oracle<MCL, MCC, MPL>
         let st = &self.store;
         Ok(match call {
             Call::Open(n, l) => {
-                *self = Self::open(Ns(*n), *l);
+                *self = Oracle { longer: self.longer, ..Self::open(Ns(*n), *l) };
                 Answer::Opened
             }
-            Call::Ingest(e, k, prevent) => self.ingest(e, k, *prevent)?,
+            Call::Ingest(e, k, prevent, from) => self.ingest(e, k, *prevent, *from)?,
             Call::Forget(s, p, d) => match block_on(st.forget_entry(&Sub(*s), &path(p)?, d.map(Dig))) {
                 Ok(()) => Answer::Done,
                 Err(ForgetEntryError::WrongEntry) => Answer::Refused(9),
@@ -358,7 +372,7 @@ impl<const MCL: usize, const MCC: usize, const MPL: usize> Oracle<MCL, MCC, MPL>
             Call::Poke(..) => Answer::Said("the Rust keeps no tally".into()),
             // Its `forget_payload` is about stored payloads and meets others' (`fpayload`): no reference for 02's U4.
             Call::Record(..) | Call::Unrecord(..) => Answer::Said("the Rust has no such call".into()),
-            // A poke from outside into the last eight bytes of the value, in both trees; never above the payload length.
+            // A poke from outside into the last eight bytes of the Rust's value, in both trees; never above the payload length.
             Call::Avail(s, p, n) => {
                 let p: Path<MCL, MCC, MPL> = path(p)?;
                 let Some(e) = block_on(st.entry(&Sub(*s), &p, ignore(ALL))).unwrap() else {
@@ -366,11 +380,11 @@ impl<const MCL: usize, const MCC: usize, const MPL: usize> Oracle<MCL, MCC, MPL>
                 };
                 let x = unentry(e.entry(), 0);
                 let one = Self::open(Ns(x.entry.namespace), None);
-                one.ingest(&x.entry, &x.token, false)?;
+                one.ingest(&x.entry, &x.token, false, model::EntryOrigin::Local)?;
                 for tsp in [false, true] {
                     let (k, v) = one.raw(tsp).remove(0);
                     let mut v = v.to_vec();
-                    v[104..].copy_from_slice(&(*n).min(x.entry.payload_length).to_be_bytes());
+                    *v.last_chunk_mut().unwrap() = (*n).min(x.entry.payload_length).to_be_bytes();
                     self.tree(tsp).insert(k, v).unwrap();
                 }
                 Answer::Done

@@ -7,6 +7,7 @@
 //! (missing/path/builder.rs), the time in what the call then writes or answers.
 use crate::answer::Answer;
 use crate::convert::*;
+use crate::cuts::RUST_VALUE;
 use crate::oracle::*;
 use crate::params::*;
 use model::{Path as Comps, Subspace};
@@ -18,7 +19,7 @@ impl<const MCL: usize, const MCC: usize, const MPL: usize> Oracle<MCL, MCC, MPL>
     /// A store whose one tree holds this key with a value of zeros.
     fn of_key(time_first: bool, key: &[u8]) -> Self {
         let o = Self::open(Ns::default(), None);
-        o.tree(time_first).insert(key, &[0u8; 112]).unwrap();
+        o.tree(time_first).insert(key, &[0u8; RUST_VALUE]).unwrap();
         o
     }
 
@@ -32,7 +33,7 @@ impl<const MCL: usize, const MCC: usize, const MPL: usize> Oracle<MCL, MCC, MPL>
             payload_length: 0,
             payload_digest: [0; 32],
         };
-        o.ingest(&e, &[0; 64], false)?;
+        o.ingest(&e, &[0; 64], false, model::EntryOrigin::Local)?;
         let key = |time_first| o.raw(time_first)[0].0.to_vec();
         Ok(Answer::Keys(key(false), key(true)))
     }

@@ -1,5 +1,5 @@
 //! The line language's printing: each value in the shortest form that the language has for it.
-use crate::answer::{Answer, Records};
+use crate::answer::{Answer, Records, Shown};
 use crate::call::Call;
 use model::*;
 
@@ -34,9 +34,17 @@ pub fn short(e: &Entry) -> String {
     let (s, p, d) = (show_last(&e.subspace), show_path(&e.path), show_fill(&e.payload_digest));
     format!("{s} {p} {} {} {d}", e.timestamp, e.payload_length)
 }
-/// And the token and the available length.
-fn full(x: &Stored) -> String {
-    format!("{} {} {}", short(&x.entry), show_fill(&x.token), x.available)
+/// - for local, or the session of a remote one.
+fn origin(o: EntryOrigin) -> String {
+    match o {
+        EntryOrigin::Local => "-".into(),
+        EntryOrigin::Remote(session) => session.to_string(),
+    }
+}
+/// And the token, the available length and the origin, which the Rust's has not.
+fn full(x: &Shown) -> String {
+    let last = x.origin.map_or(String::new(), |o| format!(" {}", origin(o)));
+    format!("{} {} {}{last}", short(&x.entry), show_fill(&x.token), x.available)
 }
 fn range<T>(r: &Range<T>, f: impl Fn(&T) -> String) -> String {
     format!("{} {}", f(&r.start), show_open(&r.end, f))
@@ -110,9 +118,10 @@ pub fn show_call(c: &Call) -> String {
     let areas = |a: &Area, p: &Option<Area>| format!("{}{}", area(a), p.as_ref().map_or(String::new(), |p| format!(" {}", area(p))));
     match c {
         Call::Open(n, l) => format!("open {} {}", show_last(n), show_open(l, u64::to_string)),
-        Call::Ingest(e, k, prevent) => {
-            let n = if e.namespace == [0; 16] { String::new() } else { format!(" {}", show_last(&e.namespace)) };
-            format!("ingest {} {} {}{n}", *prevent as u8, short(e), show_fill(k))
+        Call::Ingest(e, k, prevent, from) => {
+            let o = if *from == EntryOrigin::Local { String::new() } else { format!(" {}", origin(*from)) };
+            let n = if e.namespace == [0; 16] && o.is_empty() { String::new() } else { format!(" {}", show_last(&e.namespace)) };
+            format!("ingest {} {} {}{n}{o}", *prevent as u8, short(e), show_fill(k))
         }
         Call::Forget(s, p, d) => format!("forget {}{}", triple(s, p), digest(d)),
         Call::ForgetArea(a, p) => format!("farea {}", areas(a, p)),

@@ -1,6 +1,6 @@
 //! A call, and how it is made.
 use crate::call::Call;
-use model::Entry;
+use model::{Entry, ORIGIN};
 
 #[derive(Clone, Debug)]
 pub struct Step {
@@ -23,6 +23,8 @@ pub enum Front {
     Short(usize, usize),
     /// A byte of a tree (0, 2) or of the tally (4), or a number of a directory (1, 3), at a place modulo its room, is changed by so much.
     Changed(usize, u64, u32),
+    /// The origin of the entry at this place of the listing, in both trees: another kind, or local with a number.
+    Origin(usize, [u8; ORIGIN]),
 }
 
 /// How many entries are handed in, and how many of them tie with one that was handed in before since the opening, whatever became of it. An opening that is

@@ -1,6 +1,6 @@
 //! together KIND FROM TO N ..: for each seed from FROM to TO, N random calls of that KIND go through the customer's Rust, the
 //! model and the port in one process (three/mod.rs). KIND: keys, raw, shared, wide, refusals (the call language's), untied,
-//! tied, held, full, values (gen_steps.rs), and arrivals (gen_arrivals.rs), in which the Rust is not asked: it has not the calls. The kind `short` is not random: FROM and TO are of 1 to 32, and for each of these all
+//! tied, held, full, values (gen_steps.rs), and arrivals (gen_arrivals.rs) and origins (gen_origins.rs), in which the Rust is not asked: it has not the calls. The kind `short` is not random: FROM and TO are of 1 to 32, and for each of these all
 //! sequences of up to three of 32 ingests (walks.rs) that begin with it are made, each after an opening of limit N. Prints for each run
 //! how many calls were judged by whom, what was skipped and how many entries tie with one before, and then how often each thing occurred in
 //! all of them. Ends with 1 at the first difference, with the fewest steps that show one.
@@ -16,6 +16,8 @@ use driver::{gen, gen_steps, walks};
 use std::collections::BTreeMap;
 
 const LINES: [&str; 5] = ["keys", "raw", "shared", "wide", "refusals"];
+/// Judged by the model alone, each with rows of its own.
+const ALONE: [&str; 2] = ["arrivals", "origins"];
 
 /// The steps of a seed, and how many lines were no call.
 fn steps(seed: u64, n: u64, kind: &str) -> (Vec<Step>, u64) {
@@ -67,7 +69,7 @@ fn main() {
             let (ingests, some) = ties(steps.iter().filter(|s| s.front == Front::Plain || !matches!(s.call, Call::Open(..))).map(|s| &s.call));
             assert!(some == 0 || !gen::UNTIED.contains(&kind) && kind != "untied", "{kind} has ties");
             tied = (tied.0 + ingests, tied.1 + some);
-            assert!(kind == "arrivals" || !steps.iter().any(|s| records(&s.call)), "{kind} has calls that the Rust has not");
+            assert!(ALONE.contains(&kind) || !steps.iter().any(|s| records(&s.call)), "{kind} has calls that the Rust has not");
             if let Err((at, _)) = run(&steps, &mut occurred, &mut judged) {
                 println!("{kind}, seed {seed}, step {at}:");
                 let (few, words) = smallest(&steps);
@@ -85,8 +87,8 @@ fn main() {
         println!("; {} of {} entries tie with one before; {bad} lines are no call", tied.1, tied.0);
     }
     let mut low = 0;
-    let arrivals = |job: &[&str]| job[0] == "arrivals";
-    for (row, n) in table.all(args.chunks(4).any(arrivals), !args.chunks(4).all(arrivals)) {
+    let kinds: Vec<&str> = args.iter().step_by(4).copied().collect();
+    for (row, n) in table.all(kinds.contains(&ALONE[0]), kinds.contains(&ALONE[1]), kinds.iter().any(|k| !ALONE.contains(k))) {
         let rare = n < least;
         low += rare as u64;
         println!("{n:>9}  {row}{}", if rare { "    HARDLY REACHED" } else { "" });

@@ -2,6 +2,7 @@
 //! (02, U3), is made in the Rust all the same, and its trees are put right where it changes them otherwise, so that both go on with the same entries.
 use crate::answer::Answer;
 use crate::call::Call;
+use crate::cuts::cut;
 use crate::judge::Judge;
 use crate::oracle::{Oracle, Way};
 use crate::show::show;
@@ -23,7 +24,7 @@ impl Answers {
     /// is the model's.
     pub fn alike(&self) -> bool {
         match &self.way {
-            Way::Plain => self.rust == self.model,
+            Way::Plain => self.rust == cut(&self.model),
             Way::Held(_) => true,
             Way::Tied(then) => *then == self.model,
         }
@@ -35,22 +36,23 @@ impl<const MCL: usize, const MCC: usize, const MPL: usize> WithModel<MCL, MCC, M
     pub fn open(limit: Option<u64>) -> Self {
         let bounds = Bounds { component: MCL, count: MCC, total: MPL };
         let judge = limit.map_or(Judge::unlimited(bounds), |limit| Judge::limited(limit, bounds));
-        WithModel { rust: Oracle::open(Default::default(), limit), judge }
+        WithModel { rust: Oracle::compared(Default::default(), limit), judge }
     }
     pub fn exec(&mut self, call: &Call) -> Answers {
         let model = self.judge.exec(call);
         let (rust, way) = self.rust.beside(call, &model).unwrap_or_else(|words| panic!("{words}"));
         Answers { rust, model, way }
     }
-    /// The Rust's answer; of a resend `held`, then ` back` if its trees were put back, then the Rust's own answer; beside ties, if they alter the answer, `tied`,
+    /// The Rust's answer, with the origins that it lacks where all else is the model's (cuts.rs); of a resend `held`, then ` back` if its trees were put back, then the Rust's own answer; beside ties, if they alter the answer, `tied`,
     /// then what it is with these put back, then the Rust's own in brackets.
     pub fn told(&mut self, call: &Call) -> Answer {
         let a = self.exec(call);
         if let Way::Tied(then) = &a.way {
             assert!(*then == a.model, "beside ties the Rust, with these put back, says {then:?}, the model {:?}", a.model);
         }
+        let alike = a.alike();
         match a.way {
-            Way::Plain => a.rust,
+            Way::Plain => if alike { a.model } else { a.rust },
             Way::Held(back) => Answer::Said(format!("held{} {}", if back { " back" } else { "" }, show(&a.rust))),
             Way::Tied(then) if then == a.rust => then,
             Way::Tied(then) => Answer::Said(format!("tied {} ({})", show(&then), show(&a.rust))),

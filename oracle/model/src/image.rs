@@ -1,12 +1,43 @@
 //! What lies in the four buffers of a store's entries, and which of refusals 1, 2 and 3 a call on lent buffers meets.
 use crate::*;
 
-pub const RECORD_MOST: u64 = 410;
-const VALUE: usize = 112;
+/// The most bytes of a record; the bytes of a value, the last of each record; and those of an origin, the last of each value (02, U6).
+pub const RECORD_MOST: u64 = 419;
+pub const VALUE: usize = 121;
+pub const ORIGIN: usize = 9;
 
-/// Payload length, digest, token, available length.
+/// A kind (0 local, 1 remote) and a session number, which is 0 for local.
+pub fn origin_bytes(origin: EntryOrigin) -> [u8; ORIGIN] {
+    let (kind, session): (u8, u64) = match origin {
+        EntryOrigin::Local => (0, 0),
+        EntryOrigin::Remote(session) => (1, session),
+    };
+    let mut bytes = [kind; ORIGIN];
+    bytes[1..].copy_from_slice(&session.to_be_bytes());
+    bytes
+}
+/// Payload length, digest, token, available length, origin.
 pub fn value(x: &Stored) -> Vec<u8> {
-    [&x.entry.payload_length.to_be_bytes()[..], &x.entry.payload_digest, &x.token, &x.available.to_be_bytes()].concat()
+    [&x.entry.payload_length.to_be_bytes()[..], &x.entry.payload_digest, &x.token, &x.available.to_be_bytes(), &origin_bytes(x.origin)].concat()
+}
+/// The origin of nine bytes; none of another kind, and none that is local with a number.
+pub fn read_origin([kind, session @ ..]: [u8; ORIGIN]) -> Option<EntryOrigin> {
+    match (kind, u64::from_be_bytes(session)) {
+        (0, 0) => Some(EntryOrigin::Local),
+        (1, session) => Some(EntryOrigin::Remote(session)),
+        _ => None,
+    }
+}
+/// The entry of a record; none if its key is none, its value is of another length or its origin is none.
+pub fn read_record(namespace: Namespace, record: &[u8], time_first: bool) -> Option<Stored> {
+    let (key, value) = record.split_at(record.len().checked_sub(VALUE)?);
+    let (subspace, path, timestamp) = FIELD.decode(time_first, key)?;
+    let (length, value) = value.split_first_chunk()?;
+    let (payload_digest, value) = value.split_first_chunk()?;
+    let (token, value) = value.split_first_chunk()?;
+    let (available, value) = value.split_first_chunk()?;
+    let entry = Entry { namespace, subspace, path, timestamp, payload_length: u64::from_be_bytes(*length), payload_digest: *payload_digest };
+    Some(Stored { entry, token: *token, available: u64::from_be_bytes(*available), origin: read_origin(value.try_into().ok()?)? })
 }
 pub fn key(e: &Entry, time_first: bool) -> Vec<u8> {
     let encode = if time_first { tsp } else { spt };
@@ -60,26 +91,19 @@ pub struct Lent<'a> {
 /// The entries of a tree, if it is one by 01's words on a tree alone.
 fn tree(n: Namespace, bytes: &[u8], dir: &[u32], count: u64, time_first: bool) -> Option<Vec<Stored>> {
     let (used, rest) = dir.split_at(2 * count as usize);
-    let (mut at, mut last, mut list) = (0, vec![], vec![]);
+    let (mut at, mut last, mut list): (_, Vec<u8>, Vec<Stored>) = (0, vec![], vec![]);
     for pair in used.chunks(2) {
         let (offset, length) = (pair[0] as usize, pair[1] as usize);
-        if offset != at || bytes.len() - at < length || length < VALUE {
+        if offset != at || bytes.len() - at < length {
             return None;
         }
-        let (key, value) = bytes[at..at + length].split_at(length - VALUE);
-        let (subspace, path, timestamp) = FIELD.decode(time_first, key)?;
-        if !list.is_empty() && last >= key.to_vec() {
+        let x = read_record(n, &bytes[at..at + length], time_first)?;
+        let key = key(&x.entry, time_first);
+        if !list.is_empty() && last >= key || x.available > x.entry.payload_length {
             return None;
         }
-        let number = |at: usize| u64::from_be_bytes(value[at..at + 8].try_into().unwrap());
-        let (payload_length, available) = (number(0), number(104));
-        if available > payload_length {
-            return None;
-        }
-        let payload_digest = value[8..40].try_into().unwrap();
-        let entry = Entry { namespace: n, subspace, path, timestamp, payload_length, payload_digest };
-        list.push(Stored { entry, token: value[40..104].try_into().unwrap(), available });
-        (at, last) = (at + length, key.to_vec());
+        list.push(x);
+        (at, last) = (at + length, key);
     }
     (bytes[at..].iter().all(|b| *b == 0) && rest.iter().all(|n| *n == 0)).then_some(list)
 }
@@ -93,7 +117,7 @@ pub fn well_formed(state: &State, lent: Lent) -> Option<Vec<Stored>> {
     let (room, pairs) = ((RECORD_MOST * state.limit) as usize, 2 * state.limit as usize);
     let a = tree(state.namespace, &lent.spt[..room], &lent.spt_dir[..pairs], state.count, false)?;
     let b = tree(state.namespace, &lent.tsp[..room], &lent.tsp_dir[..pairs], state.count, true)?;
-    // The same entries and values in both; no subspace and path twice; none prunes another.
+    // The same entries and values, origins included, in both; no subspace and path twice; none prunes another.
     let alike = records(&a, true) == records(&b, true);
     let one = |x: &Stored, y: &Stored| x.entry.subspace == y.entry.subspace && x.entry.path == y.entry.path;
     let apart = |i: usize, x: &Stored| a[..i].iter().all(|y| !one(x, y) && !x.entry.prunes(&y.entry) && !y.entry.prunes(&x.entry));

@@ -1,4 +1,4 @@
-//! A store as a list of entries in order of subspace, path and time, and document 01's calls on it, with 02's U1 to U4. A call that is
+//! A store as a list of entries in order of subspace, path and time, and document 01's calls on it, with 02's U1 to U4 and U6. A call that is
 //! refused answers its number.
 use crate::*;
 
@@ -10,9 +10,9 @@ pub type Pair = (u32, u32);
 pub enum Verdict {
     /// The pairs of the records that were removed, as they stood before the call: those of strictly older entries (02, U3).
     Taken(Vec<Pair>),
-    /// A stored entry that is newer, with its token.
+    /// A stored entry that is newer, with its token; its origin is not shown.
     Obsolete(Entry, Token),
-    /// The very entry is stored already; nothing changes, its token and available length included (02, U2).
+    /// The very entry is stored already; nothing changes, its token, available length and origin included (02, U2 and U6).
     Held,
 }
 
@@ -69,7 +69,8 @@ impl Store {
         let beyond = self.tally.split_off(new.len().min(self.tally.len()));
         self.tally = [new, beyond].concat();
     }
-    pub fn ingest(&mut self, e: &Entry, token: &Token, prevent_pruning: bool) -> Result<Verdict, Refusal> {
+    /// An entry that is taken is stored with this origin, whatever stood at its place before (02, U6).
+    pub fn ingest(&mut self, e: &Entry, token: &Token, prevent_pruning: bool, origin: EntryOrigin) -> Result<Verdict, Refusal> {
         self.changes(&[&e.path])?;
         if e.namespace != self.namespace {
             return Err(6);
@@ -100,7 +101,7 @@ impl Store {
         self.list.retain(|x| !outdated(x));
         let triple = |e: &Entry| (e.subspace, e.path.clone(), e.timestamp);
         let place = self.list.partition_point(|x| triple(&x.entry) < triple(e));
-        self.list.insert(place, Stored { entry: e.clone(), token: *token, available: 0 });
+        self.list.insert(place, Stored { entry: e.clone(), token: *token, available: 0, origin });
         self.retally();
         Ok(Verdict::Taken(pruned))
     }

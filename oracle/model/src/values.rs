@@ -18,12 +18,21 @@ pub struct Entry {
     pub payload_digest: Digest,
 }
 
-/// An entry as it is stored.
+/// Where an entry came from: 02's U6.
+#[derive(Clone, Copy, Debug, PartialEq, Eq)]
+pub enum EntryOrigin {
+    Local,
+    /// With the number of its session, which may be any.
+    Remote(u64),
+}
+
+/// An entry as it is stored. The origin is the one that it was inserted with.
 #[derive(Clone, Debug, PartialEq, Eq)]
 pub struct Stored {
     pub entry: Entry,
     pub token: Token,
     pub available: u64,
+    pub origin: EntryOrigin,
 }
 
 /// A closed end shuts out its own value; none is open.

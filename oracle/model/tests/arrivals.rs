@@ -16,13 +16,14 @@ fn entry(path: &[u8], timestamp: u64, payload_length: u64) -> Entry {
 fn store(entries: &[Entry]) -> Store {
     let mut s = Store::open([0; 16], 4, FIELD).unwrap();
     for e in entries {
-        assert_eq!(s.ingest(e, &[7; 64], false), Ok(Verdict::Taken(vec![])));
+        assert_eq!(s.ingest(e, &[7; 64], false, LOCAL), Ok(Verdict::Taken(vec![])));
     }
     s
 }
 fn available(s: &Store) -> Vec<u64> {
     s.entries().iter().map(|x| x.available).collect()
 }
+const LOCAL: EntryOrigin = EntryOrigin::Local;
 const RIGHT: Option<&Digest> = Some(&[10; 32]);
 const WRONG: Option<&Digest> = Some(&[11; 32]);
 const INCOMPLETE: Ignore = Ignore { incomplete: true, empty: false };
@@ -133,10 +134,10 @@ fn bytes() {
     let (before, items_before) = ([false, true].map(|t| image(s.entries(), t, 4)), items(s.entries()));
     record(&mut s, &[0x62], None, 258).unwrap();
     let after = [false, true].map(|t| image(s.entries(), t, 4));
-    // The second record of the subspace-first tree, the first of the time-first one; each has 141 bytes.
-    for (i, end) in [(0, 282), (1, 141)] {
+    // The second record of the subspace-first tree, the first of the time-first one; each has 150 bytes, of which the last nine are the origin.
+    for (i, end) in [(0, 300), (1, 150)] {
         let mut wanted = before[i].0.clone();
-        wanted[end - 8..end].copy_from_slice(&[0, 0, 0, 0, 0, 0, 1, 2]);
+        wanted[end - 17..end - 9].copy_from_slice(&[0, 0, 0, 0, 0, 0, 1, 2]);
         assert_eq!((&after[i].0, &after[i].1), (&wanted, &before[i].1));
     }
     assert_eq!(items(s.entries()), items_before);
@@ -153,21 +154,21 @@ fn insertions() {
     let mut s = store(&[first.clone(), entry(&[0x62], 5, 3)]);
     assert_eq!((record(&mut s, &[0x61], None, 2), record(&mut s, &[0x62], None, 1)), (Ok(2), Ok(1)));
     let before = s.clone();
-    assert_eq!((s.ingest(&first, &[7; 64], false), s.ingest(&first, &[8; 64], true)), (Ok(Verdict::Held), Ok(Verdict::Held)));
+    assert_eq!((s.ingest(&first, &[7; 64], false, LOCAL), s.ingest(&first, &[8; 64], true, LOCAL)), (Ok(Verdict::Held), Ok(Verdict::Held)));
     assert_eq!(s, before);
     // An older one is obsolete, a newer one is filed anew; elsewhere nothing moves.
-    assert!(matches!(s.ingest(&entry(&[0x61], 4, 3), &[7; 64], false), Ok(Verdict::Obsolete(..))));
+    assert!(matches!(s.ingest(&entry(&[0x61], 4, 3), &[7; 64], false, LOCAL), Ok(Verdict::Obsolete(..))));
     assert_eq!(s, before);
-    assert_eq!(s.ingest(&entry(&[0x61], 6, 3), &[7; 64], false), Ok(Verdict::Taken(vec![(0, 141)])));
+    assert_eq!(s.ingest(&entry(&[0x61], 6, 3), &[7; 64], false, LOCAL), Ok(Verdict::Taken(vec![(0, 150)])));
     assert_eq!(available(&s), [0, 1]);
     // Forgotten and filed again.
     record(&mut s, &[0x61], None, 3).unwrap();
     assert_eq!(s.forget_entry(&sub(1), &p(&[0x61]), None), Ok(()));
     assert_eq!(record(&mut s, &[0x61], None, 3), Err(11));
-    assert_eq!(s.ingest(&entry(&[0x61], 6, 3), &[7; 64], false), Ok(Verdict::Taken(vec![])));
+    assert_eq!(s.ingest(&entry(&[0x61], 6, 3), &[7; 64], false, LOCAL), Ok(Verdict::Taken(vec![])));
     assert_eq!(available(&s), [0, 1]);
     // A tie filed above or below keeps the lengths of the others.
-    assert_eq!(s.ingest(&entry(&[0x62, 0x00], 5, 3), &[7; 64], false), Ok(Verdict::Taken(vec![])));
+    assert_eq!(s.ingest(&entry(&[0x62, 0x00], 5, 3), &[7; 64], false, LOCAL), Ok(Verdict::Taken(vec![])));
     assert_eq!(available(&s), [0, 1, 0]);
 }
 

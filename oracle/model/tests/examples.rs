@@ -14,6 +14,7 @@ fn entry(path: Path, timestamp: u64, payload_length: u64, digest: u8) -> Entry {
 }
 const ALL: Ignore = Ignore { incomplete: false, empty: false };
 const TOKEN: Token = [0; 64];
+const LOCAL: EntryOrigin = EntryOrigin::Local;
 
 #[test]
 fn keys() {
@@ -83,19 +84,19 @@ fn ties() {
     for (order, prevent) in [([&long, &short], false), ([&short, &long], false), ([&long, &short], true), ([&short, &long], true)] {
         let mut s = Store::open([0; 16], 2, FIELD).unwrap();
         for e in order {
-            assert_eq!(s.ingest(e, &TOKEN, prevent), Ok(Verdict::Taken(vec![])));
+            assert_eq!(s.ingest(e, &TOKEN, prevent, LOCAL), Ok(Verdict::Taken(vec![])));
         }
         assert_eq!(of(&s), [short.clone(), long.clone()]);
         assert_eq!(items(s.entries()), [(sub(1), 2, 5)]);
         // Held, though the store is full and neither is gone.
-        assert_eq!((s.ingest(&short, &TOKEN, prevent), s.ingest(&long, &TOKEN, prevent)), (Ok(Verdict::Held), Ok(Verdict::Held)));
+        assert_eq!((s.ingest(&short, &TOKEN, prevent, LOCAL), s.ingest(&long, &TOKEN, prevent, LOCAL)), (Ok(Verdict::Held), Ok(Verdict::Held)));
     }
     // It is not gone, so there is no room for a second.
     for (order, prevent) in [([&long, &short], false), ([&long, &short], true), ([&short, &long], false)] {
         let mut s = Store::open([0; 16], 1, FIELD).unwrap();
-        s.ingest(order[0], &TOKEN, prevent).unwrap();
+        s.ingest(order[0], &TOKEN, prevent, LOCAL).unwrap();
         let before = s.clone();
-        assert_eq!(s.ingest(order[1], &TOKEN, prevent), Err(8));
+        assert_eq!(s.ingest(order[1], &TOKEN, prevent, LOCAL), Err(8));
         assert_eq!(s, before);
     }
     // Three on one line.
@@ -104,16 +105,16 @@ fn ties() {
     for [a, b, c] in [[0, 1, 2], [0, 2, 1], [1, 0, 2], [1, 2, 0], [2, 0, 1], [2, 1, 0]] {
         let mut s = Store::open([0; 16], 3, FIELD).unwrap();
         for e in [three[a], three[b], three[c]] {
-            assert_eq!(s.ingest(e, &TOKEN, true), Ok(Verdict::Taken(vec![])));
+            assert_eq!(s.ingest(e, &TOKEN, true, LOCAL), Ok(Verdict::Taken(vec![])));
         }
         assert_eq!(of(&s), [short.clone(), long.clone(), longest.clone()]);
         assert_eq!(items(s.entries()), [(sub(1), 3, 5)]);
         // A later one above removes all three; a later one at the second place removes the second and the third.
         let mut t = s.clone();
-        assert_eq!(t.ingest(&entry(p(&[]), 5, 4, 10), &TOKEN, true), Err(7));
-        assert_eq!(t.ingest(&entry(p(&[]), 5, 4, 10), &TOKEN, false), Ok(Verdict::Taken(vec![(0, 141), (141, 144), (285, 146)])));
+        assert_eq!(t.ingest(&entry(p(&[]), 5, 4, 10), &TOKEN, true, LOCAL), Err(7));
+        assert_eq!(t.ingest(&entry(p(&[]), 5, 4, 10), &TOKEN, false, LOCAL), Ok(Verdict::Taken(vec![(0, 150), (150, 153), (303, 155)])));
         assert_eq!((t.entries().len(), items(t.entries())), (1, vec![(sub(1), 1, 5)]));
-        assert_eq!(s.ingest(&entry(long.path.clone(), 6, 0, 0), &TOKEN, false), Ok(Verdict::Taken(vec![(141, 144), (285, 146)])));
+        assert_eq!(s.ingest(&entry(long.path.clone(), 6, 0, 0), &TOKEN, false, LOCAL), Ok(Verdict::Taken(vec![(150, 153), (303, 155)])));
         assert_eq!(of(&s), [short.clone(), entry(long.path.clone(), 6, 0, 0)]);
         assert_eq!(items(s.entries()), [(sub(1), 2, 6)]);
     }
@@ -121,12 +122,12 @@ fn ties() {
     let older = entry(p(&[&[0x61], &[0x63]]), 5, 2, 10);
     for limit in [2, 3] {
         let mut s = Store::open([0; 16], limit, FIELD).unwrap();
-        s.ingest(&long, &TOKEN, false).unwrap();
-        s.ingest(&older, &TOKEN, false).unwrap();
-        assert_eq!(s.ingest(&short, &TOKEN, true), Err(7));
-        assert_eq!(s.ingest(&short, &TOKEN, false), Ok(Verdict::Taken(vec![(144, 144)])));
+        s.ingest(&long, &TOKEN, false, LOCAL).unwrap();
+        s.ingest(&older, &TOKEN, false, LOCAL).unwrap();
+        assert_eq!(s.ingest(&short, &TOKEN, true, LOCAL), Err(7));
+        assert_eq!(s.ingest(&short, &TOKEN, false, LOCAL), Ok(Verdict::Taken(vec![(153, 153)])));
         assert_eq!(of(&s), [short.clone(), long.clone()]);
-        assert!(matches!(s.ingest(&older, &TOKEN, false), Ok(Verdict::Obsolete(e, _)) if e == short));
+        assert!(matches!(s.ingest(&older, &TOKEN, false, LOCAL), Ok(Verdict::Obsolete(e, _)) if e == short));
     }
 }
 
@@ -134,13 +135,13 @@ fn ties() {
 fn limit() {
     let short = entry(p(&[&[0x61]]), 5, 3, 10);
     let mut s = Store::open([0; 16], 1, FIELD).unwrap();
-    s.ingest(&short, &TOKEN, false).unwrap();
-    assert_eq!(s.ingest(&entry(p(&[&[0x62]]), 9, 0, 0), &TOKEN, false), Err(8));
-    assert_eq!(s.ingest(&entry(p(&[]), 6, 0, 0), &TOKEN, false), Ok(Verdict::Taken(vec![(0, 141)])));
-    assert_eq!(s.ingest(&short, &TOKEN, true), Ok(Verdict::Obsolete(entry(p(&[]), 6, 0, 0), TOKEN)));
+    s.ingest(&short, &TOKEN, false, LOCAL).unwrap();
+    assert_eq!(s.ingest(&entry(p(&[&[0x62]]), 9, 0, 0), &TOKEN, false, LOCAL), Err(8));
+    assert_eq!(s.ingest(&entry(p(&[]), 6, 0, 0), &TOKEN, false, LOCAL), Ok(Verdict::Taken(vec![(0, 150)])));
+    assert_eq!(s.ingest(&short, &TOKEN, true, LOCAL), Ok(Verdict::Obsolete(entry(p(&[]), 6, 0, 0), TOKEN)));
     let other = Entry { namespace: [1; 16], ..short.clone() };
-    assert_eq!(s.ingest(&other, &TOKEN, false), Err(6));
-    assert_eq!(s.ingest(&Entry { path: vec![vec![]; 9], ..other }, &TOKEN, false), Err(4));
+    assert_eq!(s.ingest(&other, &TOKEN, false, LOCAL), Err(6));
+    assert_eq!(s.ingest(&Entry { path: vec![vec![]; 9], ..other }, &TOKEN, false, LOCAL), Err(4));
     assert_eq!((Store::open([0; 16], 0, FIELD), Store::open([0; 16], 1025, FIELD)), (Err(1), Err(1)));
 }
 
@@ -149,30 +150,30 @@ fn limit() {
 fn resends() {
     let (short, long) = (entry(p(&[&[0x61]]), 5, 3, 10), entry(p(&[&[0x61], &[0x62]]), 5, 3, 10));
     let mut s = Store::open([0; 16], 2, FIELD).unwrap();
-    assert_eq!((s.ingest(&short, &TOKEN, true), s.ingest(&long, &TOKEN, true)), (Ok(Verdict::Taken(vec![])), Ok(Verdict::Taken(vec![]))));
+    assert_eq!((s.ingest(&short, &TOKEN, true, LOCAL), s.ingest(&long, &TOKEN, true, LOCAL)), (Ok(Verdict::Taken(vec![])), Ok(Verdict::Taken(vec![]))));
     assert!(s.poke_available(&sub(1), &short.path, 2));
     // Full, with a tie, with an available length; also with pruning prevented and with another token.
     let before = s.clone();
     for (e, token, prevent) in [(&short, TOKEN, false), (&short, TOKEN, true), (&short, [9; 64], false), (&long, [9; 64], true)] {
-        assert_eq!(s.ingest(e, &token, prevent), Ok(Verdict::Held));
+        assert_eq!(s.ingest(e, &token, prevent, LOCAL), Ok(Verdict::Held));
         assert_eq!(s, before);
     }
     // Another namespace; an illegal path; a wrong tally.
-    assert_eq!(s.ingest(&Entry { namespace: [1; 16], ..short.clone() }, &TOKEN, false), Err(6));
-    assert_eq!(s.ingest(&Entry { path: vec![vec![]; 9], ..short.clone() }, &TOKEN, false), Err(4));
+    assert_eq!(s.ingest(&Entry { namespace: [1; 16], ..short.clone() }, &TOKEN, false, LOCAL), Err(6));
+    assert_eq!(s.ingest(&Entry { path: vec![vec![]; 9], ..short.clone() }, &TOKEN, false, LOCAL), Err(4));
     s.poke_tally(20, 4);
-    assert_eq!(s.ingest(&short, &TOKEN, false), Err(10));
+    assert_eq!(s.ingest(&short, &TOKEN, false, LOCAL), Err(10));
     s.poke_tally(20, 5);
-    assert_eq!(s.ingest(&short, &TOKEN, false), Ok(Verdict::Held));
+    assert_eq!(s.ingest(&short, &TOKEN, false, LOCAL), Ok(Verdict::Held));
     // The same place with another length, digest or time; another place alone is a tie.
     for near in [entry(short.path.clone(), 5, 4, 10), entry(short.path.clone(), 5, 3, 11), entry(short.path.clone(), 6, 3, 10)] {
-        assert_eq!(s.ingest(&near, &TOKEN, true), Err(7));
+        assert_eq!(s.ingest(&near, &TOKEN, true, LOCAL), Err(7));
     }
-    assert_eq!(s.ingest(&entry(short.path.clone(), 5, 2, 10), &TOKEN, true), Ok(Verdict::Obsolete(short.clone(), TOKEN)));
-    assert_eq!(s.ingest(&entry(p(&[&[0x61], &[0x63]]), 5, 3, 10), &TOKEN, false), Err(8));
+    assert_eq!(s.ingest(&entry(short.path.clone(), 5, 2, 10), &TOKEN, true, LOCAL), Ok(Verdict::Obsolete(short.clone(), TOKEN)));
+    assert_eq!(s.ingest(&entry(p(&[&[0x61], &[0x63]]), 5, 3, 10), &TOKEN, false, LOCAL), Err(8));
     // A newer entry at the path prunes both; what was stored is then obsolete, not held.
-    assert!(matches!(s.ingest(&entry(short.path.clone(), 5, 4, 10), &TOKEN, false), Ok(Verdict::Taken(pruned)) if pruned.len() == 2));
-    assert!(matches!(s.ingest(&short, &TOKEN, false), Ok(Verdict::Obsolete(..))));
+    assert!(matches!(s.ingest(&entry(short.path.clone(), 5, 4, 10), &TOKEN, false, LOCAL), Ok(Verdict::Taken(pruned)) if pruned.len() == 2));
+    assert!(matches!(s.ingest(&short, &TOKEN, false, LOCAL), Ok(Verdict::Obsolete(..))));
 }
 
 /// The four lines of the listing program.
@@ -181,10 +182,10 @@ fn listing() {
     let mut s = Store::open([0; 16], 64, FIELD).unwrap();
     let root = entry(p(&[]), 6, 0, 12);
     let deep = entry(p(&[&[0x61], &[0x62]]), 7, 1, 11);
-    assert_eq!(s.ingest(&entry(p(&[&[0x62]]), 5, 3, 10), &TOKEN, false), Ok(Verdict::Taken(vec![])));
-    assert!(matches!(s.ingest(&entry(p(&[&[0x62], &[0]]), 4, 3, 10), &TOKEN, false), Ok(Verdict::Obsolete(..))));
-    assert_eq!(s.ingest(&deep, &TOKEN, false), Ok(Verdict::Taken(vec![])));
-    assert!(matches!(s.ingest(&root, &TOKEN, false), Ok(Verdict::Taken(pruned)) if pruned.len() == 1));
+    assert_eq!(s.ingest(&entry(p(&[&[0x62]]), 5, 3, 10), &TOKEN, false, LOCAL), Ok(Verdict::Taken(vec![])));
+    assert!(matches!(s.ingest(&entry(p(&[&[0x62], &[0]]), 4, 3, 10), &TOKEN, false, LOCAL), Ok(Verdict::Obsolete(..))));
+    assert_eq!(s.ingest(&deep, &TOKEN, false, LOCAL), Ok(Verdict::Taken(vec![])));
+    assert!(matches!(s.ingest(&root, &TOKEN, false, LOCAL), Ok(Verdict::Taken(pruned)) if pruned.len() == 1));
     assert_eq!(s.entries().iter().map(|x| x.entry.clone()).collect::<Vec<_>>(), [root, deep]);
     let all = Area { subspace: None, path: p(&[]), times: Range { start: 0, end: None } };
     assert_eq!(s.query_area(&all, ALL), Ok(vec![0, 1]));
@@ -200,15 +201,15 @@ fn listing() {
 #[test]
 fn buffers() {
     let mut s = Store::open([0; 16], 2, FIELD).unwrap();
-    s.ingest(&entry(p(&[&[0x62], &[0]]), 5, 3, 10), &[0x42; 64], false).unwrap();
-    s.ingest(&entry(p(&[&[0x61]]), 7, 1, 11), &[0x42; 64], false).unwrap();
+    s.ingest(&entry(p(&[&[0x62], &[0]]), 5, 3, 10), &[0x42; 64], false, LOCAL).unwrap();
+    s.ingest(&entry(p(&[&[0x61]]), 7, 1, 11), &[0x42; 64], false, LOCAL).unwrap();
     let ((mut a, mut ad), (mut b, mut bd)) = (image(s.entries(), false, 2), image(s.entries(), true, 2));
-    assert_eq!((&ad, &bd), (&vec![0, 141, 141, 145], &vec![0, 145, 145, 141]));
-    assert_eq!(a[141 + 16..141 + 25], [0x62, 0, 1, 0, 2, 0, 1, 0, 0]);
+    assert_eq!((&ad, &bd), (&vec![0, 150, 150, 154], &vec![0, 154, 154, 150]));
+    assert_eq!(a[150 + 16..150 + 25], [0x62, 0, 1, 0, 2, 0, 1, 0, 0]);
     let state = State { namespace: [0; 16], count: 2, limit: 2 };
     let judged = |a: &[u8], ad: &[u32], b: &[u8], bd: &[u32]| well_formed(&state, Lent { spt: a, spt_dir: ad, tsp: b, tsp_dir: bd });
     assert_eq!(judged(&a, &ad, &b, &bd), Some(s.entries().to_vec()));
-    for i in 0..820 {
+    for i in 0..a.len() {
         a[i] ^= 1;
         assert_eq!(judged(&a, &ad, &b, &bd), None, "byte {i} of the subspace-first tree");
         a[i] ^= 1;
@@ -235,11 +236,11 @@ fn tallies() {
     let of = |subspace, path, timestamp| Entry { subspace, ..entry(path, timestamp, 0, 0) };
     let high = [1, 0, 0, 0, 0, 0, 0, 0, 0, 0, 0, 0, 0, 0, 0, 0];
     let mut s = Store::open([0; 16], 4, FIELD).unwrap();
-    s.ingest(&of(sub(0), p(&[]), 0), &TOKEN, false).unwrap();
+    s.ingest(&of(sub(0), p(&[]), 0), &TOKEN, false, LOCAL).unwrap();
     assert_eq!(tally(s.entries(), 1), [&[0; 19][..], &[1], &[0; 8]].concat());
-    s.ingest(&of(high, p(&[]), u64::MAX), &TOKEN, false).unwrap();
-    s.ingest(&of(sub(7), p(&[&[0x61]]), 5), &TOKEN, false).unwrap();
-    s.ingest(&of(sub(7), p(&[&[0x62]]), 9), &TOKEN, false).unwrap();
+    s.ingest(&of(high, p(&[]), u64::MAX), &TOKEN, false, LOCAL).unwrap();
+    s.ingest(&of(sub(7), p(&[&[0x61]]), 5), &TOKEN, false, LOCAL).unwrap();
+    s.ingest(&of(sub(7), p(&[&[0x62]]), 9), &TOKEN, false, LOCAL).unwrap();
     assert_eq!(items(s.entries()), [(sub(0), 1, 0), (sub(7), 2, 9), (high, 1, u64::MAX)]);
     assert_eq!(tally(s.entries(), 4)[28..56], [&sub(7)[..], &[0, 0, 0, 2], &[0, 0, 0, 0, 0, 0, 0, 9]].concat());
     assert_eq!(tally(s.entries(), 4)[84..], [0; 28]);
@@ -253,7 +254,7 @@ fn tallies() {
     assert_eq!(s.forget_area(&bad, None), Err(4));
     s.poke_tally(4 * 28 - 8, 1);
     assert_eq!((s.forget_area(&bad, None), s.forget_entry(&sub(1), &bad.path, None)), (Err(10), Err(10)));
-    assert_eq!(s.ingest(&of(sub(1), bad.path.clone(), 5), &TOKEN, false), Err(10));
+    assert_eq!(s.ingest(&of(sub(1), bad.path.clone(), 5), &TOKEN, false, LOCAL), Err(10));
     assert_eq!((s.count_area(&all), s.count_area(&bad)), (Ok(2), Err(4)));
     s.poke_tally(4 * 28 - 8, 0);
     s.poke_tally(4 * 28, 1); // beyond it

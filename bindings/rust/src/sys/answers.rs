@@ -1,5 +1,5 @@
 //! What the door answers. A yes or no is a byte, 0 or 1; a refusal is 0 or one of the numbers of [`crate::Refusal`].
-use super::{layout, Entry, Pair, Path, Range, State, Subspace, LIMIT_MOST, MCL};
+use super::{layout, Entry, Origin, Pair, Path, Range, State, Subspace, LIMIT_MOST, MCL};
 
 /// What opening answers.
 #[repr(C)]
@@ -20,7 +20,7 @@ pub struct Ingested {
     pub refusal: u8,
     /// 1: a stored entry is newer, and nothing changed.
     pub obsolete: u8,
-    /// 1: an entry of the same subspace, path, timestamp, digest and length is stored, and nothing changed, its token included.
+    /// 1: an entry of the same subspace, path, timestamp, digest and length is stored, and nothing changed, its token and origin included.
     pub held: u8,
     /// How many entries were pruned.
     pub pruned: usize,
@@ -74,7 +74,7 @@ pub struct AvailableRecorded {
     pub state: State,
 }
 
-/// An entry as it is stored: with its token and how much of its payload is available.
+/// An entry as it is stored: with its token, how much of its payload is available, and where it came from.
 #[repr(C)]
 #[derive(Clone, Copy, Debug, PartialEq, Eq)]
 pub struct LengthyEntry {
@@ -85,6 +85,8 @@ pub struct LengthyEntry {
     /// How many bytes of its payload are available, as [`record_available_length`](super::record_available_length) and
     /// [`forget_payload`](super::forget_payload) left it since the entry was filed; 0 if neither did.
     pub available: u64,
+    /// The origin that it was filed with.
+    pub origin: Origin,
 }
 
 /// What a lookup answers.
@@ -248,8 +250,8 @@ layout! {
     EntryForgotten: 40, refusal 0, state 8;
     AreaForgotten: 48, refusal 0, state 8, forgotten 40;
     AvailableRecorded: 40, refusal 0, state 8;
-    LengthyEntry: 352, entry 0, token 280, available 344;
-    EntryFound: 360, refusal 0, found 1, lengthy 8;
+    LengthyEntry: 368, entry 0, token 280, available 344, origin 352;
+    EntryFound: 376, refusal 0, found 1, lengthy 8;
     Listed: 16, refusal 0, found 1, place 8;
     Part: 16, offset 0, length 8;
     Counted: 16, refusal 0, count 8;

@@ -92,19 +92,19 @@ into_store! {
     /// Opens a store of no entries, for at most `limit` of them: writes zeros up to the limit's room, in the tally too. Refused: 1, 2.
     open = vb_open(namespace_id: &[u8; 16], limit: usize;;) -> Opened;
 
-    /// Files an entry with its token and available length 0. It is obsolete, and nothing changes, if a stored entry of the subspace, at a prefix of its
+    /// Files an entry with its token, its origin and available length 0. It is obsolete, and nothing changes, if a stored entry of the subspace, at a prefix of its
     /// path or the path itself, is newer. It is held, and nothing changes, if an entry of the same subspace, path, timestamp, digest and length is stored: the
-    /// stored one keeps its token and available length, whatever token comes now. Else the entries of the subspace at its path or below that are older, by
+    /// stored one keeps its token, available length and origin, whatever token and origin come now. Else the entries of the subspace at its path or below that are older, by
     /// timestamp, then digest, then payload length, are removed; an entry of equal rank stays. The pairs of those removed, as they stood before the call, in key
     /// order, go to the front of `prune`, which has at least `limit` pairs; `pruned` says how many, and what lies behind stays.
     /// Refused: 1, 2, 3, 10, 4, 6, then obsolete, held, then 7 (with `prevent_pruning`), 8.
-    ingest_entry = vb_ingest_entry(state: State; prune: [Pair]; entry: Entry, token: &[u8; 64], prevent_pruning: u8) -> Ingested;
+    ingest_entry = vb_ingest_entry(state: State; prune: [Pair]; entry: Entry, token: &[u8; 64], prevent_pruning: u8, origin: Origin) -> Ingested;
 
     /// [`ingest_entry`] over a prune list of at least 2 × limit numbers, offset and length by turns. Refused as there.
-    ingest_entry_numbers = vb_ingest_entry_numbers(state: State; prune: [u32]; entry: Entry, token: &[u8; 64], prevent_pruning: u8) -> Ingested;
+    ingest_entry_numbers = vb_ingest_entry_numbers(state: State; prune: [u32]; entry: Entry, token: &[u8; 64], prevent_pruning: u8, origin: Origin) -> Ingested;
 
     /// [`ingest_entry`] over a prune list of 1,024 pairs that goes in and comes back by value: for tests. Refused as there.
-    ingest_entry_by_value = vb_ingest_entry_by_value(state: State;; prune: Pairs, entry: Entry, token: &[u8; 64], prevent_pruning: u8) -> PairsIngested;
+    ingest_entry_by_value = vb_ingest_entry_by_value(state: State;; prune: Pairs, entry: Entry, token: &[u8; 64], prevent_pruning: u8, origin: Origin) -> PairsIngested;
 
     /// Drops the entry at a subspace and path, if there is one. With `expects`, only if its digest is the one expected; without, the digest is not
     /// looked at. An absent entry answers done. Refused: 1, 2, 3, 10, 4, 9.
@@ -118,8 +118,8 @@ into_store! {
 into_trees! {
     /// Records how much of a payload has arrived: `available` becomes the available length of the entry at exactly this subspace and path, in both trees. Any
     /// number up to the payload length will do, a smaller one than before too. With `expects`, only if the entry's digest is the one expected; without, the
-    /// digest is not looked at. Of each tree the last 8 bytes of the entry's record are written, and nothing else; the state in the answer is the one handed
-    /// in. An absent entry is refused, unlike in [`forget_entry`], and so is a path that is only a prefix or an extension of a stored entry's.
+    /// digest is not looked at. Of each tree the 8 bytes of the entry's available length are written, before the nine of its origin, and nothing else;
+    /// the state in the answer is the one handed in. An absent entry is refused, unlike in [`forget_entry`], and so is a path that is only a prefix or an extension of a stored entry's.
     /// Refused: 1, 2, 3, 4, 11, 9, 12.
     record_available_length = vb_record_available_length(subspace: Subspace, path: Path, expects: u8, expected_digest: &[u8; 32], available: u64) -> AvailableRecorded;
 
@@ -136,7 +136,8 @@ over_store! {
     /// and go on at the place found plus 1 until nothing is found. Refused: 1, 2, 3, 4.
     query_area_place = vb_query_area_place(area: Area, ignore: Ignore, place: usize) -> Listed;
 
-    /// The record of the match that [`query_area_place`] answers, key then value. No match, or refused as there: length 0.
+    /// The record of the match that [`query_area_place`] answers, key then value: its last [`VALUE`] bytes are the value, where the available length and the
+    /// origin stand at [`VALUE_AVAILABLE`] and [`VALUE_ORIGIN`]. No match, or refused as there: length 0.
     query_area = vb_query_area(area: Area, ignore: Ignore, place: usize) -> Part;
 
     /// The place of a 3d range's first match at or after a place, in key order, as [`query_area_place`] does for an area. Refused: 1, 2, 3, 4.

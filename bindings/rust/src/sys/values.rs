@@ -2,15 +2,27 @@
 use super::layout;
 
 /// The edition of `virebony.h` that this crate is written for; compare [`edition`](super::edition).
-pub const EDITION: u32 = 5;
+pub const EDITION: u32 = 6;
 /// Entries that a store may be opened for.
 pub const LIMIT_MOST: usize = 1024;
 /// Bytes of a record: a tree has so many for each entry of the limit.
-pub const RECORD_MOST: usize = 410;
+pub const RECORD_MOST: usize = 419;
 /// Bytes of a key: what a buffer for a key must have.
 pub const KEY_MOST: usize = 298;
-/// Bytes of a record's value: payload length 8, digest 32, token 64, available length 8.
-pub const VALUE: usize = 112;
+/// Bytes of a record's value, its last ones: payload length 8, digest 32, token 64, available length 8, origin 9.
+pub const VALUE: usize = 121;
+/// Where the payload length begins in a value: 8 bytes, big-endian.
+pub const VALUE_PAYLOAD_LENGTH: usize = 0;
+/// Where the digest begins in a value: 32 bytes.
+pub const VALUE_DIGEST: usize = 8;
+/// Where the token begins in a value: 64 bytes.
+pub const VALUE_TOKEN: usize = 40;
+/// Where the available length begins in a value: 8 bytes, big-endian.
+pub const VALUE_AVAILABLE: usize = 104;
+/// Where the kind of the origin stands in a value: 1 byte, 0 for local and 1 for remote.
+pub const VALUE_ORIGIN: usize = 112;
+/// Where the session of the origin begins in a value: 8 bytes, big-endian, all 0 for local.
+pub const VALUE_SESSION: usize = 113;
 /// Bytes of a tally's item: subspace 16, count 4, newest timestamp 8, each big-endian. A tally has so many for each entry of the limit.
 pub const ITEM: usize = 28;
 /// Bytes of a component.
@@ -152,6 +164,17 @@ pub struct Ignore {
     pub empty_payloads: u8,
 }
 
+/// Where an entry came from: from another source, in the session with this number, or else it is local. In an origin that is answered `remote` is 0 or 1, and
+/// `session` is 0 for local.
+#[repr(C)]
+#[derive(Clone, Copy, Debug, Default, PartialEq, Eq, Hash)]
+pub struct Origin {
+    /// Not 0: from another source. 0: local, and `session` is not looked at.
+    pub remote: u8,
+    /// The number of the session; any will do.
+    pub session: u64,
+}
+
 /// Kept by the caller from one call to the next, beside the buffers; hand in the one that the last call answered.
 #[repr(C)]
 #[derive(Clone, Copy, Debug, Default, PartialEq, Eq, Hash)]
@@ -188,7 +211,7 @@ impl Default for Pairs {
     }
 }
 
-/// The four buffers of a store that are lent to a call that reads: slices of any length. The limit asks for 410 × limit bytes of a tree and 2 × limit
+/// The four buffers of a store that are lent to a call that reads: slices of any length. The limit asks for 419 × limit bytes of a tree and 2 × limit
 /// numbers of a directory; what lies beyond is not read. No call that reads takes the tally.
 #[derive(Clone, Copy, Debug)]
 pub struct Buffers<'a> {
@@ -256,6 +279,7 @@ layout! {
     Range: 472, subspaces 0, paths 40, times 448;
     Interest: 264, area 0, max_count 248, max_size 256;
     Ignore: 2, incomplete_payloads 0, empty_payloads 1;
+    Origin: 16, remote 0, session 8;
     State: 32, namespace_id 0, count 16, limit 24;
     Pair: 8, offset 0, length 4;
     Pairs: 8192, pairs 0;

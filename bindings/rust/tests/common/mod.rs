@@ -70,8 +70,50 @@ pub fn ignore(incomplete_payloads: u8, empty_payloads: u8) -> raw::Ignore {
     raw::Ignore { incomplete_payloads, empty_payloads }
 }
 
+pub const LOCAL: raw::Origin = raw::Origin { remote: 0, session: 0 };
+
+pub fn remote(session: u64) -> raw::Origin {
+    raw::Origin { remote: 1, session }
+}
+
 pub const TOKEN: [u8; 64] = [0x42; 64];
 pub const UNTOUCHED: raw::Pair = raw::Pair { offset: 0xeeee_eeee, length: 0xeeee_eeee };
+
+/// An answer of a lookup that shows nothing.
+pub fn shows_nothing(refusal: u8) -> raw::EntryFound {
+    let lengthy = raw::LengthyEntry { entry: raw::Entry::default(), token: [0; 64], available: 0, origin: LOCAL };
+    raw::EntryFound { refusal, found: 0, lengthy }
+}
+
+/// Every call that takes a store refuses so; what each is handed beside the store has this path.
+pub fn refused_by_all(state: raw::State, lent: &mut raw::BuffersMut<'_>, at: raw::Path, want: u8) {
+    let all = raw::Area { path: at, ..everything() };
+    let entry = raw::Entry { path: at, ..entry(1, "", 5, 3, 9) };
+    let whole = range(at, path(""), 1);
+    let interest = raw::Interest { area: all, max_count: 0, max_size: 0 };
+    let unchanged = raw::Ingested { refusal: want, obsolete: 0, held: 0, pruned: 0, state, newer: raw::Entry::default(), token: [0; 64] };
+    let (mut pairs, mut numbers) = ([UNTOUCHED; 3], [0xeeee_eeee; 6]);
+    assert_eq!(raw::ingest_entry(state, lent, &mut pairs, entry, &TOKEN, 0, remote(9)), unchanged);
+    assert_eq!(raw::ingest_entry_numbers(state, lent, &mut numbers, entry, &TOKEN, 0, remote(9)), unchanged);
+    let by_value = raw::ingest_entry_by_value(state, lent, raw::Pairs { pairs: [UNTOUCHED; 1024] }, entry, &TOKEN, 0, remote(9));
+    assert_eq!(by_value, raw::PairsIngested { ingested: unchanged, pairs: [UNTOUCHED; 1024] });
+    assert_eq!((pairs, numbers), ([UNTOUCHED; 3], [0xeeee_eeee; 6]));
+    assert_eq!(raw::forget_entry(state, lent, subspace(1), at, 0, &[0; 32]), raw::EntryForgotten { refusal: want, state });
+    assert_eq!(raw::forget_area(state, lent, all, 0, all), raw::AreaForgotten { refusal: want, state, forgotten: 0 });
+    let recorded = raw::AvailableRecorded { refusal: want, state };
+    assert_eq!(raw::record_available_length(state, &mut lent.as_trees(), subspace(1), at, 1, &[0; 32], u64::MAX), recorded);
+    assert_eq!(raw::forget_payload(state, &mut lent.as_trees(), subspace(1), at, 1, &[0; 32]), recorded);
+    let lent = lent.as_buffers();
+    assert_eq!(raw::find_entry(state, lent, subspace(1), at, ignore(0, 0)), shows_nothing(want));
+    let listed = raw::Listed { refusal: want, found: 0, place: 0 };
+    assert_eq!(raw::query_area_place(state, lent, all, ignore(0, 0), 0), listed);
+    assert_eq!(raw::query_range_place(state, lent, whole, ignore(0, 0), usize::MAX), listed);
+    assert_eq!(raw::query_area(state, lent, all, ignore(0, 0), 0), raw::Part { offset: 0, length: 0 });
+    assert_eq!(raw::query_range(state, lent, whole, ignore(0, 0), 0), raw::Part { offset: 0, length: 0 });
+    assert_eq!(raw::count_area(state, lent, all), raw::Counted { refusal: want, count: 0 });
+    assert_eq!(raw::summarise(state, lent, whole), raw::Counted { refusal: want, count: 0 });
+    assert_eq!(raw::area_of_interest_to_range(state, lent, interest), raw::AreaRange { refusal: want, range: raw::Range::default() });
+}
 
 /// A store's state and its buffers.
 #[derive(Clone, Debug, PartialEq)]
@@ -90,11 +132,11 @@ impl Kept {
     pub fn lent(limit: usize) -> Kept {
         Kept {
             state: raw::State::default(),
-            spt: vec![0xee; 410 * limit],
+            spt: vec![0xee; raw::RECORD_MOST * limit],
             spt_dir: vec![0xeeee_eeee; 2 * limit],
-            tsp: vec![0xee; 410 * limit],
+            tsp: vec![0xee; raw::RECORD_MOST * limit],
             tsp_dir: vec![0xeeee_eeee; 2 * limit],
-            tally: vec![0xee; 28 * limit],
+            tally: vec![0xee; raw::ITEM * limit],
             prune: vec![UNTOUCHED; limit],
         }
     }
@@ -121,9 +163,14 @@ impl Kept {
         raw::Trees { spt, spt_dir, tsp, tsp_dir }
     }
 
+    /// Files an entry as local.
     pub fn ingest(&mut self, entry: raw::Entry, prevent_pruning: u8) -> raw::Ingested {
+        self.ingest_from(entry, prevent_pruning, LOCAL)
+    }
+
+    pub fn ingest_from(&mut self, entry: raw::Entry, prevent_pruning: u8, origin: raw::Origin) -> raw::Ingested {
         let (state, mut prune) = (self.state, std::mem::take(&mut self.prune));
-        let answer = raw::ingest_entry(state, &mut self.buffers_mut(), &mut prune, entry, &TOKEN, prevent_pruning);
+        let answer = raw::ingest_entry(state, &mut self.buffers_mut(), &mut prune, entry, &TOKEN, prevent_pruning, origin);
         self.prune = prune;
         self.state = answer.state;
         answer

@@ -1,12 +1,15 @@
 -- `main` is safe and ends: the buffers keep their lengths. Assumes nothing.
 use mathlib.Core.Path.{_≡_}
 use lib.ListN.{length}
+use Rattle.data_model.specs.Path.{field}
+use Rattle.tally.specs.Tally.{tallyRoom}
+use Rattle.store.specs.Store.{limitMost, treeRoom, dirRoom}
 use borrow.Author.Needs.{needs}
 use Rattle.replay.proofs.main.Statement.{statement}
 use Rattle.replay.proofs.main.Tie as tie
 
 abbrev Inv-loop : tie.InvT-loop
-Inv-loop a₀ b₀ c₀ d₀ e₀ state₀ turns₀ t8 a b c d e state turns = (length a ≡ 419840) × (length b ≡ 2048) × (length c ≡ 419840) × (length d ≡ 2048) × (length e ≡ 28672)
+Inv-loop a₀ b₀ c₀ d₀ e₀ state₀ turns₀ t8 a b c d e state turns = (length a ≡ treeRoom field limitMost) × (length b ≡ dirRoom limitMost) × (length c ≡ treeRoom field limitMost) × (length d ≡ dirRoom limitMost) × (length e ≡ tallyRoom limitMost)
 
 abbrev μ-loop : tie.MeasureT-loop
 μ-loop a₀ b₀ c₀ d₀ e₀ state₀ turns₀ t8 a b c d e state turns = turns

@@ -8,6 +8,9 @@ use borrow.Author.Needs.{needs}
 use Rattle.steps.proofs.ingestion_is_value.Statement.{statement}
 use Rattle.steps.proofs.ingestion_is_value.Tie as tie
 
+session-is-number-requires : tie.Need-session-is-number-requires
+session-is-number-requires c κs = search needs
+
 slice-aggregate-is-bytes : tie.Need-slice-aggregate-is-bytes
 slice-aggregate-is-bytes c = search needs
 
@@ -16,7 +19,7 @@ is-bytes-requires c κs = search needs
 
 returns : tie.Need-returns
 returns c =
-    let p = c .before .before .before .before .before in
+    let p = c .before .before .before .before .before .before in
     let n : length (p .args .ingestion .entry .path .bytes) ≡ 128 = search needs in
     λ prune. ingestion-value field _ (record {
       path-room = omega (arith, n);
@@ -27,7 +30,8 @@ returns c =
       payload = search needs;
       digest = search needs;
       token = search needs;
+      session = c .before .before .session-is-number .ensures;
     })
 
 pub ingestion-is-value-spec : {M : Type 1} → statement M
-ingestion-is-value-spec = tie.close (tie.spec slice-aggregate-is-bytes is-bytes-requires returns)
+ingestion-is-value-spec = tie.close (tie.spec session-is-number-requires slice-aggregate-is-bytes is-bytes-requires returns)

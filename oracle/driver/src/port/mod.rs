@@ -1,7 +1,7 @@
 //! The port, through the crate `virebony`: every call is one or several of its door (module `raw`).
 pub mod spell;
 pub mod values;
-use crate::answer::Answer;
+use crate::answer::{Answer, Shown};
 use crate::call::Call;
 use model::*;
 use spell::*;
@@ -104,7 +104,7 @@ impl Port {
                 self.state = got.state;
                 strict(got.state, raw::State { namespace_id: *n, count: 0, limit }, Answer::Opened)
             }
-            Call::Ingest(e, k, prevent) => self.ingest(s.entry(e), k, s.yes(*prevent), h, salt)?,
+            Call::Ingest(e, k, prevent, o) => self.ingest(s.entry(e), k, s.yes(*prevent), s.origin(*o), h, salt)?,
             Call::Forget(sub, p, d) => {
                 let (junk, p) = (s.bytes(), s.path(p));
                 let got = raw::forget_entry(h.state, &mut self.buffers.parts(h.lengths).0, subspace(sub), p, s.yes(d.is_some()), &d.unwrap_or(junk));
@@ -172,21 +172,21 @@ impl Port {
         })
     }
     /// Over pair records, over numbers, or with a prune list by value.
-    fn ingest(&mut self, e: raw::Entry, k: &Token, prevent: u8, h: Handed, salt: u64) -> Result<Answer, Answer> {
+    fn ingest(&mut self, e: raw::Entry, k: &Token, prevent: u8, o: raw::Origin, h: Handed, salt: u64) -> Result<Answer, Answer> {
         let (mut store, prune) = self.buffers.parts(h.lengths);
         let got = match salt % 8 {
             1 | 2 => {
                 let mut numbers: Vec<u32> = prune.iter().flat_map(|p| [p.offset, p.length]).collect();
-                let got = raw::ingest_entry_numbers(h.state, &mut store, &mut numbers, e, k, prevent);
+                let got = raw::ingest_entry_numbers(h.state, &mut store, &mut numbers, e, k, prevent, o);
                 prune.iter_mut().zip(numbers.chunks(2)).for_each(|(p, n)| *p = raw::Pair { offset: n[0], length: n[1] });
                 got
             }
             3 if prune.len() >= 1024 => {
-                let got = raw::ingest_entry_by_value(h.state, &mut store, raw::Pairs { pairs: prune[..1024].try_into().unwrap() }, e, k, prevent);
+                let got = raw::ingest_entry_by_value(h.state, &mut store, raw::Pairs { pairs: prune[..1024].try_into().unwrap() }, e, k, prevent, o);
                 prune[..1024].copy_from_slice(&got.pairs);
                 got.ingested
             }
-            _ => raw::ingest_entry(h.state, &mut store, prune, e, k, prevent),
+            _ => raw::ingest_entry(h.state, &mut store, prune, e, k, prevent, o),
         };
         let plain = raw::Ingested { refusal: 0, obsolete: 0, held: 0, pruned: 0, state: got.state, newer: raw::Entry::default(), token: [0; 64] };
         self.keep(got.refusal, got.state, h.state)?;
@@ -205,14 +205,14 @@ impl Port {
     }
     fn found(&self, got: raw::EntryFound) -> Answer {
         let l = got.lengthy;
-        let none = raw::LengthyEntry { entry: raw::Entry::default(), token: [0; 64], available: 0 };
-        match (got.refusal, got.found, unentry(&l.entry)) {
-            (0, 1, Some(entry)) => {
+        let none = raw::LengthyEntry { entry: raw::Entry::default(), token: [0; 64], available: 0, origin: raw::Origin { remote: 0, session: 0 } };
+        match (got.refusal, got.found, unentry(&l.entry), unorigin(&l.origin)) {
+            (0, 1, Some(entry), Some(origin)) => {
                 let plain = Spell::plain().entry(&entry);
-                strict(l.entry, plain, Answer::Found(Some(Stored { entry, token: l.token, available: l.available })))
+                strict(l.entry, plain, Answer::Found(Some(Shown { entry, token: l.token, available: l.available, origin: Some(origin) })))
             }
-            (0, 0, _) => strict(l, none, Answer::Found(None)),
-            (n, _, _) => strict(got, raw::EntryFound { refusal: n, found: 0, lengthy: none }, Answer::Refused(n)),
+            (0, 0, _, _) => strict(l, none, Answer::Found(None)),
+            (n, _, _, _) => strict(got, raw::EntryFound { refusal: n, found: 0, lengthy: none }, Answer::Refused(n)),
         }
     }
     /// The place of a match, if there is one; its part must be the record of that place, and empty if there is none.
@@ -232,12 +232,7 @@ impl Port {
     /// The entry of a record, by the model's reading.
     fn record(&self, place: usize) -> Option<Stored> {
         let (at, len) = (self.buffers.spt_dir[2 * place] as usize, self.buffers.spt_dir[2 * place + 1] as usize);
-        let (key, value) = self.buffers.spt[at..at + len].split_at(len.checked_sub(112)?);
-        let (subspace, path, timestamp) = FIELD.decode(false, key)?;
-        let number = |at: usize| u64::from_be_bytes(value[at..at + 8].try_into().unwrap());
-        let (namespace, payload_digest) = (self.state.namespace_id, value[8..40].try_into().unwrap());
-        let entry = Entry { namespace, subspace, path, timestamp, payload_length: number(0), payload_digest };
-        Some(Stored { entry, token: value[40..104].try_into().unwrap(), available: number(104) })
+        read_record(self.state.namespace_id, &self.buffers.spt[at..at + len], false)
     }
     /// A whole listing, from place 0 on.
     fn list(&self, h: Handed, ask: impl Fn(raw::Buffers, usize) -> (raw::Listed, raw::Part)) -> Answer {
@@ -246,7 +241,7 @@ impl Port {
             let (listed, part) = ask(self.buffers.shared(h.lengths), from);
             match self.next(listed, part, from) {
                 Ok(Some(place)) => match self.record(place as usize) {
-                    Some(x) => out.push(x),
+                    Some(x) => out.push(x.into()),
                     None => return Answer::Said(format!("no record at place {place}")),
                 },
                 Ok(None) => return Answer::List(out),

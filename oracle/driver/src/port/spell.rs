@@ -91,6 +91,13 @@ impl Spell {
             payload_digest: e.payload_digest,
         }
     }
+    /// The session of a local one is not looked at.
+    pub fn origin(&mut self, o: EntryOrigin) -> raw::Origin {
+        match o {
+            EntryOrigin::Local => raw::Origin { remote: 0, session: self.number() },
+            EntryOrigin::Remote(session) => raw::Origin { remote: self.yes(true), session },
+        }
+    }
     pub fn times(&mut self, r: &Range<u64>) -> raw::Times {
         let junk = self.number();
         raw::Times { start: r.start, end: r.end.unwrap_or(junk), open: self.yes(r.end.is_none()) }
@@ -151,6 +158,14 @@ pub fn unentry(e: &raw::Entry) -> Option<Entry> {
         payload_length: e.payload_length,
         payload_digest: e.payload_digest,
     })
+}
+/// An origin that the door answered; none if it is not one of those that it answers.
+pub fn unorigin(o: &raw::Origin) -> Option<EntryOrigin> {
+    match (o.remote, o.session) {
+        (0, 0) => Some(EntryOrigin::Local),
+        (1, session) => Some(EntryOrigin::Remote(session)),
+        _ => None,
+    }
 }
 pub fn unrange(r: &raw::Range) -> Option<Range3d> {
     let open = |flag: u8| flag != 0;

@@ -9,7 +9,7 @@ pub const ROWS: [&str; 49] = [
     "call record", "call unrecord", "recorded, another length than before", "recorded, the same length as before", "recorded, a smaller length than before",
     "recorded, the whole payload", "recorded, a part of the payload", "recorded, none of a payload that is not empty", "recorded, an empty payload", "recorded, a payload of 2^64 - 1 bytes",
     "recorded with no digest expected", "recorded with its digest expected", "recorded beside a path that ties", "recorded, neither first nor last in its tree",
-    "recorded, at another place in the other tree", "recorded in a full store", "recorded, a record of 410 bytes", "payload forgotten", "payload forgotten, none was there", "payload forgotten with its digest expected",
+    "recorded, at another place in the other tree", "recorded in a full store", "recorded, a record of the greatest length", "payload forgotten", "payload forgotten, none was there", "payload forgotten with its digest expected",
     "refused 11", "refused 11, a longer path is stored", "refused 11, a shorter path is stored", "refused 11, both are stored", "refused 11, neither is stored",
     "refused 11, the path is stored in another subspace", "refused 11 with a digest expected", "refused 11 of a payload to forget",
     "refused 9 of a recording", "refused 9 of a recording, it would be 12 too", "refused 9 of a payload to forget", "refused 12", "refused 12, one too many", "refused 12, 2^64 - 1",
@@ -31,7 +31,8 @@ impl Table {
             let mut end = 0;
             let one = records_of(store, which == 2).any(|length| {
                 end += length;
-                (end - 8..end).contains(&byte)
+                let available = end - ORIGIN as u64;
+                (available - 8..available).contains(&byte)
             });
             self.add("refused 3, an available length in one tree alone", one);
         }
@@ -126,7 +127,7 @@ impl Table {
                 self.add("recorded, neither first nor last in its tree", 0 < i && i + 1 < list.len());
                 self.add("recorded, at another place in the other tree", times[i] != key(&x.entry, true));
                 self.add("recorded in a full store", store.limit == Some(list.len() as u64));
-                self.add("recorded, a record of 410 bytes", record(x, false).len() as u64 == RECORD_MOST);
+                self.add("recorded, a record of the greatest length", record(x, false).len() as u64 == RECORD_MOST);
             }
             _ => {}
         }

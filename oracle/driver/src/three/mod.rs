@@ -1,13 +1,15 @@
 //! The customer's Rust, the model and the port in one process, call by call. Answers are compared as values; after every
 //! call the port's state, both trees, both directories, the tally, the prune list and what lies beyond the bounds are compared
-//! byte for byte with what the model says, and the Rust's trees record by record, with the tally that is counted in them. In a run that
-//! makes a call of 02's U4, which the Rust has not, the Rust is not asked, and the model judges alone.
+//! byte for byte with what the model says, and the Rust's trees record by record, but for the origins that it has not (cuts.rs), with the tally that is
+//! counted in them. In a run that makes a call of 02's U4, which the Rust has not, the Rust is not asked, and the model judges alone.
 pub mod arrivals;
+pub mod origins;
 pub mod reading;
 pub mod run;
 pub mod table;
 use crate::answer::{Answer, Records};
 use crate::call::Call;
+use crate::cuts;
 use crate::judge::Judge;
 use crate::oracle::{Oracle, Way};
 use crate::params::Ns;
@@ -56,6 +58,13 @@ pub struct Three {
     alone: bool,
 }
 
+/// A byte or a number of the port's that was changed, and what it was.
+struct Change {
+    which: usize,
+    at: usize,
+    old: u32,
+}
+
 fn pattern(r: &mut Rng, needed: usize) -> Vec<u8> {
     let mut v = vec![0; needed + r.at(40)];
     let (a, b) = (r.next() as u8 | 1, r.next() as u8);
@@ -85,7 +94,7 @@ impl Three {
     pub fn new(alone: bool) -> Three {
         let shadow = buffers(&mut Rng(0), 2);
         Three {
-            rust: Oracle::open(Ns::default(), Some(0)),
+            rust: Oracle::compared(Ns::default(), Some(0)),
             judge: Judge { store: Store::closed(FIELD) },
             port: Port { state: raw::State::default(), buffers: shadow.clone() },
             shadow,
@@ -118,12 +127,12 @@ impl Three {
     }
     /// Makes the call faulty: what is handed in, the refusal, and what to undo afterwards. Another limit may be no fault; all else
     /// must be one to the model.
-    fn front(&mut self, step: &Step, plain: Handed) -> Result<(Handed, Option<u8>, Option<(usize, usize, u32)>), String> {
-        let (mut h, mut undo) = (plain, None);
+    fn front(&mut self, step: &Step, plain: Handed) -> Result<(Handed, Option<u8>, Vec<Change>), String> {
+        let (mut h, mut undo) = (plain, vec![]);
         let mut limit = h.state.limit as u64;
         let room = |which: usize, limit: u64| [RECORD_MOST, 2, RECORD_MOST, 2, ITEM, 1][which].saturating_mul(limit) as usize;
         match step.front {
-            Front::Plain => return Ok((plain, None, None)),
+            Front::Plain => return Ok((plain, None, undo)),
             Front::Limit(n) => h.state.limit = n as usize,
             Front::Count(n) => h.state.count = n as usize,
             Front::Short(which, by) if which < 6 => {
@@ -136,7 +145,12 @@ impl Three {
             Front::Changed(which, at, by) => {
                 if room(which, limit) > 0 && on_store(&step.call) {
                     let at = at as usize % room(which, limit);
-                    undo = Some((which, at, self.change(which, at, by)));
+                    undo.push(self.change(which, at, by));
+                }
+            }
+            Front::Origin(place, nine) => {
+                if on_store(&step.call) && place < self.judge.store.entries().len() {
+                    undo = self.change_origin(place, nine);
                 }
             }
         }
@@ -145,25 +159,41 @@ impl Three {
         }
         let refusal = self.refused(&step.call, &h, limit);
         if refusal.is_none() {
-            self.undo(undo);
+            self.undo(&undo);
             return match step.front {
                 Front::Count(n) if n as usize != plain.state.count && on_store(&step.call) => Err("another count is no fault to the model".into()),
                 Front::Short(..) | Front::Changed(..) => Err("a short or changed buffer is no fault to the model".into()),
-                _ => Ok((plain, None, None)),
+                Front::Origin(place, _) if place < self.judge.store.entries().len() && on_store(&step.call) => Err("an unlawful origin is no fault to the model".into()),
+                _ => Ok((plain, None, vec![])),
             };
         }
         Ok((h, refusal, undo))
     }
-    /// Changes a byte or a number of the port's, and answers what it was; or takes the change back.
-    fn change(&mut self, which: usize, at: usize, by: u32) -> u32 {
+    /// Changes a byte or a number of the port's; or takes changes back.
+    fn change(&mut self, which: usize, at: usize, by: u32) -> Change {
         let old = self.port.buffers.at(which, at);
         let new = old.wrapping_add(by | 1);
         self.port.buffers.set(which, at, new);
-        old
+        Change { which, at, old }
     }
-    fn undo(&mut self, undo: Option<(usize, usize, u32)>) {
-        if let Some((which, at, old)) = undo {
-            self.port.buffers.set(which, at, old);
+    /// Writes the nine bytes of an entry's origin into both trees of the port's.
+    fn change_origin(&mut self, place: usize, nine: [u8; ORIGIN]) -> Vec<Change> {
+        let mut changed = vec![];
+        for (which, time_first) in [(0, false), (2, true)] {
+            let key = key(&self.judge.store.entries()[place].entry, time_first);
+            let records = &self.records[time_first as usize];
+            let i = records.iter().position(|r| r.0 == key).expect("a stored entry");
+            let end: usize = records[..=i].iter().map(|(k, v)| k.len() + v.len()).sum();
+            for (at, byte) in (end - ORIGIN..end).zip(nine) {
+                changed.push(Change { which, at, old: self.port.buffers.at(which, at) });
+                self.port.buffers.set(which, at, byte as u32);
+            }
+        }
+        changed
+    }
+    fn undo(&mut self, undo: &[Change]) {
+        for c in undo {
+            self.port.buffers.set(c.which, c.at, c.old);
         }
     }
     /// An opening gets new buffers, or those that are there if they are long enough: then an old store lies in them.
@@ -206,19 +236,16 @@ impl Three {
             return self.poke(step, h, model);
         }
         if let Call::Dump = call {
-            let rust = if self.closed || self.alone { model.clone() } else { self.rust.exec(call) };
-            return if rust == model { Ok((model, if self.alone { Judged::ByModel } else { Judged::ByBoth })) } else { Err(format!("trees: Rust {rust:?}\n  model {model:?}")) };
+            let rust = if self.closed || self.alone { cuts::cut(&model) } else { self.rust.exec(call) };
+            return if rust == cuts::cut(&model) { Ok((model, if self.alone { Judged::ByModel } else { Judged::ByBoth })) } else { Err(format!("trees: Rust {rust:?}\n  model {model:?}")) };
         }
-        let changed = undo.map_or(0, |(which, at, _)| self.port.buffers.at(which, at));
+        let changed: Vec<u32> = undo.iter().map(|c| self.port.buffers.at(c.which, c.at)).collect();
         let port = self.port.exec(call, h, step.salt);
-        if let Some((which, at, _)) = undo {
-            // The change must stand as it was made; it is then taken back.
-            let now = self.port.buffers.at(which, at);
-            if now != changed {
-                return Err(format!("a refused call wrote {which} at {at}"));
-            }
-            self.undo(undo);
+        // What was changed must stand as it was made; it is then taken back.
+        if let Some((c, _)) = undo.iter().zip(changed).find(|(c, changed)| self.port.buffers.at(c.which, c.at) != *changed) {
+            return Err(format!("a refused call wrote {} at {}", c.which, c.at));
         }
+        self.undo(&undo);
         if port != model {
             return Err(format!("answers:\n  model {model:?}\n  port  {port:?}"));
         }
@@ -263,6 +290,7 @@ impl Three {
             return Ok(Judged::ByModel);
         }
         let (rust, way) = self.rust.beside(call, model)?;
+        let model = &cuts::cut(model);
         Ok(match (way, call, &rust, model) {
             (Way::Tied(then), ..) if then != *model => return Err(format!("answers beside ties:\n  Rust  {rust:?}, with these put back {then:?}\n  model {model:?} (and the port)")),
             (_, _, rust, model) if rust == model => Judged::ByBoth,
@@ -298,7 +326,7 @@ impl Three {
         }
         for time_first in [false, true] {
             let (rust, model) = (self.rust.raw(time_first), &self.records[time_first as usize]);
-            if rust.len() != model.len() || rust.iter().zip(model).any(|((k, v), (l, w))| k[..] != l[..] || v[..] != w[..]) {
+            if rust.len() != model.len() || rust.iter().zip(model).any(|((k, v), (l, w))| k[..] != l[..] || v[..] != *cuts::value(w)) {
                 return Err(format!("the Rust's tree and the model's differ, time-first {time_first}"));
             }
             if counted(rust.iter().map(|(k, _)| &k[..]), time_first).as_ref() != Some(&self.items) {

@@ -2,7 +2,7 @@
 use crate::answer::Answer;
 use crate::call::Call;
 use crate::step::{on_store, Front, Step};
-use super::{arrivals, reading};
+use super::{arrivals, origins, reading};
 use model::*;
 
 #[derive(Default)]
@@ -10,13 +10,15 @@ pub struct Table {
     rows: Vec<(String, u64)>,
     /// Where an entry with an available length was forgotten since the opening.
     pub forgotten: Vec<(Subspace, Path)>,
+    /// What was forgotten since the opening, and where it had come from.
+    pub gone: Vec<(Entry, EntryOrigin)>,
 }
 
 const CALLS: [&str; 19] = [
     "open", "ingest", "forget", "farea", "entry", "qarea", "qrange", "narea", "nrange", "count", "size", "aoi", "arange",
     "above", "order", "newer", "inarea", "inrange", "key",
 ];
-const ROWS: [&str; 89] = [
+const ROWS: [&str; 92] = [
     "taken", "taken, nothing pruned", "taken, one pruned", "taken, several pruned", "obsolete", "obsolete by its own path",
     "obsolete by a prefix", "done", "done, an entry forgotten", "done, nothing there", "refused 1", "refused 2", "refused 3",
     "refused 4", "refused 5", "refused 6", "refused 7", "refused 8", "refused 9", "refused 10", "tie: the longer is stored",
@@ -36,10 +38,10 @@ const ROWS: [&str; 89] = [
     "digest whose bytes differ", "token whose bytes differ", "subspace of 16 bytes", "timestamp from 2^63 on",
     "length from 2^63 on", "namespace not 0", "key that no encoder writes", "key of 298 bytes", "least path above: none",
     "entries compared: newer", "entries compared: older", "entries compared: same", "a new item", "a new item between others",
-    "an item that goes", "an item that goes from between others", "newest timestamp lowered",
+    "an item that goes", "an item that goes from between others", "newest timestamp lowered", "taken, local", "taken, remote", "held, another origin comes",
 ];
 
-fn name(c: &Call) -> &'static str {
+pub fn name(c: &Call) -> &'static str {
     match c {
         Call::Bent(c) => name(c),
         Call::Open(..) => "open",
@@ -113,12 +115,12 @@ impl Table {
     fn get(&self, row: &str) -> u64 {
         self.rows.iter().find(|r| r.0 == row).map_or(0, |r| r.1)
     }
-    /// Every row, with those that never occurred: those of the kind `arrivals`, those of the others.
-    pub fn all(&self, arrivals: bool, others: bool) -> Vec<(String, u64)> {
+    /// Every row, with those that never occurred: those of the kinds `arrivals` and `origins`, those of the others.
+    pub fn all(&self, arrivals: bool, origins: bool, others: bool) -> Vec<(String, u64)> {
         let calls = CALLS.iter().map(|c| format!("call {c}"));
         let fours = CALLS.iter().filter(|c| **c != "open").map(|c| format!("refused 4 in {c}"));
         let rows: Vec<String> = calls.chain(fours).chain(ROWS.iter().chain(&reading::ROWS).map(|r| r.to_string())).filter(|_| others).collect();
-        let more = arrivals::ROWS.iter().filter(|_| arrivals).map(|r| r.to_string());
+        let more = arrivals::ROWS.iter().filter(|_| arrivals).map(|r| r.to_string()).chain(origins::rows().into_iter().filter(|_| origins));
         rows.into_iter().chain(more).map(|r| { let n = self.get(&r); (r, n) }).collect()
     }
     /// Counts one call: the store before it, the call, the model's answer.
@@ -134,6 +136,7 @@ impl Table {
         }
         self.values(c);
         self.arrivals(store, step, c, answer);
+        self.origins(store, step, c, answer);
         if let Call::Ingest(e, ..) = c {
             let stored = |e: &Entry| store.entries().iter().any(|x| x.entry == *e);
             self.add("resend with a wrong tally", *answer == Answer::Refused(10) && stored(e));
@@ -144,7 +147,7 @@ impl Table {
             return;
         }
         match c {
-            Call::Ingest(e, k, prevent) => self.ingestion(store, e, k, *prevent, answer),
+            Call::Ingest(e, k, prevent, origin) => self.ingestion(store, e, k, *prevent, *origin, answer),
             Call::Forget(s, p, _) => {
                 let there = store.entries().iter().any(|x| x.entry.subspace == *s && x.entry.path == *p);
                 self.add("done", *answer == Answer::Done);
@@ -198,7 +201,7 @@ impl Table {
             self.add("empty path", p.is_empty());
         }
         match c {
-            Call::Ingest(e, k, _) => {
+            Call::Ingest(e, k, ..) => {
                 self.add("digest whose bytes differ", differ(&e.payload_digest));
                 self.add("token whose bytes differ", differ(k));
                 self.add("subspace of 16 bytes", differ(&e.subspace[..15]));
@@ -214,13 +217,14 @@ impl Table {
             _ => {}
         }
     }
-    fn ingestion(&mut self, store: &Store, e: &Entry, k: &Token, prevent: bool, answer: &Answer) {
+    fn ingestion(&mut self, store: &Store, e: &Entry, k: &Token, prevent: bool, origin: EntryOrigin, answer: &Answer) {
         let full = store.limit == Some(store.entries().len() as u64);
         self.add("ingestion into a full store", full);
         self.add("ingestion into a full store of 1,024", full && store.limit == Some(1024));
         match answer {
             Answer::Taken(pairs) => {
                 self.add("taken", true);
+                self.add(if origin == EntryOrigin::Local { "taken, local" } else { "taken, remote" }, true);
                 self.add(["taken, nothing pruned", "taken, one pruned", "taken, several pruned"][pairs.len().min(2)], true);
                 self.add("taken by a full store", full);
                 let of: Vec<_> = items(store.entries()).into_iter().map(|item| item.0).collect();
@@ -253,6 +257,7 @@ impl Table {
             self.add("held, pruning prevented", prevent);
             self.add("held by a full store", full);
             self.add("held with another token", x.token != *k);
+            self.add("held, another origin comes", x.origin != origin);
             self.add("held beside a longer path that ties", ties(true));
             self.add("held beside a shorter path that ties", ties(false));
             self.add("held with an available length", x.available > 0);

@@ -9,6 +9,7 @@ use Rattle.laws.specs.Lists.{put}
 use Rattle.data_model.specs.Path.{field, legal}
 use Rattle.data_model.specs.Entry.{Entry, entryOf}
 use Rattle.keys.proofs.Reading.{rest}
+use Rattle.tree.specs.Value.{valueLength}
 use Rattle.tree.specs.Stored.{stored}
 use Rattle.tree.specs.declared.stored.KeyOrder.the-variants.{Spt}
 use Rattle.listing.specs.Say.{entryText, recordText}
@@ -21,13 +22,13 @@ use Rattle.listing.proofs.say.write_record.Tie as tie
 says : (c : tie.After-stored-in) → (legal field (c .stored-in .result .entry .path) ≡ true) × (entryOf (c .stored-in .result .entry) ≡ stored Spt field (replicate 16 0) (c .before .before .before .before .before .args .rec .now) .entry)
 says c =
     let r = c .before .before .before .before .before .args .rec .now in
-    record-says (replicate 16 0) r _ _ (c .stored-in .result) (λ i. c .before .before .before .before .shared-slice-known .given i .fits) refl (rest r (length r - 112)) (c .stored-in .ensures)
+    record-says (replicate 16 0) r _ _ (c .stored-in .result) (λ i. c .before .before .before .before .shared-slice-known .given i .fits) refl (rest r (length r - valueLength)) (c .stored-in .ensures)
 
 sub-n : tie.Need-sub-n
 sub-n c = search needs
 
 slice-aggregate-stored-in : tie.Need-slice-aggregate-stored-in
-slice-aggregate-stored-in c = let r = (c .before .before .before) .args .rec .now in sym (length-take-le (length r - 112) r (omega arith))
+slice-aggregate-stored-in c = let r = (c .before .before .before) .args .rec .now in sym (length-take-le (length r - valueLength) r (omega arith))
 
 sub-stored-in : tie.Need-sub-stored-in
 sub-stored-in c = search needs

@@ -106,7 +106,7 @@ returns c =
     let i = c .before .before .before .before .insert-at in (
       filing-done (p .pre .0) (handed p) (known (c .before .before .before .before .before .before .before .before .before .before .before .before .before .before .before .before .before .before .before .before .before .before .before .before)) _ _ (p .pre .1) (r .result) (r .last .1 .0) (r .last .1 .1 .0) (r .ensures .0) (r .ensures .1 .0) (r .ensures .1 .1) _
           (front-written _ _ (e .last .1 .1 .0) (e .result) (e .ensures .0) (e .ensures .1)) _ (front-key _ _ (e .last .1 .1 .0) (e .result) (e .ensures .0) (e .ensures .1)) _ (c .before .before .before .before .before .before .before .before .find .ensures .0) _ _ (i .ensures .0) (i .ensures .1),
-      inserted-lawful (p .args .order) (p .args .a) (handed p) (omega (arith, path-long p)) (p .pre .0 .path) _ (front-written _ _ (e .last .1 .1 .0) (e .result) (e .ensures .0) (e .ensures .1)) _ (c .before .before .before .before .before .before .before .before .find .result .at) (records (r .result) (r .last .1 .0) (r .last .1 .1 .0)) _ (λ j. c .slice-known6 .given j .fits) (i .ensures .0),
+      inserted-lawful (p .args .order) (p .args .a) (handed p) (omega (arith, path-long p)) (p .pre .0 .path) (e .ensures .2) _ (front-written _ _ (e .last .1 .1 .0) (e .result) (e .ensures .0) (e .ensures .1)) _ (c .before .before .before .before .before .before .before .before .find .result .at) (records (r .result) (r .last .1 .0) (r .last .1 .1 .0)) _ (λ j. c .slice-known6 .given j .fits) (i .ensures .0),
     )
 
 pub file-marked-spec : {M : Type 1} → statement M

@@ -64,7 +64,7 @@ file-marked-requires c κs =
     let p = c .before .before .before .before .before .before .before .before .before .before .before .before .before .before .before .before in
     let f = known p .passes .few in
     let m = known p .passes .most in (
-      files-spt (lent p) (p .args .prune .now) (p .args .ingestion .entry) (p .pre .0) (λ i. c .before .before .before .before .before .before .before .before .before .before .before .before .before .before .before .slice-known .given i .fits) (λ i. c .before .before .before .before .before .before .before .before .before .before .before .before .before .slice-known3 .given i .fits) (p .args .ingestion .token),
+      files-spt (lent p) (p .args .prune .now) (p .args .ingestion .entry) (p .pre .0) (λ i. c .before .before .before .before .before .before .before .before .before .before .before .before .before .before .before .slice-known .given i .fits) (λ i. c .before .before .before .before .before .before .before .before .before .before .before .before .before .slice-known3 .given i .fits) (p .args .ingestion .token) (p .args .ingestion .origin),
       marked-spt (lent p) (p .args .prune .now) (p .args .ingestion .entry) (p .pre .0) (p .args .removed .now) (p .pre .1) (p .pre .2),
       omega (arith, p .pre .2),
     )
@@ -88,7 +88,7 @@ slice-aggregate-file-in-2 c =
 file-in-requires : tie.Need-file-in-requires
 file-in-requires c κs =
     let p = c .before .before .before .before .before .before .before .before .before .before .before .before .before .before .before .before .before .before .before .before .before .before .before in
-    files-tsp (lent p) (p .args .prune .now) (p .args .ingestion .entry) (p .pre .0) (λ i. c .before .before .before .before .before .before .before .before .before .before .before .before .before .before .before .before .before .before .before .before .before .before .slice-known .given i .fits) (λ i. c .before .before .before .before .before .before .before .before .before .before .before .before .before .before .before .before .before .before .before .before .slice-known3 .given i .fits) (p .args .ingestion .token)
+    files-tsp (lent p) (p .args .prune .now) (p .args .ingestion .entry) (p .pre .0) (λ i. c .before .before .before .before .before .before .before .before .before .before .before .before .before .before .before .before .before .before .before .before .before .before .slice-known .given i .fits) (λ i. c .before .before .before .before .before .before .before .before .before .before .before .before .before .before .before .before .before .before .before .before .slice-known3 .given i .fits) (p .args .ingestion .token) (p .args .ingestion .origin)
 
 same-length : tie.Need-same-length
 same-length c = search needs
@@ -111,7 +111,7 @@ returns c =
     let p = c .before .before .before .before .before .before .before .before .before .before .before .before .before .before .before .before .before .before .before .before .before .before .before .before .before .before .before .before in
     let x = c .before .before .before .before .before .before .before .before .before .before .before .file-marked in
     let y = c .before .before .before .before .file-in in (
-      filed-both (lent p) (p .args .prune .now) (p .args .ingestion .entry) (p .pre .0) (p .args .ingestion .token) (x .last .1 .1 .0) (x .last .1 .1 .1 .0) (y .last .1 .1 .0) (y .last .1 .1 .1 .0) (x .result) (y .result) (x .ensures .0) (y .ensures),
+      filed-both (lent p) (p .args .prune .now) (p .args .ingestion .entry) (p .pre .0) (p .args .ingestion .token) (p .args .ingestion .origin) (x .last .1 .1 .0) (x .last .1 .1 .1 .0) (y .last .1 .1 .0) (y .last .1 .1 .1 .0) (x .result) (y .result) (x .ensures .0) (y .ensures),
       (pruned-done (lent p) (p .args .prune .now) (p .args .ingestion .entry) (p .pre .0) (p .args .removed .now) (p .pre .1) (p .pre .2) _ (c .before .before .before .before .before .before .before .before .before .before .before .before .before .before .before .before .write-pairs .ensures .1), x .ensures .1),
     )
 

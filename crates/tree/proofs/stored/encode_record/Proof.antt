@@ -1,6 +1,6 @@
 -- `encode_record` meets its contract: the key, and the value in the part behind it. Assumes nothing.
-use Prim.Native.Nat.{_≤_, _+_}
-use mathlib.Core.Path.{_≡_}
+use Prim.Native.Nat.{ℕ, _≤_, _<_, _+_, _^_}
+use mathlib.Core.Path.{_≡_, subst}
 use native.Mathlib.Omega.{arith}
 use native.Mathlib.Nat.{le-refl}
 use lib.ListN.{length}
@@ -20,16 +20,26 @@ digest-long c = search needs
 token-long : (c : tie.Start) → length (c .args .a .token) ≡ 64
 token-long c = search needs
 
+-- The session is a number of 64 bits.
+session-fits : (c : tie.After-session) → c .session .result < 2 ^ 64
+session-fits c = search needs
+
 long : (c : tie.After-slice-known2) → c .before .before .encode-key .result ≤ keyMost field
 long c =
-    let a = c .before .before .before .before .before .before .before .before .before .before .args in
-    omega (arith, c .before .before .encode-key .ensures .0, key-fits (a .order) field (a .a .entry .«subspace_id») (a .a .entry .path) (a .a .entry .timestamp) (c .before .before .before .before .before .before .before .before .before .before .pre .0))
+    let a = c .before .before .before .before .before .before .before .before .before .before .before .before .args in
+    omega (arith, c .before .before .encode-key .ensures .0, key-fits (a .order) field (a .a .entry .«subspace_id») (a .a .entry .path) (a .a .entry .timestamp) (c .before .before .before .before .before .before .before .before .before .before .before .before .pre .0))
 
 room : (c : tie.After-slice-known2) → keyMost field + valueLength ≤ length (c .before .before .encode-key .last .1 .1 .1 .1 .0)
-room c = omega (arith, c .before .before .encode-key .kept .1 .1 .1 .1 .0, c .before .before .before .before .before .before .before .before .before .before .pre .1)
+room c = omega (arith, c .before .before .encode-key .kept .1 .1 .1 .1 .0, c .before .before .before .before .before .before .before .before .before .before .before .before .pre .1)
+
+kind-requires : tie.Need-kind-requires
+kind-requires c κs = search needs
+
+session-requires : tie.Need-session-requires
+session-requires c κs = search needs
 
 encode-key-requires : tie.Need-encode-key-requires
-encode-key-requires c κs = let p = c .before .before .before .before .before .before .before in (p .pre .0, omega (arith, p .pre .1))
+encode-key-requires c κs = let p = c .before .before .before .before .before .before .before .before .before in (p .pre .0, omega (arith, p .pre .1))
 
 sub-encode-entry-values : tie.Need-sub-encode-entry-values
 sub-encode-entry-values c = omega (arith, long c, room c)
@@ -54,16 +64,20 @@ same-length c = search needs
 
 returns : tie.Need-returns
 returns c =
-    let p = c .before .before .before .before .before .before .before .before .before .before .before .before .before .before in
+    let p = c .before .before .before .before .before .before .before .before .before .before .before .before .before .before .before .before in
     let f = c .before .before .before .before .before .before .encode-key in
+    let s = c .before .before .before .before .before .before .before .before in
     let g = c .before .before .encode-entry-values in
-    record-wrote (p .args .order) (p .args .a) (digest-long p) (token-long p) (p .args .out .now) (f .last .1 .1 .1 .1 .0) _ (f .result) (g .result)
-    (omega (arith, long (c .before .before .before .before), p .pre .1)) (f .ensures .0) (f .ensures .1) (omega (arith, long (c .before .before .before .before), room (c .before .before .before .before), g .ensures .0)) (g .ensures .0) (g .ensures .1)
+    let w = record-wrote (p .args .order) (p .args .a) (digest-long p) (token-long p) _ _ (s .before .kind .ensures) (s .session .ensures) (p .args .out .now) (f .last .1 .1 .1 .1 .0) _ (f .result) (g .result)
+    (omega (arith, long (c .before .before .before .before), p .pre .1)) (f .ensures .0) (f .ensures .1) (omega (arith, long (c .before .before .before .before), room (c .before .before .before .before), g .ensures .0)) (g .ensures .0) (g .ensures .1) in
+    (w .0, w .1, subst (λ (n : ℕ). n < 2 ^ 64) (s .session .ensures) (session-fits s))
 
 pub encode-record-spec : {M : Type 1} → statement M
 encode-record-spec =
     tie.close
     (tie.spec
+    kind-requires
+    session-requires
     encode-key-requires
     sub-encode-entry-values
     part-encode-entry-values-start

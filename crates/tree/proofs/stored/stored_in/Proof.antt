@@ -10,11 +10,14 @@ decode-key-requires c κs = search needs
 decode-entry-values-requires : tie.Need-decode-entry-values-requires
 decode-entry-values-requires c κs = search needs
 
+new-requires : tie.Need-new-requires
+new-requires c κs = search needs
+
 returns : tie.Need-returns
 returns c =
-    let d = c .before .before .before .before .before .decode-key in
-    let v = c .before .before .before .before .decode-entry-values in
-    stored-read _ _ _ (d .result) (v .result) (d .ensures) (v .ensures)
+    let d = c .before .before .before .before .before .before .decode-key in
+    let v = c .before .before .before .before .before .decode-entry-values in
+    stored-read _ _ _ (d .result) (v .result) _ (d .ensures) (v .ensures) (c .new .ensures)
 
 pub stored-in-spec : {M : Type 1} → statement M
 stored-in-spec =
@@ -22,4 +25,5 @@ stored-in-spec =
     (tie.spec
     decode-key-requires
     decode-entry-values-requires
+    new-requires
     returns)

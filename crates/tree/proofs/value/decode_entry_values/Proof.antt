@@ -1,5 +1,7 @@
 -- `decode_entry_values` meets its contract, a part at a time. Assumes nothing.
+use mathlib.Core.Path.{refl}
 use Rattle.keys.proofs.Reading.{rest}
+use Rattle.tree.specs.Value.{availableAt, sessionAt}
 use Rattle.tree.proofs.RecordParts.{value-parts}
 use borrow.Author.Needs.{needs}
 use Rattle.tree.proofs.value.decode_entry_values.Statement.{statement}
@@ -44,12 +46,27 @@ part-read-u64-end c = search needs
 read-u64-requires-2 : tie.Need-read-u64-requires-2
 read-u64-requires-2 c κs = search needs
 
+shared-slice-read-t17 : tie.Need-shared-slice-read-t17
+shared-slice-read-t17 c = search needs
+
+sub-read-u64-2 : tie.Need-sub-read-u64-2
+sub-read-u64-2 c = search needs
+
+part-read-u64-start-2 : tie.Need-part-read-u64-start-2
+part-read-u64-start-2 c = search needs
+
+part-read-u64-end-2 : tie.Need-part-read-u64-end-2
+part-read-u64-end-2 c = search needs
+
+read-u64-requires-3 : tie.Need-read-u64-requires-3
+read-u64-requires-3 c κs = search needs
+
 returns : tie.Need-returns
 returns c =
-    let p = c .before .before .before .before .before .before .before in
-    let b = p .before .args .value .now in
-    value-parts b _ (c .before .before .before .before .before .copy-32 .result) (c .before .before .before .copy-64 .result) (c .before .before .read-u64 .result) (c .read-u642 .result)
-    (c .before .before .read-u64 .ensures) (c .before .before .before .before .before .copy-32 .ensures) (c .before .before .before .copy-64 .ensures) (rest b 104) (c .read-u642 .ensures)
+    let p = c .before .before .before .before .before in
+    let b = p .before .before .before .before .before .before .args .value .now in
+    value-parts b _ _ (p .before .before .before .copy-32 .result) (p .before .copy-64 .result) (p .read-u64 .result) (c .before .before .before .read-u642 .result) _ (c .read-u643 .result)
+    (p .read-u64 .ensures) (p .before .before .before .copy-32 .ensures) (p .before .copy-64 .ensures) (rest b availableAt) (c .before .before .before .read-u642 .ensures) refl (rest b sessionAt) (c .read-u643 .ensures)
 
 pub decode-entry-values-spec : {M : Type 1} → statement M
 decode-entry-values-spec =
@@ -68,4 +85,9 @@ decode-entry-values-spec =
     part-read-u64-start
     part-read-u64-end
     read-u64-requires-2
+    shared-slice-read-t17
+    sub-read-u64-2
+    part-read-u64-start-2
+    part-read-u64-end-2
+    read-u64-requires-3
     returns)

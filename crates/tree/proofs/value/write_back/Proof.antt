@@ -1,10 +1,11 @@
 -- `write_back` meets its contract. Assumes nothing.
-use Prim.Native.Nat.{_≤_}
+use Prim.Native.Nat.{_≤_, _-_}
 use native.Mathlib.Omega.{arith}
 use native.Mathlib.Nat.{le-refl}
 use lib.ListN.{length}
 use Rattle.data_model.proofs.Values.{length-piece}
 use borrow.Author.Needs.{needs}
+use Rattle.tree.specs.Value.{tokenAt, valueLength}
 use Rattle.tree.proofs.RecordParts.{back-wrote}
 use Rattle.tree.proofs.value.write_back.Statement.{statement}
 use Rattle.tree.proofs.value.write_back.Tie as tie
@@ -13,20 +14,20 @@ write-requires : tie.Need-write-requires
 write-requires c κs = let p = c .before .before .before in omega (arith, p .pre .0, p .pre .1)
 
 -- There is room behind the token.
-room : (c : tie.After-slice-known2) → 72 ≤ length (c .before .before .write .last .0)
+room : (c : tie.After-slice-known2) → valueLength - tokenAt ≤ length (c .before .before .write .last .0)
 room c = omega (arith, c .before .before .write .kept .0, c .before .before .before .before .before .before .pre .1)
 
-sub-write-u64 : tie.Need-sub-write-u64
-sub-write-u64 c = omega (arith, room c)
+sub-write-end : tie.Need-sub-write-end
+sub-write-end c = omega (arith, room c)
 
-part-write-u64-start : tie.Need-part-write-u64-start
-part-write-u64-start c = omega (arith, room c)
+part-write-end-start : tie.Need-part-write-end-start
+part-write-end-start c = omega (arith, room c)
 
-part-write-u64-end : tie.Need-part-write-u64-end
-part-write-u64-end c = le-refl _
+part-write-end-end : tie.Need-part-write-end-end
+part-write-end-end c = le-refl _
 
-write-u64-requires : tie.Need-write-u64-requires
-write-u64-requires c κs =
+write-end-requires : tie.Need-write-end-requires
+write-end-requires c κs =
     let m = c .before .before .before .write .last .0 in
     simp (length-piece 64 (length m) m (le-refl (length m))) (omega (arith, room (c .before)))
 
@@ -37,16 +38,16 @@ returns : tie.Need-returns
 returns c =
     let p = c .before .before .before .before .before .before .before .before .before .before in
     let g = c .before .before .before .before .before .before .write in
-    back-wrote (p .args .token .now) (p .args .n) (p .pre .0) (p .args .out .now) (g .last .0) _ (p .pre .1) (g .ensures) (c .before .before .write-u64 .ensures .1)
+    back-wrote (p .args .token .now) (p .args .n) (p .args .kind) (p .args .session) (p .pre .0) (p .args .out .now) (g .last .0) _ (p .pre .1) (g .ensures) (c .before .before .write-end .ensures)
 
 pub write-back-spec : {M : Type 1} → statement M
 write-back-spec =
     tie.close
     (tie.spec
     write-requires
-    sub-write-u64
-    part-write-u64-start
-    part-write-u64-end
-    write-u64-requires
+    sub-write-end
+    part-write-end-start
+    part-write-end-end
+    write-end-requires
     same-length
     returns)
