@@ -1,7 +1,7 @@
 /* One call of the door, for a count of its instructions: `calls CALL ENTRIES MORE SUBSPACES` builds a store of so many entries, their paths with so
    many components of 16 bytes more, in so many subspaces by turns, and makes the call once in `measured`. `calls` alone names the calls. With one subspace the entries are
    those of times.c. The call `again` files a stored entry once more: from edition 3 on it must be held. For older archives: editions.h;
-   with VB_NO_ARRIVALS the last two are left out. */
+   with VB_NO_ARRIVALS the two about available lengths are left out. Listings go by place there, and by key here: a step behind the first half, and a whole listing, one call a match. */
 #include "editions.h"
 #include <stdio.h>
 #include <stdlib.h>
@@ -38,12 +38,18 @@ static vb_area area(void) {
     return a;
 }
 
-static const char *const calls[] = {"validation", "ingest_entry_numbers", "ingest_entry", "again", "newer", "forget_entry", "forget_area", "count_area of all", "count_area of one path", "entry", "query_area_place", "area_of_interest_to_range",
-#ifndef VB_NO_ARRIVALS
-                                    "record_available_length", "forget_payload",
+static const char *const calls[] = {"validation", "ingest_entry_numbers", "ingest_entry", "again", "newer", "forget_entry", "forget_area", "count_area of all", "count_area of one path", "entry", "a step of a listing: found", "area_of_interest_to_range",
+                                    "record_available_length", "forget_payload", "a step of a listing: the record", "a whole listing"};
+enum { CALLS = sizeof calls / sizeof *calls, RECORD_LENGTH = 12, FORGET_PAYLOAD, STEP_RECORD, WHOLE_LISTING };
+
+/* Whether the archive has the call. */
+static int has(int call) {
+#ifdef VB_NO_ARRIVALS
+    return call != RECORD_LENGTH && call != FORGET_PAYLOAD;
+#else
+    return call < CALLS;
 #endif
-};
-enum { CALLS = sizeof calls / sizeof *calls, RECORD_LENGTH = 12, FORGET_PAYLOAD };
+}
 
 /* Each call answers what `wanted` says, or the program ends with 1. */
 __attribute__((noinline)) static size_t measured(int call) {
@@ -63,7 +69,9 @@ __attribute__((noinline)) static size_t measured(int call) {
     case 7: return vb_count_area(state, READ, all).count;
     case 8: return vb_count_area(state, READ, one).count;
     case 9: return vb_find_entry(state, READ, mid.subspace_id, mid.path, nothing).found;
-    case 10: return vb_query_area_place(state, READ, all, nothing, entries / 2).place;
+    case 10: return step_finds(state, READ, all, nothing, entries / 2);
+    case STEP_RECORD: return step_gives(state, READ, all, nothing, entries / 2);
+    case WHOLE_LISTING: return whole_listing(state, READ, all, nothing);
 #ifndef VB_NO_ARRIVALS
     case RECORD_LENGTH: return vb_record_available_length(state, READ, mid.subspace_id, mid.path, 1, mid.payload_digest, 2).refusal;
     case FORGET_PAYLOAD: return vb_forget_payload(state, READ, mid.subspace_id, mid.path, 1, mid.payload_digest).refusal;
@@ -82,13 +90,14 @@ static uint64_t available(void) {
 int main(int argc, char **argv) {
     static const uint8_t namespace_id[16];
     if (argc != 5) {
-        for (int k = 0; k < CALLS; k++) printf("%d %s\n", k, calls[k]);
+        for (int k = 0; k < CALLS; k++)
+            if (has(k)) printf("%d %s\n", k, calls[k]);
         return argc != 1;
     }
     (void)tally; /* not lent to an archive of edition 1 */
     int call = atoi(argv[1]);
     entries = strtoul(argv[2], 0, 10), more = atoi(argv[3]), subspaces = strtoul(argv[4], 0, 10);
-    if (call < 0 || call >= CALLS || entries < 4 || entries > MOST || more < 0 || more > 7 || !subspaces) return 2;
+    if (call < 0 || call >= CALLS || !has(call) || entries < 4 || entries > MOST || more < 0 || more > 7 || !subspaces) return 2;
     state.limit = entries;
     state = vb_open(namespace_id, entries, STORE).state;
     for (size_t k = 0; k < entries; k++) {
@@ -103,8 +112,8 @@ int main(int argc, char **argv) {
     if (call == FORGET_PAYLOAD && vb_record_available_length(state, READ, mid.subspace_id, mid.path, 0, token, 3).refusal) return 1;
     if (available() != (call == FORGET_PAYLOAD ? 3 : 0)) return 1;
 #endif
-    const size_t wanted[] = {4, entries, entries, entries, 1, entries - 1, entries / 2, entries, 1, 1, entries / 2, 101, 0, 0};
+    const size_t wanted[] = {4, entries, entries, entries, 1, entries - 1, entries / 2, entries, 1, 1, 1, 101, 0, 0, dir[0][entries / 2 * 2 + 1], entries};
     if (measured(call) != wanted[call]) return 1;
-    if (call >= RECORD_LENGTH && available() != (call == FORGET_PAYLOAD ? 0 : 2)) return 1;
+    if ((call == RECORD_LENGTH || call == FORGET_PAYLOAD) && available() != (call == FORGET_PAYLOAD ? 0 : 2)) return 1;
     return call == 3 && vb_edition() > 2 && !vb_ingest_entry(state, STORE, prune, entries, entry(entries / 2), token, 0 FROM).held;
 }

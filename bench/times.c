@@ -1,6 +1,7 @@
 /* Times the store's calls through the door, beside memcmp and memmove of the same bytes. The validation of a store is vb_count_area with an illegal path:
    it is refused with 4 once 1, 2 and 3 have been ruled out. Microseconds, the best of 200 rounds: the noise of a shared machine only adds. With an
-   argument, so many rounds. For older archives: editions.h; with VB_NO_ARRIVALS the columns of these calls are 0. */
+   argument, so many rounds. For older archives: editions.h; with VB_NO_ARRIVALS the columns of these calls are 0. A listing goes by place there, and by key here: `step` is one behind the first half
+   that says whether it finds something, `step's record` one that answers the record, and `listing` a whole one, of which there are fewer rounds. */
 #define _POSIX_C_SOURCE 199309L
 #include "editions.h"
 #include <stdbool.h>
@@ -112,8 +113,15 @@ static void times(size_t n, int more) {
     must("a count", sink, n);
     BEST(small, , sink = vb_count_area(store.state, READ, one).count)
     must("a small count", sink, 1);
-    BEST(step, , sink = vb_query_area_place(store.state, READ, all, nothing, n / 2).place)
-    must("a step", sink, n / 2);
+    BEST(step, , sink = step_finds(store.state, READ, all, nothing, n / 2))
+    must("a step", sink, 1);
+    BEST(gives, , sink = step_gives(store.state, READ, all, nothing, n / 2))
+    must("a step's record", sink, full.dir[0][n / 2 * 2 + 1]);
+    const int usual = rounds;
+    rounds = 1 + usual / 40;
+    BEST(listing, , sink = whole_listing(store.state, READ, all, nothing))
+    must("a listing", sink, n);
+    rounds = usual;
     BEST(interest, , sink = vb_area_of_interest_to_range(store.state, READ, quarter).range.times.start)
     must("an interest", sink, 101);
     double record = 0, unrecord = 0;
@@ -128,16 +136,16 @@ static void times(size_t n, int more) {
     record = recording, unrecord = unrecording;
 #endif
     BEST(move, , memmove(store.tree[0], store.tree[0] + full.dir[0][1], used))
-    printf("| %zu | %zu | %u | %.1f | %.1f | %.1f | %.1f | %.1f | %.1f | %.1f | %.1f | %.1f | %.1f | %.1f | %.1f | %.1f |\n", n, subspaces, full.dir[0][1], check, cmp, in, again, forget, area, count, small,
-           step, interest, record, unrecord, move);
+    printf("| %zu | %zu | %u | %.1f | %.1f | %.1f | %.1f | %.1f | %.1f | %.1f | %.1f | %.1f | %.1f | %.1f | %.1f | %.1f | %.1f | %.1f |\n", n, subspaces, full.dir[0][1], check, cmp, in, again, forget, area, count, small,
+           step, gives, listing, interest, record, unrecord, move);
 }
 
 int main(int argc, char **argv) {
     static const size_t sizes[] = {64, 256, 1024};
     if (argc > 1) rounds = atoi(argv[1]);
     says_held = vb_edition() > 2;
-    puts("| entries | subspaces | bytes a record | validation | memcmp | ingest | again | forget entry | forget half | count all | count one | step | interest | record | forget payload | memmove of a tree |");
-    puts("|---|---|---|---|---|---|---|---|---|---|---|---|---|---|---|---|");
+    puts("| entries | subspaces | bytes a record | validation | memcmp | ingest | again | forget entry | forget half | count all | count one | step | step's record | listing | interest | record | forget payload | memmove of a tree |");
+    puts("|---|---|---|---|---|---|---|---|---|---|---|---|---|---|---|---|---|---|");
     static const struct { int more; size_t subspaces; } kinds[] = {{0, 1}, {7, 1}, {0, 16}};
     for (int kind = 0; kind < 3; kind++) {
         subspaces = kinds[kind].subspaces;

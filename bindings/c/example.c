@@ -1,5 +1,6 @@
 /* Opens a store, files five readings, one of them from another tablet, and the last of them again, records how much of two photographs has arrived, lists what
-   the store then holds and what of it is all there, looks up where two came from, asks the tally for a recorder's, and drops an area.
+   the store then holds and what of it is all there, files two more while a listing is open, looks up where two came from, asks the tally for a recorder's, and
+   drops an area.
    Build: cc example.c libvirebony.a */
 #include "virebony.h"
 #include <stdio.h>
@@ -62,44 +63,60 @@ static void print_origin(vb_origin from) {
     else puts("local");
 }
 
-/* The entries of an area, but for those that `ignore` passes over: where each record lies, and what the end of its value says: how much of the payload is there,
-   and where the entry came from. */
-static void list(vb_state state, vb_area area, vb_ignore ignore) {
-    for (size_t place = 0;; place++) {
-        vb_listed l = vb_query_area_place(state, READ, area, ignore, place);
-        if (l.refusal || !l.found) break;
-        place = l.place;
-        vb_part r = vb_query_area(state, READ, area, ignore, place);
-        vb_decoded d = vb_decode_spt_entry_key(spt + r.offset, r.length - VB_VALUE);
-        const uint8_t *value = spt + r.offset + r.length - VB_VALUE;
-        const vb_origin from = {value[VB_VALUE_ORIGIN], number(value + VB_VALUE_SESSION, 8)};
-        printf("%zu: ", place);
-        print_path(d.path);
-        printf(" at %llu, %zu bytes from %zu on, %llu of the payload's, ", (unsigned long long)d.timestamp, r.length, r.offset,
-               (unsigned long long)number(value + VB_VALUE_AVAILABLE, 8));
-        print_origin(from);
+/* A listing remembers the last key that it gave; at its start none. */
+typedef struct { uint8_t key[VB_KEY_MOST]; size_t len; } remembered;
+
+/* A step of the listing of an area, but for the entries that `ignore` passes over: where the next record lies, and what the end of its value says: how much of the
+   payload is there, and where the entry came from. Its key is copied, as the next filing writes the tree that it lies in. Answers 0 if there is none. */
+static int step(vb_state state, vb_area area, vb_ignore ignore, remembered *last) {
+    vb_part r = vb_query_area(state, READ, area, ignore, last->key, last->len);
+    if (!r.length) {
+        vb_listed l = vb_query_area_found(state, READ, area, ignore, last->key, last->len);
+        puts(l.refusal ? vb_refusal_text(l.refusal) : "that is all");
+        return 0;
     }
+    const uint8_t *record = spt + r.offset, *value = record + r.length - VB_VALUE;
+    last->len = vb_record_key(record, r.length).length;
+    memcpy(last->key, record, last->len);
+    vb_decoded d = vb_decode_spt_entry_key(last->key, last->len);
+    const vb_origin from = {value[VB_VALUE_ORIGIN], number(value + VB_VALUE_SESSION, 8)};
+    print_path(d.path);
+    printf(" at %llu, %zu bytes from %zu on, %llu of the payload's, ", (unsigned long long)d.timestamp, r.length, r.offset,
+           (unsigned long long)number(value + VB_VALUE_AVAILABLE, 8));
+    print_origin(from);
+    return 1;
+}
+
+static void list(vb_state state, vb_area area, vb_ignore ignore) {
+    remembered last;
+    last.len = 0;
+    while (step(state, area, ignore, &last)) continue;
+}
+
+static const uint8_t namespace_id[16] = {1}, token[64] = {7};
+
+/* Files a reading of recorder 9. */
+static vb_state file(vb_state state, const char *path, uint64_t timestamp, vb_origin from) {
+    vb_entry e;
+    memset(&e, 0, sizeof e);
+    memcpy(e.namespace_id, namespace_id, 16);
+    e.path = path_of(path);
+    e.timestamp = timestamp;
+    e.subspace_id.low = 9; /* the recorder */
+    e.payload_length = 5000;
+    vb_ingested r = vb_ingest_entry(state, STORE, pruned, LIMIT, e, token, 0, from);
+    printf("%s: %s, %zu pruned\n", path, r.refusal ? vb_refusal_text(r.refusal) : r.obsolete ? "obsolete" : r.held ? "held already" : "taken", r.pruned);
+    return r.state;
 }
 
 int main(void) {
     static const char *const paths[] = {"ward/3/ann", "ward/3/bob", "ward/4", "ward/3", "ward/3/ann", "ward/3/ann"};
-    const uint8_t namespace_id[16] = {1}, token[64] = {7};
     vb_opened opened = vb_open(namespace_id, LIMIT, STORE);
     if (vb_edition() != VB_EDITION || opened.refusal) return 1;
     vb_state state = opened.state;
     const vb_origin local = {0, 0}, remote = {1, 31};
-    for (uint64_t i = 0; i < 6; i++) { /* the fourth prunes the first two; the last is the fifth again, which another tablet had too, and stays local */
-        vb_entry e;
-        memset(&e, 0, sizeof e);
-        memcpy(e.namespace_id, namespace_id, 16);
-        e.path = path_of(paths[i]);
-        e.timestamp = 100 + (i < 5 ? i : 4);
-        e.subspace_id.low = 9; /* the recorder */
-        e.payload_length = 5000;
-        vb_ingested r = vb_ingest_entry(state, STORE, pruned, LIMIT, e, token, 0, i == 2 || i == 5 ? remote : local);
-        printf("%s: %s, %zu pruned\n", paths[i], r.refusal ? vb_refusal_text(r.refusal) : r.obsolete ? "obsolete" : r.held ? "held already" : "taken", r.pruned);
-        state = r.state;
-    }
+    for (uint64_t i = 0; i < 6; i++) /* the fourth prunes the first two; the last is the fifth again, which another tablet had too, and stays local */
+        state = file(state, paths[i], 100 + (i < 5 ? i : 4), i == 2 || i == 5 ? remote : local);
     static const struct { const char *path; uint64_t bytes; } arrived[] = {{"ward/3", 1200}, {"ward/4", 5000}, {"ward", 5000}, {"ward/4", 5001}};
     const vb_subspace recorder = {0, 9};
     const uint8_t digest[32] = {0};
@@ -115,6 +132,13 @@ int main(void) {
     list(state, all, none);
     puts("all there:");
     list(state, all, incomplete);
+    puts("while readings come in:");
+    remembered last;
+    last.len = 0;
+    step(state, all, none, &last);
+    state = file(state, "ward/2", 105, local);     /* behind: this listing does not show it */
+    state = file(state, "ward/3/ann", 106, local); /* in the place of the one whose turn is next, and shown in its stead */
+    while (step(state, all, none, &last)) continue;
     static const char *const asked[] = {"ward/4", "ward/3/ann"};
     for (int i = 0; i < 2; i++) {
         vb_entry_found found = vb_find_entry(state, READ, recorder, path_of(asked[i]), none);

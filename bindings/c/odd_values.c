@@ -1,7 +1,8 @@
 /* Values that no line of text can say, and refusal 4 of every call of the keys' layer that takes a path, with answers written by hand from document 01:
    garbage behind a path's count and total, ends that make no path, open ends with a path that is none, ranges that end before they start, key
-   buffers one byte short; such values where an available length is recorded or forgotten, from document 02's U4; and every byte as an origin's kind, from its
-   U6. It prints how many answers were compared; the first wrong one is shown and ends it. */
+   buffers one byte short; such values where an available length is recorded or forgotten, from document 02's U4; every byte as an origin's kind, from its
+   U6; and every byte in every place of the key that a listing remembers, from its U7. It prints how many answers were compared; the first wrong one is shown and
+   ends it. */
 #include "virebony.h"
 #include <stdio.h>
 #include <stdlib.h>
@@ -342,6 +343,84 @@ static void arrivals(void) {
     forgotten(s, garbage(), 0, wrong, 0, 0), forgotten(s, empty(), 255, right, 0, 0);
 }
 
+/* Both calls of an area's listing and of a 3d range's, from a key in a buffer of its own length: refused so, or the one record, or finished. */
+static void listed(vb_state s, vb_area a, vb_range r, vb_ignore ignore, const uint8_t *key, size_t len, uint8_t refusal, uint8_t found) {
+    uint8_t *last = (uint8_t *)malloc(len ? len : 1);
+    if (!last) exit(2);
+    if (len) memcpy(last, key, len);
+    const vb_listed l[2] = {vb_query_area_found(s, TREES, a, ignore, last, len), vb_query_range_found(s, TREES, r, ignore, last, len)};
+    const vb_part p[2] = {vb_query_area(s, TREES, a, ignore, last, len), vb_query_range(s, TREES, r, ignore, last, len)};
+    for (int i = 0; i < 2; i++) {
+        IS(l[i].refusal, refusal);
+        IS(l[i].found, found);
+        IS(p[i].offset, 0);
+        IS(p[i].length, found ? RECORD : 0);
+    }
+    free(last);
+}
+
+/* Every byte in every place of a remembered key, every length of one, and such values as an area, a 3d range and flags may have beside it. The one entry stands at the empty
+   path in subspace 5 at 6, so its key is 16 bytes of subspace, two zeros and 8 bytes of timestamp: any bytes are a subspace and a timestamp, and no others than two
+   zeros end the path of a key of that length, with so few bytes that are not 0. */
+static void remembered(void) {
+    const uint8_t namespace_id[16] = {0}, token[64] = {7};
+    uint8_t key[400] = {0};
+    key[15] = 5, key[25] = 6;
+    vb_pair pruned[1];
+    vb_entry e;
+    memset(&e, 0, sizeof e);
+    e.subspace_id = subspace(0, 5), e.path = garbage(), e.timestamp = 6, e.payload_length = 3;
+    vb_state s = vb_open(namespace_id, 1, TREES, tally, sizeof tally).state;
+    const vb_area all = area(255, subspace(9, 9), garbage(), times(0, 5, 255));
+    const vb_range whole = range(garbage(), illegal(3), 128); /* the path of an open end is not looked at */
+    vb_ignore none, incomplete;
+    none.incomplete_payloads = none.empty_payloads = 0;
+    incomplete.incomplete_payloads = 128, incomplete.empty_payloads = 0;
+    listed(s, all, whole, none, key, 0, 0, 0); /* of a store of no entries */
+    listed(s, all, whole, none, key, 26, 0, 0);
+    listed(s, all, whole, none, key, 25, 5, 0);
+    vb_ingested r = vb_ingest_entry(s, TREES, tally, sizeof tally, pruned, 1, e, token, 0, origin(0, 0, 0));
+    IS(r.refusal | r.obsolete | r.held, 0);
+    s = r.state;
+    IS(memcmp(spt, key, 26), 0);
+    for (size_t len = 0; len <= sizeof key; len++) listed(s, all, whole, none, key, len, len == 0 || len == 26 ? 0 : 5, len == 0);
+    for (size_t at = 0; at < 26; at++) {
+        const uint8_t was = key[at];
+        for (int b = 0; b < 256; b++) {
+            key[at] = (uint8_t)b;
+            const int in_path = at == 16 || at == 17, is_key = !in_path || b == 0, below = !in_path && b < was;
+            listed(s, all, whole, none, key, 26, is_key ? 0 : 5, (uint8_t)below);
+            listed(s, all, whole, incomplete, key, 26, is_key ? 0 : 5, 0);
+        }
+        key[at] = was;
+    }
+    for (int i = 0; i < ILLEGAL; i++) { /* 4 goes before 5, whatever the key; 3, 2 and 1 go before 4 */
+        const vb_area bad = area(1, subspace(0, 0), illegal(i), times(9, 3, 0));
+        const vb_range ends[2] = {range(illegal(i), garbage(), 1), range(garbage(), illegal(i), 0)};
+        for (size_t len = 0; len < 28; len++)
+            for (int end = 0; end < 2; end++) {
+                vb_state other = s;
+                listed(other, bad, ends[end], none, key, len, 4, 0);
+                other.count = SIZE_MAX;
+                listed(other, bad, ends[end], none, key, len, 3, 0);
+                other.limit = 2;
+                listed(other, bad, ends[end], none, key, len, 2, 0);
+                other.limit = SIZE_MAX;
+                listed(other, bad, ends[end], none, key, len, 1, 0);
+            }
+    }
+    const vb_area turned = area(0, subspace(0, 5), garbage(), times(7, 6, 0)); /* ends before they start: finished, and 5 all the same */
+    vb_range descends = range(odd(1, 3, 255, 255), odd(1, 2, 255, 255), 0);
+    for (size_t len = 0; len < 28; len++) listed(s, turned, descends, none, key, len, len == 0 || len == 26 ? 0 : 5, 0);
+    for (int i = 0; i < 8; i++) { /* NULL with a count of 0 */
+        const uint8_t *last = i % 2 ? key : NULL;
+        if (i < 4) IS(vb_query_area(s, TREES, i < 2 ? all : turned, none, last, 0).length, i < 2 ? RECORD : 0);
+        else IS(vb_query_range(s, TREES, i < 6 ? whole : descends, none, last, 0).length, i < 6 ? RECORD : 0);
+    }
+    IS(vb_record_key(spt, RECORD).length, 26);
+    IS(vb_record_key(NULL, 0).length, 0);
+}
+
 int main(void) {
     legality();
     relations();
@@ -350,6 +429,7 @@ int main(void) {
     areas();
     origins();
     arrivals();
+    remembered();
     written(1, empty(), 2, 0);
     written(297, empty(), 2, 0);
     written(298, empty(), 0, 26);

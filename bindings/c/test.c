@@ -1,5 +1,5 @@
-/* Every call of the door with answers written by hand from documents 01 and 02, on buffers that are as long as asked and no longer. It prints how many values
-   were compared; the first wrong one is shown and ends it. */
+/* Every call of the door with answers written by hand from documents 01 and 02, on buffers that are as long as asked and no longer; and listings at random keys,
+   and with random filings between their steps, beside a walk over the records. It prints how many values were compared; the first wrong one is shown and ends it. */
 #include "virebony.h"
 #include <stdio.h>
 #include <stdlib.h>
@@ -231,11 +231,14 @@ static void all_refuse(kept *k, vb_state s, size_t spt_len, size_t tsp_len, int 
         IS(r[i].state.limit, s.limit);
     }
     shows_nothing(vb_find_entry(s, LENT, subspace(1), p, ignore(0, 0)), want);
-    const vb_listed l[2] = {vb_query_area_place(s, LENT, all, ignore(0, 0), 0), vb_query_range_place(s, LENT, whole, ignore(0, 0), 0)};
-    const vb_part q[2] = {vb_query_area(s, LENT, all, ignore(0, 0), 0), vb_query_range(s, LENT, whole, ignore(0, 0), 0)};
-    for (int i = 0; i < 2; i++) {
-        IS(l[i].refusal, want);
-        IS(l[i].found | l[i].place | q[i].offset | q[i].length, 0);
+    for (size_t last_len = 0; last_len < 2; last_len++) { /* from the start, and from a byte, which is no key */
+        const uint8_t *last = last_len ? digest : NULL;
+        const vb_listed l[2] = {vb_query_area_found(s, LENT, all, ignore(0, 0), last, last_len), vb_query_range_found(s, LENT, whole, ignore(0, 0), last, last_len)};
+        const vb_part q[2] = {vb_query_area(s, LENT, all, ignore(0, 0), last, last_len), vb_query_range(s, LENT, whole, ignore(0, 0), last, last_len)};
+        for (int i = 0; i < 2; i++) {
+            IS(l[i].refusal, want);
+            IS(l[i].found | q[i].offset | q[i].length, 0);
+        }
     }
     const vb_counted c[2] = {vb_count_area(s, LENT, all), vb_summarise(s, LENT, whole)};
     for (int i = 0; i < 2; i++) {
@@ -677,8 +680,10 @@ static void openings(void) {
     IS(vb_record_available_length(o.state, READ(&k), subspace(1), path("61"), 1, digest, UINT64_MAX).refusal, 11); /* of a store without entries */
     IS(vb_forget_payload(o.state, READ(&k), subspace(1), path("61"), 1, digest).refusal, 11);
     IS(vb_find_entry(o.state, READ(&k), subspace(1), illegal(3), ignore(0, 0)).refusal, 4);
-    IS(vb_query_area_place(o.state, READ(&k), bad, ignore(0, 0), SIZE_MAX).refusal, 4);
-    IS(vb_query_range_place(o.state, READ(&k), descends, ignore(0, 0), 0).refusal, 4);
+    IS(vb_query_area_found(o.state, READ(&k), bad, ignore(0, 0), digest, 25).refusal, 4); /* goes before 5 */
+    IS(vb_query_range_found(o.state, READ(&k), descends, ignore(0, 0), NULL, 0).refusal, 4);
+    IS(vb_query_area_found(o.state, READ(&k), all, ignore(0, 0), digest, 25).refusal, 5);
+    IS(vb_query_area_found(o.state, READ(&k), all, ignore(0, 0), digest, 26).refusal, 0); /* 26 zeros are a key */
     IS(vb_count_area(o.state, READ(&k), bad).refusal, 4);
     IS(vb_summarise(o.state, READ(&k), descends).refusal, 4);
     IS(vb_area_of_interest_to_range(o.state, READ(&k), most).refusal, 4);
@@ -787,28 +792,33 @@ static void reading_and_forgetting(void) {
     vb_area all = area(1, 0, path(""), times(0, 0, 1)), one = area(0, 1, path("61"), times(0, 50, 0));
     vb_range whole = range(path(""), path(""), 1), from = range(path("61/62"), path("64"), 0);
     static const char *const order[] = {"61", "61/62", "63", "64"};
+    static const uint64_t at_times[] = {40, 50, 20, 10};
+    const uint8_t *last = NULL; /* nothing writes the tree here, so the key may stay where it lies */
+    size_t last_len = 0;
     for (size_t i = 0; i < 4; i++) {
-        vb_listed l = vb_query_area_place(k.state, READ(&k), all, ignore(0, 0), i), m = vb_query_range_place(k.state, READ(&k), whole, ignore(0, 0), i);
+        vb_listed l = vb_query_area_found(k.state, READ(&k), all, ignore(0, 0), last, last_len), m = vb_query_range_found(k.state, READ(&k), whole, ignore(0, 0), last, last_len);
         IS(l.refusal | m.refusal, 0);
         IS(l.found & m.found, 1);
-        IS(l.place, i);
-        IS(m.place, i);
-        vb_part p = vb_query_area(k.state, READ(&k), all, ignore(0, 0), i), q = vb_query_range(k.state, READ(&k), whole, ignore(0, 0), i);
+        vb_part p = vb_query_area(k.state, READ(&k), all, ignore(0, 0), last, last_len), q = vb_query_range(k.state, READ(&k), whole, ignore(0, 0), last, last_len);
         IS(p.offset, k.spt_dir[2 * i]);
         IS(p.length, k.spt_dir[2 * i + 1]);
         IS(q.offset, p.offset);
         IS(q.length, p.length);
-        same_triple(vb_decode_spt_entry_key(k.spt + p.offset, p.length - VB_VALUE), 0, order[i], i == 3 ? 2 : 1, i == 0 ? 40 : i == 1 ? 50 : i == 2 ? 20 : 10);
+        vb_part key = vb_record_key(k.spt + p.offset, p.length);
+        IS(key.offset, 0);
+        IS(key.length, p.length - VB_VALUE);
+        last = k.spt + p.offset, last_len = key.length;
+        same_triple(vb_decode_spt_entry_key(last, last_len), 0, order[i], i == 3 ? 2 : 1, at_times[i]);
     }
-    IS(vb_query_area_place(k.state, READ(&k), all, ignore(0, 0), 4).found, 0);
-    IS(vb_query_area_place(k.state, READ(&k), all, ignore(0, 0), SIZE_MAX).found, 0);
-    IS(vb_query_range_place(k.state, READ(&k), whole, ignore(0, 0), SIZE_MAX).found, 0);
-    IS(vb_query_area(k.state, READ(&k), all, ignore(0, 0), 4).length, 0);
-    IS(vb_query_area(k.state, READ(&k), all, ignore(0, 0), 4).offset, 0);
-    IS(vb_query_range(k.state, READ(&k), whole, ignore(0, 0), 4).length, 0);
-    IS(vb_query_area_place(k.state, READ(&k), one, ignore(0, 0), 1).found, 0); /* at 50 it is outside */
-    IS(vb_query_range_place(k.state, READ(&k), from, ignore(0, 0), 0).place, 1);
-    IS(vb_query_range_place(k.state, READ(&k), from, ignore(7, 0), 0).found, 0);
+    IS(vb_query_area_found(k.state, READ(&k), all, ignore(0, 0), last, last_len).found, 0);
+    IS(vb_query_area_found(k.state, READ(&k), all, ignore(0, 0), last, last_len).refusal, 0);
+    IS(vb_query_range_found(k.state, READ(&k), whole, ignore(0, 0), last, last_len).found, 0);
+    IS(vb_query_area(k.state, READ(&k), all, ignore(0, 0), last, last_len).length, 0);
+    IS(vb_query_area(k.state, READ(&k), all, ignore(0, 0), last, last_len).offset, 0);
+    IS(vb_query_range(k.state, READ(&k), whole, ignore(0, 0), last, last_len).length, 0);
+    IS(vb_query_area_found(k.state, READ(&k), one, ignore(0, 0), k.spt, k.spt_dir[1] - VB_VALUE).found, 0); /* behind [61]: at 50 it is outside */
+    IS(vb_query_range(k.state, READ(&k), from, ignore(0, 0), NULL, 0).offset, k.spt_dir[2]);
+    IS(vb_query_range_found(k.state, READ(&k), from, ignore(7, 0), NULL, 0).found, 0);
     IS(vb_count_area(k.state, READ(&k), all).count, 4);
     IS(vb_count_area(k.state, READ(&k), one).count, 1);
     IS(vb_summarise(k.state, READ(&k), whole).count, 4);
@@ -1211,11 +1221,12 @@ static void arrivals(void) {
     IS(vb_forget_entry(k.state, STORE(&k), subspace(3), path("61"), 1, digest).refusal, 0); /* forgetting an absent entry is done, as before */
 
     const vb_area all = area(1, 0, path(""), times(0, 0, 1)); /* the flag goes by what was recorded */
-    IS(vb_query_area_place(k.state, READ(&k), all, ignore(1, 0), 0).place, 1);
+    IS(vb_query_area(k.state, READ(&k), all, ignore(1, 0), NULL, 0).offset, ONE);
     IS(arrived(&k, 0, 1, path("61"), -1, 3), 0);
-    IS(vb_query_area_place(k.state, READ(&k), all, ignore(1, 0), 0).place, 0);
-    IS(vb_query_range_place(k.state, READ(&k), range(path(""), path(""), 1), ignore(1, 0), 0).found, 1);
-    IS(vb_query_area_place(k.state, READ(&k), all, ignore(1, 0), 2).place, 2);
+    IS(vb_query_area(k.state, READ(&k), all, ignore(1, 0), NULL, 0).length, ONE);
+    IS(vb_query_area(k.state, READ(&k), all, ignore(1, 0), NULL, 0).offset, 0);
+    IS(vb_query_range_found(k.state, READ(&k), range(path(""), path(""), 1), ignore(1, 0), NULL, 0).found, 1);
+    IS(vb_query_area(k.state, READ(&k), all, ignore(1, 0), k.spt + ONE, TWO - VB_VALUE).offset, ONE + TWO);
     IS(vb_find_entry(k.state, READ(&k), subspace(1), path("61"), ignore(1, 0)).found, 1);
     IS(arrived(&k, 0, 1, path("61"), -1, 2), 0);
     IS(vb_find_entry(k.state, READ(&k), subspace(1), path("61"), ignore(1, 0)).found, 0);
@@ -1267,7 +1278,7 @@ static void came_from(const kept *k, uint64_t in, const char *hex, size_t spt_pl
     IS(f.found, 1);
     IS(f.lengthy.origin.remote, kind);
     IS(f.lengthy.origin.session, session);
-    vb_part p = vb_query_area(k->state, READ(k), area(0, in, path(hex), times(0, 0, 1)), ignore(0, 0), spt_place); /* the listing shows the same bytes */
+    vb_part p = vb_query_area(k->state, READ(k), area(0, in, path(hex), times(0, 0, 1)), ignore(0, 0), NULL, 0); /* the listing shows the same bytes */
     const uint8_t *value = k->spt + p.offset + p.length - VB_VALUE;
     IS(value + VB_VALUE_ORIGIN == ends[0] - 9, 1);
     IS(value + VB_VALUE_SESSION == ends[0] - 8, 1);
@@ -1469,6 +1480,483 @@ static void edition_5(void) {
     drop(&k);
 }
 
+/* The key of a record: all but its last 121 bytes, of any number of them, and nothing of fewer. */
+static void record_keys(void) {
+    static const size_t more[] = {VB_RECORD_MOST, VB_RECORD_MOST + 1, 65536 + VB_VALUE, 100000};
+    for (size_t n = 0; n < 305; n++) {
+        const size_t len = n < 301 ? n : more[n - 301];
+        uint8_t *record = (uint8_t *)lent(len);
+        vb_part p = vb_record_key(len ? record : NULL, len);
+        IS(p.offset, 0);
+        IS(p.length, len < 121 ? 0 : len - 121);
+        for (size_t i = 0; i < len; i++) if (record[i] != 0xee) IS(i, SIZE_MAX);
+        free(record);
+    }
+}
+
+/* A key, or bytes that are none. */
+typedef struct { uint8_t bytes[VB_KEY_MOST + 2]; size_t len; } key;
+
+static key key_of(uint64_t in, const char *hex, uint64_t timestamp) {
+    key a;
+    memset(&a, 0xee, sizeof a);
+    vb_encoded e = vb_encode_spt_entry_key(subspace(in), path(hex), timestamp, a.bytes, VB_KEY_MOST);
+    IS(e.refusal, 0);
+    a.len = e.length;
+    return a;
+}
+
+/* What a listing asks for, and the key that it remembers. */
+typedef struct { int by_range; vb_area area; vb_range range; vb_ignore ignore; key last; } listing;
+
+/* A listing of an area, or of the 3d range that includes the same, at its start. */
+static listing listing_of(int by_range, vb_area a, vb_ignore i) {
+    listing l;
+    memset(&l, 0xee, sizeof l);
+    l.by_range = by_range, l.area = a, l.ignore = i, l.last.len = 0;
+    vb_area_range r = vb_area_to_range(a);
+    IS(r.refusal, 0);
+    l.range = r.range;
+    return l;
+}
+
+static listing all_of(int by_range) { return listing_of(by_range, area(1, 0, path(""), times(0, 0, 1)), ignore(0, 0)); }
+
+/* What both calls of a step answer: the number of the record that it gives; or that the listing is finished; or the refusal, behind REFUSED. The key is lent in a
+   buffer of its own length. */
+enum { FINISHED = 2000, REFUSED = 3000 };
+static size_t step(const kept *k, const listing *l) {
+    const size_t len = l->last.len;
+    uint8_t *copy = (uint8_t *)lent(len), *last = len ? copy : NULL;
+    if (len) memcpy(copy, l->last.bytes, len);
+    const vb_listed f = l->by_range ? vb_query_range_found(k->state, READ(k), l->range, l->ignore, last, len)
+                                    : vb_query_area_found(k->state, READ(k), l->area, l->ignore, last, len);
+    const vb_part p = l->by_range ? vb_query_range(k->state, READ(k), l->range, l->ignore, last, len)
+                                  : vb_query_area(k->state, READ(k), l->area, l->ignore, last, len);
+    if (len) IS(memcmp(copy, l->last.bytes, len), 0);
+    free(copy);
+    IS(f.found, p.length != 0);
+    if (f.refusal) IS(f.found, 0);
+    if (f.refusal) IS(p.offset, 0);
+    if (f.refusal) return REFUSED + f.refusal;
+    if (!f.found) IS(p.offset, 0);
+    if (!f.found) return FINISHED;
+    size_t n = 0;
+    while (n < k->state.count && k->spt_dir[2 * n] != p.offset) n++;
+    IS(n < k->state.count, 1);
+    IS(p.length, k->spt_dir[2 * n + 1]);
+    return n;
+}
+
+/* The record of a number, of which the listing remembers the key. */
+static void remember(const kept *k, listing *l, size_t n) {
+    const uint8_t *record = k->spt + k->spt_dir[2 * n];
+    l->last.len = vb_record_key(record, k->spt_dir[2 * n + 1]).length;
+    IS(l->last.len <= VB_KEY_MOST, 1);
+    memcpy(l->last.bytes, record, l->last.len);
+}
+
+/* The listing goes on with this entry, or is finished. */
+static void gives(const kept *k, listing *l, uint64_t in, const char *hex, uint64_t timestamp) {
+    size_t n = step(k, l);
+    IS(n < k->state.count, 1);
+    remember(k, l, n);
+    same_triple(vb_decode_spt_entry_key(l->last.bytes, l->last.len), 0, hex, in, timestamp);
+}
+
+static void is_finished(const kept *k, const listing *l) { IS(step(k, l), FINISHED); }
+
+/* A step from this key, whatever the listing remembers. */
+static size_t step_from(const kept *k, listing l, key last) {
+    l.last = last;
+    return step(k, &l);
+}
+
+/* Forgets the entry at a path of subspace 1. */
+static void forget(kept *k, const char *hex) {
+    static const uint8_t digest[32] = {0};
+    vb_entry_forgotten g = vb_forget_entry(k->state, STORE(k), subspace(1), path(hex), 0, digest);
+    IS(g.refusal, 0);
+    IS(g.state.count + 1, k->state.count);
+    k->state = g.state;
+}
+
+/* [61], [62] and [63] at 5 in subspace 1, each of 3 bytes and digest 9; room for six. */
+static kept three(void) {
+    kept k = store_of(6);
+    is_taken(ingest(&k, entry(1, "61", 5, 3, 9), 0), 0, 1);
+    is_taken(ingest(&k, entry(1, "62", 5, 3, 9), 0), 0, 2);
+    is_taken(ingest(&k, entry(1, "63", 5, 3, 9), 0), 0, 3);
+    return k;
+}
+
+/* Filing while a listing is open, by an area's calls and by a 3d range's. */
+static void open_listings(int by_range) {
+    kept k = three(); /* the record of the remembered key is not given again, and need neither be stored nor match */
+    listing l = all_of(by_range);
+    gives(&k, &l, 1, "61", 5);
+    listing second = l;
+    gives(&k, &second, 1, "62", 5);
+    forget(&k, "61");
+    second = l;
+    gives(&k, &second, 1, "62", 5);
+    IS(step_from(&k, l, key_of(1, "61/61", 9)), 0); /* the key of no entry */
+    listing below = listing_of(by_range, area(0, 1, path("62"), times(0, 0, 1)), ignore(0, 0));
+    IS(step_from(&k, below, key_of(1, "61", 5)), 0);
+    IS(step_from(&k, below, key_of(9, "61", 5)), FINISHED);
+    IS(step_from(&k, below, key_of(0, "62", 5)), 0);
+    drop(&k);
+
+    k = three(); /* another entry at the place: a later one has another key, which is above; one of a greater digest has the same key */
+    l = all_of(by_range);
+    gives(&k, &l, 1, "61", 5);
+    is_taken(ingest(&k, entry(1, "61", 6, 3, 9), 0), 1, 3);
+    gives(&k, &l, 1, "61", 6);
+    is_taken(ingest(&k, entry(1, "61", 6, 3, 10), 0), 1, 3);
+    gives(&k, &l, 1, "62", 5);
+    is_taken(ingest(&k, entry(1, "62", 5, 3, 10), 0), 1, 3);
+    is_taken(ingest(&k, entry(1, "63", 5, 4, 9), 0), 1, 3); /* before its turn, in the place of one that was not given yet: the new one */
+    IS(step(&k, &l), 2);
+    IS(k.spt[k.spt_dir[4] + 29 + VB_VALUE_PAYLOAD_LENGTH + 7], 4);
+    gives(&k, &l, 1, "63", 5);
+    is_finished(&k, &l);
+    is_taken(ingest(&k, entry(1, "63", 5, 5, 9), 0), 1, 3);
+    is_finished(&k, &l);
+    is_taken(ingest(&k, entry(1, "63", 6, 0, 9), 0), 1, 3); /* finished, and then there is more */
+    gives(&k, &l, 1, "63", 6);
+    is_finished(&k, &l);
+    drop(&k);
+
+    k = three(); /* what arrives behind is not given, what arrives before us is; what is pruned before its turn is not, what pruned it is if its key is above */
+    l = all_of(by_range);
+    gives(&k, &l, 1, "61", 5);
+    gives(&k, &l, 1, "62", 5);
+    is_taken(ingest(&k, entry(1, "60", 7, 3, 9), 0), 0, 4);
+    is_taken(ingest(&k, entry(1, "61/ff", 5, 3, 9), 0), 0, 5);
+    is_taken(ingest(&k, entry(1, "62/61", 5, 3, 9), 0), 0, 6);
+    gives(&k, &l, 1, "62/61", 5);
+    second = l;
+    is_taken(ingest(&k, entry(1, "62", 6, 3, 9), 0), 2, 5); /* the new [62] is behind [62][61], which it pruned */
+    gives(&k, &l, 1, "63", 5);
+    is_finished(&k, &l);
+    is_taken(ingest(&k, entry(1, "", 8, 0, 9), 0), 5, 1);
+    is_finished(&k, &second);
+    second.last.len = 0;
+    gives(&k, &second, 1, "", 8);
+    is_taken(ingest(&k, entry(1, "", 9, 0, 9), 0), 1, 1);
+    gives(&k, &second, 1, "", 9);
+    drop(&k);
+
+    k = three(); /* forgotten and filed again: given if it is above the remembered key when its turn comes */
+    l = all_of(by_range);
+    gives(&k, &l, 1, "61", 5);
+    forget(&k, "61"), forget(&k, "63");
+    is_taken(ingest(&k, entry(1, "61", 5, 3, 9), 0), 0, 2);
+    is_taken(ingest(&k, entry(1, "63", 5, 3, 9), 0), 0, 3);
+    second = l;
+    gives(&k, &l, 1, "62", 5);
+    gives(&k, &l, 1, "63", 5);
+    is_finished(&k, &l);
+    forget(&k, "62");
+    gives(&k, &second, 1, "63", 5);
+    is_taken(ingest(&k, entry(1, "62", 5, 3, 9), 0), 0, 3);
+    is_finished(&k, &second);
+    drop(&k);
+
+    k = three(); /* the part lies in the tree that a filing writes: of the bytes that stand there then, [62] is given again */
+    l = listing_of(by_range, area(1, 0, path(""), times(0, 0, 1)), ignore(0, 0));
+    forget(&k, "61");
+    gives(&k, &l, 1, "62", 5);
+    IS(memcmp(k.spt, l.last.bytes, l.last.len), 0);
+    is_taken(ingest(&k, entry(1, "61", 5, 3, 9), 0), 0, 3);
+    IS(memcmp(k.spt, l.last.bytes, l.last.len) != 0, 1);
+    second = l;
+    memcpy(second.last.bytes, k.spt, second.last.len);
+    gives(&k, &second, 1, "62", 5);
+    gives(&k, &l, 1, "63", 5);
+    is_finished(&k, &l);
+    drop(&k);
+
+    k = three(); /* passed over as incomplete, and then complete: behind, not given; before us, given; and incomplete again before its turn: not given */
+    l = listing_of(by_range, area(1, 0, path(""), times(0, 0, 1)), ignore(1, 0));
+    is_finished(&k, &l);
+    IS(arrived(&k, 0, 1, path("62"), -1, 3), 0);
+    gives(&k, &l, 1, "62", 5);
+    second = l;
+    IS(arrived(&k, 0, 1, path("61"), -1, 3), 0);
+    is_finished(&k, &l);
+    IS(arrived(&k, 0, 1, path("63"), -1, 3), 0);
+    IS(step(&k, &l), 2);
+    IS(arrived(&k, 1, 1, path("63"), -1, 0), 0);
+    is_finished(&k, &l);
+    IS(arrived(&k, 1, 1, path("62"), -1, 0), 0); /* the remembered key's record no longer matches */
+    IS(arrived(&k, 0, 1, path("63"), -1, 3), 0);
+    gives(&k, &second, 1, "63", 5);
+    is_finished(&k, &second);
+    second.last.len = 0;
+    gives(&k, &second, 1, "61", 5);
+    drop(&k);
+}
+
+/* A remembered key that is none, whatever else there is: 5, but behind 1, 2, 3 and 4. */
+static void is_no_key(kept *k, const uint8_t *bytes, size_t len) {
+    key bad;
+    memset(&bad, 0, sizeof bad);
+    memcpy(bad.bytes, bytes, len), bad.len = len;
+    IS(vb_decode_spt_entry_key(bad.bytes, len).refusal, VB_NO_KEY);
+    for (int by_range = 0; by_range < 2; by_range++) {
+        listing l = all_of(by_range), none = listing_of(by_range, area(0, 77, path("61"), times(9, 3, 0)), ignore(255, 255)), wrong = l;
+        IS(step_from(k, l, bad), REFUSED + VB_NO_KEY);
+        IS(step_from(k, none, bad), REFUSED + VB_NO_KEY); /* also where nothing matches */
+        wrong.area.path = wrong.range.paths.start = illegal((int)(len % 5));
+        IS(step_from(k, wrong, bad), REFUSED + VB_ILLEGAL_PATH);
+        kept other = *k;
+        other.state.count--;
+        IS(step_from(&other, wrong, bad), REFUSED + VB_NOT_WELL_FORMED);
+        other.limit--;
+        IS(step_from(&other, wrong, bad), REFUSED + VB_SHORT_BUFFER);
+        other.state.limit = 0;
+        IS(step_from(&other, wrong, bad), REFUSED + VB_BAD_LIMIT);
+    }
+}
+
+/* Which keys may be remembered, and where a listing goes on from them. [61] and [62] at 5 in subspace 1, [61] at 5 in subspace 3. */
+static void remembered_keys(void) {
+    kept k = store_of(4);
+    is_taken(ingest(&k, entry(1, "61", 5, 3, 9), 0), 0, 1);
+    is_taken(ingest(&k, entry(1, "62", 5, 3, 9), 0), 0, 2);
+    is_taken(ingest(&k, entry(3, "61", 5, 3, 9), 0), 0, 3);
+    const kept before = copy_of(&k);
+    static const struct { uint64_t in; const char *path; uint64_t timestamp; size_t gives; } from[] = {
+        {0, "", 0, 0}, {0, "ff/ff", UINT64_MAX, 0}, {1, "", 0, 0}, {1, "", UINT64_MAX, 0}, {1, "60/ff", 9, 0}, {1, "61", 0, 0}, {1, "61", 4, 0}, /* below all */
+        {1, "61", 5, 1}, {1, "61", 6, 1}, {1, "61", UINT64_MAX, 1}, {1, "61/.", 0, 1}, {1, "61/00", 0, 1}, {1, "6100", 0, 1}, {1, "62", 4, 1},
+        {1, "62", 5, 2}, {1, "62/62", 5, 2}, {1, "ff", 0, 2}, {2, "", 0, 2}, {2, "ff", UINT64_MAX, 2}, {3, "", 9, 2}, {3, "61", 4, 2}, /* another subspace: by the bytes */
+        {3, "61", 5, FINISHED}, {3, "61", 6, FINISHED}, {3, "61/61/61/61/61/61/61/61", 0, FINISHED}, {3, "62", 0, FINISHED}, {4, "", 0, FINISHED},
+        {UINT64_MAX, "", 0, FINISHED}, {UINT64_MAX, "ff", UINT64_MAX, FINISHED}}; /* above all */
+    for (int by_range = 0; by_range < 2; by_range++)
+        for (size_t i = 0; i < sizeof from / sizeof *from; i++) {
+            const key last = key_of(from[i].in, from[i].path, from[i].timestamp);
+            IS(step_from(&k, all_of(by_range), last), from[i].gives);
+            const listing third = listing_of(by_range, area(0, 3, path("61"), times(5, 6, 0)), ignore(0, 0)); /* where the first two do not match */
+            IS(step_from(&k, third, last), from[i].gives == FINISHED ? FINISHED : 2);
+            listing turned = listing_of(by_range, area(1, 0, path(""), times(6, 5, 0)), ignore(0, 0)); /* a start above its end: nothing is between */
+            IS(step_from(&k, turned, last), FINISHED);
+            turned.range = range(path("62"), path("61"), 0), turned.by_range = 1;
+            IS(step_from(&k, turned, last), FINISHED);
+            turned.range = range(path(""), path(""), 1);
+            turned.range.subspaces.start = subspace(4), turned.range.subspaces.open = 0;
+            IS(step_from(&k, turned, last), FINISHED);
+        }
+    vb_path zeros = path("");
+    memset(zeros.bytes, 0, VB_MPL);
+    for (size_t i = 0; i < VB_MCC; i++) zeros.ends[i] = 16 * (i + 1);
+    zeros.count = VB_MCC;
+    key longest;
+    memset(&longest, 0, sizeof longest);
+    longest.len = vb_encode_spt_entry_key(subspace(1), zeros, 5, longest.bytes, VB_KEY_MOST).length;
+    IS(longest.len, 298);
+    for (int by_range = 0; by_range < 2; by_range++) IS(step_from(&k, all_of(by_range), longest), 0);
+
+    const key good = key_of(1, "61", 5);
+    static const uint8_t by_hand[29] = {0, 0, 0, 0, 0, 0, 0, 0, 0, 0, 0, 0, 0, 0, 0, 1, 0x61, 0, 1, 0, 0, 0, 0, 0, 0, 0, 0, 0, 5};
+    IS(good.len, 29);
+    IS(memcmp(good.bytes, by_hand, 29), 0);
+    uint8_t bytes[300];
+    for (size_t cut = 1; cut < 29; cut++) is_no_key(&k, good.bytes, cut); /* a key cut anywhere but to nothing */
+    static const uint8_t behind[] = {0, 1, 0x61, 0xff};
+    for (int i = 0; i < 4; i++) { /* a byte behind it */
+        memcpy(bytes, good.bytes, 29), bytes[29] = behind[i];
+        is_no_key(&k, bytes, 30);
+        memcpy(bytes, longest.bytes, 298), bytes[298] = behind[i];
+        is_no_key(&k, bytes, 299);
+    }
+    is_no_key(&k, longest.bytes, 297);
+    memset(bytes, 0, sizeof bytes);
+    is_no_key(&k, bytes, 1), is_no_key(&k, bytes, 25), is_no_key(&k, bytes, 27), is_no_key(&k, bytes, 299), is_no_key(&k, bytes, 300); /* 26 zeros are a key */
+    for (size_t n = 7; n < 10; n++) { /* of seven and eight components, and of nine */
+        memset(bytes, 0, sizeof bytes), bytes[15] = 1;
+        for (size_t i = 0; i < n; i++) bytes[16 + 3 * i] = 0x61, bytes[18 + 3 * i] = 1;
+        key many;
+        memcpy(many.bytes, bytes, sizeof bytes), many.len = 16 + 3 * n + 2 + 8;
+        if (n == 9) is_no_key(&k, bytes, many.len);
+        else IS(step_from(&k, all_of(0), many), 1);
+    }
+    memset(bytes, 0, sizeof bytes), memset(bytes + 16, 0x61, 65), bytes[82] = 1; /* a component of 65 bytes */
+    is_no_key(&k, bytes, 16 + 65 + 4 + 8);
+    memset(bytes, 0, sizeof bytes); /* three of 43 bytes, 129 in all */
+    for (size_t i = 0; i < 3; i++) memset(bytes + 16 + 45 * i, 0x61, 43), bytes[16 + 45 * i + 44] = 1;
+    is_no_key(&k, bytes, 16 + 135 + 2 + 8);
+    static const uint8_t malformed[][4] = {{0x61, 0, 0, 0}, {0x61, 0, 3, 0}, {0, 3, 0, 0}, {0, 2, 0, 0}, {0x61, 0x61, 0, 0}, {0, 0xff, 0, 0}};
+    for (int i = 0; i < 6; i++)
+        for (size_t len = 26; len < 40; len++) { /* 61 00 00 and others: no component ends */
+            memset(bytes, 0, sizeof bytes), bytes[15] = 1;
+            memcpy(bytes + 16, malformed[i], 4);
+            is_no_key(&k, bytes, len);
+        }
+    vb_encoded e = vb_encode_tsp_entry_key(subspace(1), path("61"), 5, bytes, VB_KEY_MOST); /* a time-first key */
+    IS(e.length, 29);
+    is_no_key(&k, bytes, 29);
+    e = vb_encode_tsp_entry_key(subspace(1), path("61/62"), 5, bytes, VB_KEY_MOST);
+    is_no_key(&k, bytes, e.length);
+    unchanged(&k, &before);
+
+    /* That of the empty path in subspace 1 is also the subspace-first key of another triple: it is taken, by its bytes. At 0 that triple is the empty path in subspace
+       0 at 65536; at 5 it is in the subspace whose high half is 5. */
+    key both;
+    both.len = vb_encode_tsp_entry_key(subspace(1), path(""), 5, both.bytes, VB_KEY_MOST).length;
+    IS(both.len, 26);
+    IS(vb_decode_spt_entry_key(both.bytes, 26).subspace.high, 5);
+    for (int by_range = 0; by_range < 2; by_range++) IS(step_from(&k, all_of(by_range), both), FINISHED);
+    both.len = vb_encode_tsp_entry_key(subspace(1), path(""), 0, both.bytes, VB_KEY_MOST).length;
+    same_triple(vb_decode_spt_entry_key(both.bytes, 26), 0, "", 0, 65536);
+    is_taken(ingest(&k, entry(0, "", 65536, 3, 9), 0), 0, 4);
+    for (int by_range = 0; by_range < 2; by_range++) IS(step_from(&k, all_of(by_range), both), 1);
+    is_taken(ingest(&k, entry(0, "", 65537, 3, 9), 0), 1, 4);
+    for (int by_range = 0; by_range < 2; by_range++) IS(step_from(&k, all_of(by_range), both), 0);
+    kept done = before;
+    drop(&done);
+    drop(&k);
+}
+
+/* Numbers that look random, the same in each run. */
+static uint64_t seed = 7;
+static uint64_t random_below(uint64_t n) {
+    seed = seed * UINT64_C(6364136223846793005) + UINT64_C(1442695040888963407);
+    return (seed >> 33) % n;
+}
+
+/* Whether a's bytes are above b's. */
+static int is_above(const uint8_t *a, size_t a_len, const uint8_t *b, size_t b_len) {
+    const int c = memcmp(a, b, a_len < b_len ? a_len : b_len);
+    return c ? c > 0 : a_len > b_len;
+}
+
+/* Whether a listing shows the record of a number, as what it asks for and the end of the record say. */
+static int shows(const kept *k, const listing *l, size_t n) {
+    const uint8_t *record = k->spt + k->spt_dir[2 * n], *value = record + k->spt_dir[2 * n + 1] - VB_VALUE;
+    const vb_decoded d = vb_decode_spt_entry_key(record, k->spt_dir[2 * n + 1] - VB_VALUE);
+    const int incomplete = memcmp(value + VB_VALUE_AVAILABLE, value + VB_VALUE_PAYLOAD_LENGTH, 8) != 0, empty = value[VB_VALUE_PAYLOAD_LENGTH + 7] == 0;
+    if ((l->ignore.incomplete_payloads && incomplete) || (l->ignore.empty_payloads && empty)) return 0;
+    return l->by_range ? vb_range_includes_triplet(l->range, d.subspace, d.path, d.timestamp).yes : vb_area_includes_triplet(l->area, d.subspace, d.path, d.timestamp).yes;
+}
+
+/* What a step answers, by a walk over all records. */
+static size_t walk(const kept *k, const listing *l) {
+    size_t least = FINISHED;
+    if (l->last.len && vb_decode_spt_entry_key(l->last.bytes, l->last.len).refusal) return REFUSED + VB_NO_KEY;
+    for (size_t n = 0; n < k->state.count; n++) {
+        const uint8_t *record = k->spt + k->spt_dir[2 * n];
+        const size_t len = k->spt_dir[2 * n + 1] - VB_VALUE;
+        if (!is_above(record, len, l->last.bytes, l->last.len) || !shows(k, l, n)) continue;
+        if (least == FINISHED || is_above(k->spt + k->spt_dir[2 * least], k->spt_dir[2 * least + 1] - VB_VALUE, record, len)) least = n;
+    }
+    return least;
+}
+
+static const char *const places[] = {"", ".", "00", "61", "61/61", "61/62", "6162", "62", "62/00", "62/61/61"};
+
+/* Files, forgets or records at random. */
+static void stir(kept *k) {
+    const char *hex = places[random_below(10)];
+    const uint64_t in = random_below(3), length = random_below(3);
+    static const uint8_t digest[32] = {0};
+    switch (random_below(4)) {
+    case 0: k->state = vb_forget_entry(k->state, STORE(k), subspace(in), path(hex), 0, digest).state; break;
+    case 1: vb_record_available_length(k->state, READ(k), subspace(in), path(hex), 0, digest, length); break;
+    default: ingest(k, entry(in, hex, random_below(6), length, (uint8_t)random_below(3)), 0);
+    }
+}
+
+static listing random_listing(void) {
+    const uint64_t open = random_below(3);
+    vb_area a = area((uint8_t)random_below(3), random_below(3), path(random_below(2) ? "" : places[random_below(10)]), times(random_below(3), 3 + random_below(4), open < 2));
+    return listing_of((int)random_below(2), a, ignore(random_below(4) == 0, random_below(4) == 0));
+}
+
+/* A copy of a record's key. */
+static key key_at(const kept *k, size_t n) {
+    key a;
+    a.len = k->spt_dir[2 * n + 1] - VB_VALUE;
+    memcpy(a.bytes, k->spt + k->spt_dir[2 * n], a.len);
+    return a;
+}
+
+/* The number of the record of a key, or FINISHED. */
+static size_t stored_as(const kept *k, const key *a) {
+    for (size_t n = 0; n < k->state.count; n++)
+        if (k->spt_dir[2 * n + 1] - VB_VALUE == a->len && memcmp(k->spt + k->spt_dir[2 * n], a->bytes, a->len) == 0) return n;
+    return FINISHED;
+}
+
+/* Listings over a store that changes between two steps: each step is as the walk says; keys ascend; and what was stored and shown all the while was given once. */
+static void stirred_listings(void) {
+    enum { ROOM = 30, ROUNDS = 1500 };
+    size_t given = 0, stayed = 0, came = 0;
+    kept k = store_of(ROOM);
+    for (int round = 0; round < ROUNDS; round++) {
+        for (int i = 0; i < 8; i++) stir(&k);
+        listing l = random_listing();
+        key stays[ROOM], gave[200];
+        size_t stay = 0, gaves = 0, at_start = 0;
+        for (size_t n = 0; n < k.state.count; n++) if (shows(&k, &l, n)) stays[stay++] = key_at(&k, n);
+        at_start = stay;
+        for (;;) {
+            const size_t n = step(&k, &l);
+            IS(n, walk(&k, &l));
+            if (n == FINISHED) break;
+            IS(gaves < 200, 1);
+            gave[gaves] = key_at(&k, n);
+            if (gaves) IS(is_above(gave[gaves].bytes, gave[gaves].len, gave[gaves - 1].bytes, gave[gaves - 1].len), 1);
+            l.last = gave[gaves++];
+            for (uint64_t i = random_below(3); i > 0; i--) {
+                stir(&k);
+                size_t left = 0;
+                for (size_t m = 0; m < stay; m++) {
+                    const size_t there = stored_as(&k, &stays[m]);
+                    if (there != FINISHED && shows(&k, &l, there)) stays[left++] = stays[m];
+                }
+                stay = left;
+            }
+        }
+        for (size_t m = 0; m < stay; m++) {
+            size_t times_given = 0;
+            for (size_t g = 0; g < gaves; g++) times_given += gave[g].len == stays[m].len && memcmp(gave[g].bytes, stays[m].bytes, gave[g].len) == 0;
+            IS(times_given, 1);
+        }
+        given += gaves, stayed += stay, came += gaves > at_start;
+    }
+    IS(given > ROUNDS && stayed > ROUNDS, 1); /* it was no walk over nothing */
+    IS(came > 0, 1);
+    drop(&k);
+}
+
+/* Random keys: of triples, with a byte changed, cut, with bytes behind, and bytes at will. Each is taken if the decoder takes it, and the step is as the walk says. */
+static void random_keys(void) {
+    enum { KEYS = 20000 };
+    size_t refused = 0, gave = 0, finished = 0;
+    kept k = store_of(12);
+    for (int i = 0; i < KEYS; i++) {
+        if (i % 16 == 0) stir(&k);
+        listing l = random_listing();
+        l.last = key_of(random_below(3), places[random_below(10)], random_below(6));
+        const uint64_t way = random_below(6);
+        if (way == 0) l.last.bytes[random_below(l.last.len)] = (uint8_t)(random_below(2) ? random_below(4) : random_below(256));
+        if (way == 1) l.last.len = random_below(l.last.len);
+        if (way == 2)
+            for (uint64_t more = 1 + random_below(3); more > 0; more--) l.last.bytes[l.last.len++] = (uint8_t)random_below(3);
+        if (way == 3) {
+            l.last.len = random_below(VB_KEY_MOST + 3);
+            for (size_t b = 0; b < l.last.len; b++) l.last.bytes[b] = (uint8_t)(random_below(2) ? random_below(3) : random_below(256));
+        }
+        const size_t n = step(&k, &l);
+        IS(n, walk(&k, &l));
+        refused += n == REFUSED + VB_NO_KEY, gave += n < k.state.count, finished += n == FINISHED;
+    }
+    IS(refused + gave + finished, KEYS);
+    IS(refused > KEYS / 10 && gave > KEYS / 10 && finished > KEYS / 10, 1);
+    drop(&k);
+}
+
 int main(void) {
     memset(token, 0x42, sizeof token);
     IS(vb_edition(), VB_EDITION);
@@ -1491,6 +1979,13 @@ int main(void) {
     origins();
     damaged_origins();
     edition_5();
-    printf("%u comparisons with answers written by hand\n", compared);
+    record_keys();
+    open_listings(0);
+    open_listings(1);
+    remembered_keys();
+    unsigned by_hand = compared;
+    stirred_listings();
+    random_keys();
+    printf("%u comparisons with answers written by hand, %u of listings beside a walk over the records\n", by_hand, compared - by_hand);
     return 0;
 }

@@ -31,8 +31,10 @@ extern "C" {
    would take it that an entry of equal rank below a new one is gone. 5 brought how much of a payload has arrived: vb_record_available_length and
    vb_forget_payload, with the refusals 11 and 12; no call of edition 4 answers otherwise. 6 brought where an entry came from: vb_origin, which the three calls
    that file take last and a lookup answers last. A record is nine bytes longer, so a store that edition 5 kept, with an entry, is refused with 2 or 3; docs/FORMAT.md tells how to
-   carry one over, with nine zeros behind each value. */
-#define VB_EDITION 6
+   carry one over, with nine zeros behind each value. With 7 a listing remembers the last key that it gave in place of a place: vb_query_area and vb_query_range take
+   that key, vb_query_area_found and vb_query_range_found stand in place of vb_query_area_place and vb_query_range_place, vb_listed has no place, and vb_record_key
+   is new. A program of edition 6 that is linked all the same, as one that calls no _place function is, would hand in a place where a pointer and a length are wanted. */
+#define VB_EDITION 7
 
 enum {
     VB_LIMIT_MOST = 1024, /* entries that a store may be opened for */
@@ -59,7 +61,7 @@ enum {
     VB_SHORT_BUFFER = 2,       /* A lent buffer is shorter than the limit asks, or a key's buffer than 298 bytes. */
     VB_NOT_WELL_FORMED = 3,    /* The state and the buffers are not a well-formed store. */
     VB_ILLEGAL_PATH = 4,       /* A path has over 8 components, a component over 64 bytes, over 128 bytes in all, or ends that descend. */
-    VB_NO_KEY = 5,             /* The bytes are a key that no encoder writes. */
+    VB_NO_KEY = 5,             /* The bytes are no key that the encoder of that order writes: for a listing, the subspace-first one. */
     VB_OTHER_NAMESPACE = 6,    /* The entry names another namespace than the store's. */
     VB_PRUNING_PREVENTED = 7,  /* Pruning is prevented, and an entry would be removed. */
     VB_FULL = 8,               /* The entries that would be left already number the limit. */
@@ -77,7 +79,7 @@ static inline const char *vb_refusal_text(unsigned refusal) {
     case VB_SHORT_BUFFER: return "a lent buffer is too short";
     case VB_NOT_WELL_FORMED: return "the state and the buffers are not a well-formed store";
     case VB_ILLEGAL_PATH: return "a path is illegal";
-    case VB_NO_KEY: return "the bytes are a key that no encoder writes";
+    case VB_NO_KEY: return "the bytes are no key that the encoder writes";
     case VB_OTHER_NAMESPACE: return "the entry names another namespace";
     case VB_PRUNING_PREVENTED: return "pruning is prevented, and an entry would be removed";
     case VB_FULL: return "the store is full";
@@ -147,7 +149,9 @@ typedef struct { uint8_t refusal; vb_state state; } vb_available_recorded;
    entry was filed, and 0 if neither did; and the origin that it was filed with. */
 typedef struct { vb_entry entry; uint8_t token[64]; uint64_t available; vb_origin origin; } vb_lengthy_entry;
 typedef struct { uint8_t refusal, found; vb_lengthy_entry lengthy; } vb_entry_found;
-typedef struct { uint8_t refusal, found; size_t place; } vb_listed;
+/* Refused; or a record was found; or, if both are 0, the listing is finished. */
+typedef struct { uint8_t refusal, found; } vb_listed;
+/* `length` bytes from an offset on, of what was lent. */
 typedef struct { size_t offset, length; } vb_part;
 typedef struct { uint8_t refusal; size_t count; } vb_counted;
 /* Refused, the range is one that includes nothing. */
@@ -225,19 +229,27 @@ vb_available_recorded vb_forget_payload(vb_state state, VB_TREES, vb_subspace su
 /* The entry at a subspace and path, unless `ignore` passes over it. Refused: 1, 2, 3, 4. Writes nothing. */
 vb_entry_found vb_find_entry(vb_state state, VB_CONST_BUFFERS, vb_subspace subspace, vb_path path, vb_ignore ignore);
 
-/* The place of an area's first match at or after a place, in key order. A place is a record's number from 0, and any number is allowed: start at 0 and
-   go on at the place found plus 1 until nothing is found. Refused: 1, 2, 3, 4. Writes nothing. */
-vb_listed vb_query_area_place(vb_state state, VB_CONST_BUFFERS, vb_area area, vb_ignore ignore, size_t place);
+/* A step of an area's listing. A listing remembers the last key that it gave, at its start the empty one (`last_len` 0). A step answers the record of the least
+   matching key above `last`, as bytes, in the store as it then is: `length` bytes from spt + offset on, key then value; the last VB_VALUE bytes are the value, where
+   the available length and the origin stand at VB_VALUE_AVAILABLE and VB_VALUE_ORIGIN. Then remember its key, which vb_record_key gives, and go on until the length
+   is 0: the listing is finished, or the step was refused, and vb_query_area_found says which.
+   You may file, forget and record between two steps. What is stored and matches all the while is given once; what first arrives at or below the remembered key is
+   not given; what is gone before its turn, and not filed again, is not given; no key is given twice. The key lies in the tree that a filing writes: copy it, at most
+   VB_KEY_MOST bytes, before you file. If nothing writes the tree meanwhile, `last` may point into it, at the part that vb_record_key answers.
+   Refused: 1, 2, 3, 4, then 5 if `last` is neither empty nor a key that vb_encode_spt_entry_key writes; no record of that key need be stored, or match. Writes nothing. */
+vb_part vb_query_area(vb_state state, VB_CONST_BUFFERS, vb_area area, vb_ignore ignore, const uint8_t *last, size_t last_len);
 
-/* The record of the match that vb_query_area_place answers, `length` bytes from spt + offset on, key then value: its last VB_VALUE bytes are the value, where
-   the available length and the origin stand at VB_VALUE_AVAILABLE and VB_VALUE_ORIGIN. No match, or refused as there: length 0. */
-vb_part vb_query_area(vb_state state, VB_CONST_BUFFERS, vb_area area, vb_ignore ignore, size_t place);
+/* Whether vb_query_area finds a record; or refused as there; or, if both are 0, the listing is finished. Writes nothing. */
+vb_listed vb_query_area_found(vb_state state, VB_CONST_BUFFERS, vb_area area, vb_ignore ignore, const uint8_t *last, size_t last_len);
 
-/* The place of a 3d range's first match at or after a place, in key order, as vb_query_area_place does for an area. Refused: 1, 2, 3, 4. Writes nothing. */
-vb_listed vb_query_range_place(vb_state state, VB_CONST_BUFFERS, vb_range range, vb_ignore ignore, size_t place);
+/* A step of a 3d range's listing, as vb_query_area is of an area's. Refused as there. Writes nothing. */
+vb_part vb_query_range(vb_state state, VB_CONST_BUFFERS, vb_range range, vb_ignore ignore, const uint8_t *last, size_t last_len);
 
-/* The record of the match that vb_query_range_place answers, as vb_query_area does for an area. */
-vb_part vb_query_range(vb_state state, VB_CONST_BUFFERS, vb_range range, vb_ignore ignore, size_t place);
+/* Whether vb_query_range finds a record; or refused as there; or, if both are 0, the listing is finished. Writes nothing. */
+vb_listed vb_query_range_found(vb_state state, VB_CONST_BUFFERS, vb_range range, vb_ignore ignore, const uint8_t *last, size_t last_len);
+
+/* The key of a record, which is all before its value: `length` bytes from record + offset on, and offset is 0. Of fewer bytes than a value has, nothing. */
+vb_part vb_record_key(const uint8_t *record, size_t record_len);
 
 /* How many entries an area includes. Refused: 1, 2, 3, 4. Writes nothing. */
 vb_counted vb_count_area(vb_state state, VB_CONST_BUFFERS, vb_area area);
@@ -337,7 +349,7 @@ VB_ASSERT(sizeof(vb_available_recorded) == 40 && offsetof(vb_available_recorded,
 VB_ASSERT(sizeof(vb_lengthy_entry) == 368 && offsetof(vb_lengthy_entry, token) == 280 && offsetof(vb_lengthy_entry, available) == 344 &&
               offsetof(vb_lengthy_entry, origin) == 352, "vb_lengthy_entry");
 VB_ASSERT(sizeof(vb_entry_found) == 376 && offsetof(vb_entry_found, lengthy) == 8, "vb_entry_found");
-VB_ASSERT(sizeof(vb_listed) == 16 && offsetof(vb_listed, place) == 8, "vb_listed");
+VB_ASSERT(sizeof(vb_listed) == 2, "vb_listed");
 VB_ASSERT(sizeof(vb_part) == 16, "vb_part");
 VB_ASSERT(sizeof(vb_counted) == 16 && offsetof(vb_counted, count) == 8, "vb_counted");
 VB_ASSERT(sizeof(vb_area_range) == 480 && offsetof(vb_area_range, range) == 8, "vb_area_range");

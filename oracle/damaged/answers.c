@@ -236,31 +236,60 @@ static answer found(const call *c, const lent *s, answer a) {
 
 static bool matches(const call *c, const item *e) {
     switch (c->kind) {
-    case RANGE_PLACE: case RANGE_PART: return in_range(&c->range, e) && !passed_over(&c->ignore, e);
+    case RANGE_FOUND: case RANGE_PART: return in_range(&c->range, e) && !passed_over(&c->ignore, e);
     case SUMMARISE: return in_range(&c->range, e);
-    case AREA_PLACE: case AREA_PART: return in_area(&c->area, e) && !passed_over(&c->ignore, e);
+    case AREA_FOUND: case AREA_PART: return in_area(&c->area, e) && !passed_over(&c->ignore, e);
     default: return in_area(&c->area, e);
     }
 }
 
 static bool legal_query(const call *c) {
-    bool range = c->kind == RANGE_PLACE || c->kind == RANGE_PART || c->kind == SUMMARISE;
+    bool range = c->kind == RANGE_FOUND || c->kind == RANGE_PART || c->kind == SUMMARISE;
     if (!range) return judge_is_legal(&c->area.path);
     return judge_is_legal(&c->range.paths.start) && (c->range.paths.open || judge_is_legal(&c->range.paths.end));
 }
 
-/* "the next match at or after it as a part of the caller's tree; another answers that match's place, or finished, or a refusal. In the last two
-   cases the part is empty." A part cannot say a refusal. */
+/* Keys as bytes, of a length each: the first that differs, and else the shorter one comes first. */
+static int compare_keys(const uint8_t *p, size_t m, const uint8_t *q, size_t n) {
+    int c = memcmp(p, q, m < n ? m : n);
+    return c ? c : (m > n) - (m < n);
+}
+
+/* The key of a stored item stands before its value. */
+static size_t key_bytes(const item *e) { return e->size - VALUE_BYTES; }
+static const uint8_t *key_of(const item *e) { return e->value - key_bytes(e); }
+
+/* U7: "Each step answers the record of the least matching key above that one (at the start, of all) in the store as it then is; the second call answers found in place of
+   the match's place. Any other remembered key that the subspace-first encoder doesn't write gets 5." 01: finished or refused, "the part is empty"; it cannot say a refusal. */
 static answer listed(const call *c, const lent *s, answer a) {
     bool part = c->kind == AREA_PART || c->kind == RANGE_PART;
+    const item *least = NULL;
+    item last;
     if (!legal_query(c)) return refused(a, part ? 0 : 4);
-    for (size_t k = c->place; k < s->state.count; k++)
-        if (matches(c, judged_items + k)) {
-            if (part) a.part.offset = judged_items[k].offset, a.part.length = judged_items[k].size;
-            else a.yes = 1, a.number = k;
-            break;
-        }
+    if (c->last_len && !read_key(0, c->last, c->last_len, &last)) return refused(a, part ? 0 : 5);
+    for (size_t k = 0; k < s->state.count; k++) {
+        const item *e = judged_items + k;
+        if (!matches(c, e) || compare_keys(key_of(e), key_bytes(e), c->last, c->last_len) <= 0) continue;
+        if (!least || compare_keys(key_of(e), key_bytes(e), key_of(least), key_bytes(least)) < 0) least = e;
+    }
+    if (!least) return a;
+    if (part) a.part.offset = least->offset, a.part.length = least->size, a.number = key_bytes(least);
+    else a.yes = 1;
     return a;
+}
+
+listed_how judge_listed_how(const call *c) {
+    listed_how how = {false, false, false, true, true, true, false, false};
+    item last, other;
+    how.key = read_key(0, c->last, c->last_len, &last);
+    how.byte_behind = c->last_len && read_key(0, c->last, c->last_len - 1, &other), how.time_first = read_key(1, c->last, c->last_len, &other);
+    for (size_t k = 0; k < judged_store->state.count; k++) {
+        const item *e = judged_items + k;
+        int order = compare_keys(c->last, c->last_len, key_of(e), key_bytes(e));
+        if (order == 0) how.stored = true, how.matches = legal_query(c) && matches(c, e);
+        how.below_all &= order < 0, how.above_all &= order > 0, how.other_subspace &= how.key && !same_subspace(e, &last);
+    }
+    return how;
 }
 
 static answer counted(const call *c, const lent *s, answer a) {

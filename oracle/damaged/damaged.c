@@ -55,7 +55,16 @@ static answer by_value(const call *c, lent *s) {
     return told_ingested(r.ingested);
 }
 
-static void tell_listed(answer *a, vb_listed l) { a->refusal = l.refusal, a->yes = l.found, a->number = l.place; }
+static void tell_listed(answer *a, vb_listed l) { a->refusal = l.refusal, a->yes = l.found; }
+
+/* A part, and the bytes of its key by the call that says them: they must be its first ones. */
+static void tell_part(answer *a, const lent *s, vb_part p) {
+    a->part = p;
+    if (!p.length || p.offset > s->bytes[0] || p.length > s->bytes[0] - p.offset) return;
+    vb_part key = vb_record_key(s->tree[0] + p.offset, p.length);
+    a->number = key.offset ? SIZE_MAX : key.length;
+}
+
 static void tell_counted(answer *a, vb_counted n) { a->refusal = n.refusal, a->number = n.count; }
 
 static answer make(const call *c, lent *s) {
@@ -95,10 +104,10 @@ static answer make(const call *c, lent *s) {
         a.refusal = r.refusal, a.yes = r.found, a.lengthy = r.lengthy;
         break;
     }
-    case AREA_PLACE: tell_listed(&a, vb_query_area_place(s->state, READ, c->area, c->ignore, c->place)); break;
-    case AREA_PART: a.part = vb_query_area(s->state, READ, c->area, c->ignore, c->place); break;
-    case RANGE_PLACE: tell_listed(&a, vb_query_range_place(s->state, READ, c->range, c->ignore, c->place)); break;
-    case RANGE_PART: a.part = vb_query_range(s->state, READ, c->range, c->ignore, c->place); break;
+    case AREA_FOUND: tell_listed(&a, vb_query_area_found(s->state, READ, c->area, c->ignore, c->last, c->last_len)); break;
+    case AREA_PART: tell_part(&a, s, vb_query_area(s->state, READ, c->area, c->ignore, c->last, c->last_len)); break;
+    case RANGE_FOUND: tell_listed(&a, vb_query_range_found(s->state, READ, c->range, c->ignore, c->last, c->last_len)); break;
+    case RANGE_PART: tell_part(&a, s, vb_query_range(s->state, READ, c->range, c->ignore, c->last, c->last_len)); break;
     case COUNT_AREA: tell_counted(&a, vb_count_area(s->state, READ, c->area)); break;
     case SUMMARISE: tell_counted(&a, vb_summarise(s->state, READ, c->range)); break;
     default: {
@@ -110,8 +119,8 @@ static answer make(const call *c, lent *s) {
     return a;
 }
 
-static const char *const names[] = {"open", "ingest", "ingest, numbers", "ingest, by value", "forget entry", "forget area", "record available", "forget payload", "find entry", "area place",
-                                    "area part", "range place", "range part", "count area", "summarise", "area of interest"};
+static const char *const names[] = {"open", "ingest", "ingest, numbers", "ingest, by value", "forget entry", "forget area", "record available", "forget payload", "find entry", "area found",
+                                    "area part", "range found", "range part", "count area", "summarise", "area of interest"};
 
 /* What came, by kind: each number of a refusal; answers of yes (obsolete, found); those of held; those that name something (pruned, forgotten, counted, a part,
    times that start elsewhere than the area's). */
@@ -133,6 +142,31 @@ static long record_ways[2][RECORD_WAYS];
 enum { LOCAL_FILED, SESSION_NOT_LOOKED_AT, REMOTE_0_FILED, BELOW_2_63, FROM_2_63, THE_GREATEST, ANOTHER_YES, IN_PLACE_OF_ANOTHER, LOCAL_SHOWN, REMOTE_0_SHOWN, SESSION_SHOWN, REMOTE_HIDDEN, NONE_THERE,
        REMOTE_RECORDED, REMOTE_UNRECORDED, ORIGINS };
 static long origins[ORIGINS];
+
+/* Steps of listings: from the start; from the key of a stored entry that matches, of one that does not, of one that is not stored; from below all that are stored, from above; from a subspace without
+   entries; from a time-first key that the subspace-first encoder writes too. Given, and finished, from a key. Refused with 5: fewer than 26 bytes, over 298, a key with a byte behind it, a time-first
+   key, others; in an empty store; with 4, and what is remembered is no key either. */
+enum { FROM_START, FROM_A_MATCH, FROM_ANOTHER, FROM_NONE, FROM_BELOW_ALL, FROM_ABOVE_ALL, FROM_ELSEWHERE, FROM_BOTH_KINDS, GIVEN, FINISHED, TOO_SHORT, TOO_LONG, BYTE_BEHIND, TIME_FIRST, OTHER_FORM, FIVE_OF_NOTHING,
+       FOUR_AND_NO_KEY, STEP_WAYS };
+static long step_ways[STEP_WAYS];
+
+/* Counts the ways of a step on the store that the judge has read, which is well-formed. */
+static void count_steps(const call *c, const answer *want) {
+    listed_how how = judge_listed_how(c);
+    bool given = want->yes || want->part.length, none = c->last_len && !how.key;
+    if (none && want->refusal == 4) step_ways[FOUR_AND_NO_KEY]++;
+    if (none && want->refusal == 5) {
+        bool is_short = c->last_len < 26, is_long = c->last_len > 298;
+        step_ways[TOO_SHORT] += is_short, step_ways[TOO_LONG] += is_long, step_ways[BYTE_BEHIND] += how.byte_behind, step_ways[TIME_FIRST] += how.time_first;
+        step_ways[OTHER_FORM] += !is_short && !is_long && !how.byte_behind && !how.time_first, step_ways[FIVE_OF_NOTHING] += !store.state.count;
+    }
+    if (none || want->refusal || !store.state.count) return;
+    step_ways[FROM_START] += !c->last_len && given;
+    if (!c->last_len) return;
+    step_ways[FROM_A_MATCH] += how.stored && how.matches, step_ways[FROM_ANOTHER] += how.stored && !how.matches, step_ways[FROM_NONE] += !how.stored && given;
+    step_ways[FROM_BELOW_ALL] += how.below_all && given, step_ways[FROM_ABOVE_ALL] += how.above_all, step_ways[FROM_ELSEWHERE] += how.other_subspace && given;
+    step_ways[FROM_BOTH_KINDS] += how.time_first, step_ways[GIVEN] += given, step_ways[FINISHED] += !given;
+}
 
 /* Counts the origins of a call that was not refused, on the store that the judge has read. */
 static void count_origins(const call *c, const answer *want) {
@@ -202,6 +236,7 @@ static answer judged_call(const call *c, int damage) {
     }
     bool records = c->kind == RECORD_AVAILABLE || c->kind == FORGET_PAYLOAD;
     if (records) count_record_ways(c, &want);
+    if (c->kind >= AREA_FOUND && c->kind <= RANGE_PART && !judge_refuses(c->kind, &theirs)) count_steps(c, &want);
     if (!want.refusal && (records || c->kind == FIND_ENTRY || (c->kind > OPEN && c->kind < FORGET_ENTRY))) count_origins(c, &want);
     named[c->kind] += want.number || want.part.length || (c->kind == INTEREST && !want.refusal && want.range.times.start != c->area.times.start);
     return got;
@@ -293,6 +328,7 @@ static void every_call(int damage) {
     short_tallies += !worst && store.tally_bytes < VB_ITEM * store.state.limit, wrong_tallies += judge_refuses(FORGET_AREA, &was) == 10;
     for (int kind = 0; kind < CALL_KINDS; kind++) {
         call c = random_call(kind, store.state.namespace_id);
+        if (!worst && store.state.count && kind >= AREA_FOUND && kind <= RANGE_PART && one_in(3)) remember(&c, judge_entry(below(store.state.count)));
         if (one_in(4)) odd_call(&c);
         answer got = judged_call(&c, damage);
         if (kind >= FIND_ENTRY) continue;
@@ -308,7 +344,7 @@ static void every_call(int damage) {
 
 /* What came, by kind. A branch of the papers that was never reached is a fault of this program. */
 static int table(bool enough) {
-    static const char *const can[] = {"012", "yh+01234678t", "yh+01234678t", "yh+01234678t", "012349t", "+01234t", "012349ew", "012349e", "y01234", "y+01234", "+0", "y+01234", "+0", "+01234", "+01234", "+01234"};
+    static const char *const can[] = {"012", "yh+01234678t", "yh+01234678t", "yh+01234678t", "012349t", "+01234t", "012349ew", "012349e", "y01234", "y012345", "+0", "y012345", "+0", "+01234", "+01234", "+01234"};
     int missing = 0;
     printf("%-17s %9s %9s %9s %9s", "call", "answered", "of yes", "held", "naming");
     for (int n = 1; n < 13; n++) printf(" %8d", n);
@@ -344,6 +380,12 @@ static int table(bool enough) {
         for (int t = 0; t < WHERE; t++) missing += !origin_damages[i][t];
     }
     puts("; the last two in both are well-formed, all others 3");
+    printf("steps: from the start %ld; from the key of a match %ld, of a stored entry that does not match %ld, of none that is stored %ld, from below all %ld, from above all %ld, of a subspace without entries %ld, "
+           "by a time-first key that is one %ld; from a key given %ld, finished %ld; refused with 5: fewer than 26 bytes %ld, over 298 %ld, a byte behind a key %ld, a time-first key %ld, others %ld, in an empty store %ld; "
+           "with 4 and no key %ld\n",
+           step_ways[FROM_START], step_ways[FROM_A_MATCH], step_ways[FROM_ANOTHER], step_ways[FROM_NONE], step_ways[FROM_BELOW_ALL], step_ways[FROM_ABOVE_ALL], step_ways[FROM_ELSEWHERE], step_ways[FROM_BOTH_KINDS],
+           step_ways[GIVEN], step_ways[FINISHED], step_ways[TOO_SHORT], step_ways[TOO_LONG], step_ways[BYTE_BEHIND], step_ways[TIME_FIRST], step_ways[OTHER_FORM], step_ways[FIVE_OF_NOTHING], step_ways[FOUR_AND_NO_KEY]);
+    for (int i = 0; i < STEP_WAYS; i++) missing += !step_ways[i];
     if (missing && enough) printf("fault: %d kinds of answers never came\n", missing);
     return missing && enough;
 }

@@ -1,6 +1,6 @@
 /* Random edits of a store through the door, each beside a plain copy in C: two lists of records, sorted by key, into which a record is put, or out of which
    some are taken, by plain memmove, or in which the available length of one is written. After each edit both trees, both directories and the tally are compared byte for byte, and the pairs of what was
-   pruned, and a lookup shows the origin of the copy; then a byte behind the last record, an offset, a byte of a key's end, an available length in one tree, an origin's kind and its session, in
+   pruned, a lookup shows the origin of the copy, and a listing that is held open over all of them gives the copy of the least key above the last one; then a byte behind the last record, an offset, a byte of a key's end, an available length in one tree, an origin's kind and its session, in
    one tree or in both, are damaged in turn, and each must be refused with 3, and a byte of the tally, which must be refused with 10. Ends with 1 at the first difference. */
 #include "virebony.h"
 #include <stdbool.h>
@@ -329,9 +329,50 @@ static const char *arrive(long *kinds) {
     return NULL;
 }
 
+/* The key that a listing of everything remembers; it is held open while the store is edited, and begins again at its end. */
+static uint8_t last[VB_KEY_MOST];
+static size_t last_len;
+
+/* The copy whose key as bytes is the least above what is remembered; NULL if there is none. */
+static const Copy *least_above(void) {
+    const Copy *least = NULL;
+    for (size_t k = 0; k < copied; k++) {
+        const uint8_t *key = copies[k].record[0];
+        const size_t n = copies[k].len[0] - VALUE;
+        int c = memcmp(key, last, n < last_len ? n : last_len);
+        if (c < 0 || (c == 0 && n <= last_len)) continue;
+        size_t m = least ? least->len[0] - VALUE : 0;
+        c = least ? memcmp(key, least->record[0], n < m ? n : m) : 0;
+        if (!least || c < 0 || (c == 0 && n < m)) least = copies + k;
+    }
+    return least;
+}
+
+/* A step, of an area's listing or of a range's in turn. */
+static const char *scroll(bool by_area, long *kinds) {
+    static const vb_ignore none;
+    vb_range whole;
+    memset(&whole, 0, sizeof whole);
+    whole.subspaces.open = whole.paths.open = whole.times.open = 1;
+    vb_area all = area(NULL, 0, UINT64_MAX);
+    all.times.open = 1;
+    vb_listed l = by_area ? vb_query_area_found(state, READ, all, none, last, last_len) : vb_query_range_found(state, READ, whole, none, last, last_len);
+    vb_part p = by_area ? vb_query_area(state, READ, all, none, last, last_len) : vb_query_range(state, READ, whole, none, last, last_len);
+    const Copy *c = least_above();
+    if (l.refusal || l.found != (c != NULL) || p.length != (c ? c->len[0] : 0)) return "whether a step gives something";
+    if (!c) {
+        kinds[25] += last_len > 0, last_len = 0;
+        return NULL;
+    }
+    if (memcmp(tree[0] + p.offset, c->record[0], p.length)) return "the record that a step gives";
+    kinds[24]++, last_len = vb_record_key(tree[0] + p.offset, p.length).length;
+    memcpy(last, tree[0] + p.offset, last_len);
+    return last_len == c->len[0] - VALUE ? NULL : "the key of the record that a step gives";
+}
+
 int main(void) {
     static const uint8_t namespace_id[16];
-    enum { KINDS = 24 };
+    enum { KINDS = 26 };
     long done = 0, kinds[KINDS] = {0};
     for (int seed = 0; seed < 220; seed++) {
         srand(seed);
@@ -341,6 +382,7 @@ int main(void) {
             const char *wrong = rand() % 4 == 0 ? arrive(kinds) : rand() % 3 ? ingest(kinds) : forget(kinds);
             if (!wrong) wrong = laid();
             if (!wrong) wrong = looked_up();
+            if (!wrong && s % 2) wrong = scroll(s % 4 == 1, kinds);
             if (!wrong) wrong = damaged();
             if (wrong) return printf("%s, seed %d, step %d\n", wrong, seed, s), 1;
             done++;
@@ -352,6 +394,7 @@ int main(void) {
            "9 that would be 12 too %ld, 12 %ld\n", kinds[9], kinds[10], kinds[11], kinds[16], kinds[17], kinds[12], kinds[13], kinds[14], kinds[15]);
     printf("origins: %ld put in as local, %ld of them with a session, %ld as remote 0, %ld as remote with a number, %ld in place of another; %ld held with another\n", kinds[18], kinds[19], kinds[20],
            kinds[21], kinds[22], kinds[23]);
+    printf("a listing held open over the edits: %ld steps that give a record, %ld ends\n", kinds[24], kinds[25]);
     for (int i = 0; i < KINDS; i++)
         if (!kinds[i]) return printf("an edit of kind %d never came\n", i), 1;
     return 0;

@@ -44,6 +44,9 @@ static inline uint64_t be64(const uint8_t *p) {
     return x;
 }
 
+/* well_formed.c: reads a key of a tree by the grammar; false if no encoder of that kind writes it. */
+bool read_key(int t, const uint8_t *p, size_t n, item *e);
+
 /* tally.c: the tally of some entries, in whatever order they stand, up to the limit's room. */
 void lay_tally(const item *const *entries, size_t n, size_t limit, uint8_t *tally);
 

@@ -1,4 +1,4 @@
-/* A judge of the store's calls, written from document 01 and from 02's U1 (the tally), U2 (the same entry twice), U3 (ties), U4 (how much has arrived) and U6 (where an entry came from), and sharing no
+/* A judge of the store's calls, written from document 01 and from 02's U1 (the tally), U2 (the same entry twice), U3 (ties), U4 (how much has arrived), U6 (where an entry came from) and U7 (filing while a listing is open), and sharing no
    code and no number with the port or with whoever makes the calls: of the header it uses the shapes of values only. It reads a store once, as it was lent, and then says of each call on it
    what the answer is and what every byte of the buffers is afterwards. */
 #ifndef JUDGE_H
@@ -17,8 +17,11 @@ typedef struct {
 
 enum call_kind {
     OPEN, INGEST, INGEST_NUMBERS, INGEST_BY_VALUE, FORGET_ENTRY, FORGET_AREA, RECORD_AVAILABLE, FORGET_PAYLOAD,
-    FIND_ENTRY, AREA_PLACE, AREA_PART, RANGE_PLACE, RANGE_PART, COUNT_AREA, SUMMARISE, INTEREST, CALL_KINDS
+    FIND_ENTRY, AREA_FOUND, AREA_PART, RANGE_FOUND, RANGE_PART, COUNT_AREA, SUMMARISE, INTEREST, CALL_KINDS
 };
+
+/* How many bytes a remembered key may have here: more than any key has. */
+enum { LAST_ROOM = 320 };
 
 /* The arguments of every kind of call. An opening's namespace and limit are those of the state. */
 typedef struct {
@@ -29,14 +32,15 @@ typedef struct {
     vb_area area, protected_area;
     vb_range range;
     vb_ignore ignore;
-    size_t place;
+    uint8_t last[LAST_ROOM]; /* the key that a listing remembers */
+    size_t last_len;
     uint64_t max_count, max_size, available;
 } call;
 
 /* The answer of every kind of call; what a kind does not answer is 0. */
 typedef struct {
     uint8_t refusal, yes, held; /* yes: obsolete, or found */
-    size_t number;        /* pruned, forgotten, counted, or a place */
+    size_t number;        /* pruned, forgotten, counted, or the bytes of the key of a part that is not empty */
     vb_state state;
     vb_part part;
     vb_lengthy_entry lengthy; /* found, or newer */
@@ -67,6 +71,11 @@ recorded_how judge_recorded_how(const call *c);
 
 /* The origin of the entry at the subspace and path of a call, which are legal, in the store that was read, which is well-formed; false if none stands there. */
 bool judge_stored_origin(const call *c, vb_origin *origin);
+
+/* Of a step of a listing on the store that was read, which is well-formed: whether what it remembers is a key, that of a stored entry, of one that matches; lies below all that are stored, or above;
+   is of a subspace that has no entry. Whether it would be one without its last byte; is a time-first key. */
+typedef struct { bool key, stored, matches, below_all, above_all, other_subspace, byte_behind, time_first; } listed_how;
+listed_how judge_listed_how(const call *c);
 
 /* An entry of the store that was read, which is well-formed, by its place. */
 vb_entry judge_entry(size_t place);

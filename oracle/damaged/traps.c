@@ -1,5 +1,5 @@
 /* Stores and calls on which a plausible wrong port fails, each answer written by hand from 01, and from 02: U1 for the tally, U2 for the same entry twice, U3 for ties, U4
-   for how much has arrived, U6 for where an entry came from. Ends with 1 if one is not as written. */
+   for how much has arrived, U6 for where an entry came from, U7 for filing while a listing is open. Ends with 1 if one is not as written. */
 #include "virebony.h"
 #include <stdbool.h>
 #include <stdio.h>
@@ -174,14 +174,24 @@ static void counts(const char *what, vb_area a, int refusal, size_t count) {
     expect(what, c.count, count);
 }
 
-/* An area's and a range's listing from a place, of everything: the match's place, or finished; the part's length. */
-static void lists(const char *what, vb_ignore i, size_t place, bool found, size_t at, size_t length) {
-    vb_listed a = vb_query_area_place(state, READ, all(), i, place), r = vb_query_range_place(state, READ, whole(), i, place);
-    vb_part p = vb_query_area(state, READ, all(), i, place), q = vb_query_range(state, READ, whole(), i, place);
-    expect(what, a.refusal | r.refusal, 0);
-    expect(what, a.found, found), expect(what, r.found, found);
-    expect(what, a.place, at), expect(what, r.place, at);
+/* A step of an area's and of a range's listing, from some bytes: the refusal, and the record, of so many bytes from an offset on; no byte of any buffer is another. */
+static void makes(const char *what, vb_area a, vb_range r, vb_ignore i, const uint8_t *last, size_t n, int refusal, size_t offset, size_t length) {
+    keep();
+    vb_listed by_area = vb_query_area_found(state, READ, a, i, last, n), by_range = vb_query_range_found(state, READ, r, i, last, n);
+    vb_part p = vb_query_area(state, READ, a, i, last, n), q = vb_query_range(state, READ, r, i, last, n);
+    expect(what, by_area.refusal, refusal), expect(what, by_range.refusal, refusal);
+    expect(what, by_area.found, length > 0), expect(what, by_range.found, length > 0);
     expect(what, p.length, length), expect(what, q.length, length);
+    expect(what, p.offset, offset), expect(what, q.offset, offset);
+    expect(what, as_it_was(), true);
+}
+
+enum { START = -1 };
+
+/* A step of everything from the key of a record that stands at a place, or from the start: the record at another place, of so many bytes, or finished. */
+static void lists(const char *what, vb_ignore i, int from, bool found, size_t at, size_t length) {
+    const uint8_t *last = from == START ? NULL : tree[0] + dir[0][2 * from];
+    makes(what, all(), whole(), i, last, last ? dir[0][2 * from + 1] - VALUE : 0, 0, found ? dir[0][2 * at] : 0, length);
 }
 
 /* The item at a place, and, with `last`, that zeros follow it up to the limit's room and what lies beyond is untouched. */
@@ -414,14 +424,14 @@ static void exact(void) {
 static void flagged(void) {
     const size_t record = 16 + 3 + 2 + 8 + VALUE;
     fresh(4), in("a", 5, 3, 1), in("b", 5, 0, 1), in("c", 5, 3, 1);
-    lists("0 of 0 alone", ignore(true, false), 0, true, 1, record), lists("no other", ignore(true, false), 2, false, 0, 0);
-    records("2 of 3", path("c"), -1, 2, 0), lists("2 of 3 is passed over", ignore(true, false), 2, false, 0, 0);
-    records("3 of 3", path("c"), 1, 3, 0), lists("3 of 3 is not", ignore(true, false), 2, true, 2, record), lists("with both flags it is the first", ignore(true, true), 0, true, 2, record);
+    lists("0 of 0 alone", ignore(true, false), START, true, 1, record), lists("no other", ignore(true, false), 1, false, 0, 0);
+    records("2 of 3", path("c"), -1, 2, 0), lists("2 of 3 is passed over", ignore(true, false), 1, false, 0, 0);
+    records("3 of 3", path("c"), 1, 3, 0), lists("3 of 3 is not", ignore(true, false), 1, true, 2, record), lists("with both flags it is the first", ignore(true, true), START, true, 2, record);
     expect("found", vb_find_entry(state, READ, subspace(1), path("c"), ignore(true, true)).found, true);
     records("1 of 3", path("a"), 1, 1, 0), expect("passed over", vb_find_entry(state, READ, subspace(1), path("a"), ignore(true, false)).found, false);
     expect("without the flag it is found", vb_find_entry(state, READ, subspace(1), path("a"), ignore(false, true)).lengthy.available, 1);
     counts("three are counted", all(), 0, 3);
-    unrecords("none of 3", path("c"), 1, 0), lists("passed over again", ignore(true, false), 2, false, 0, 0);
+    unrecords("none of 3", path("c"), 1, 0), lists("passed over again", ignore(true, false), 1, false, 0, 0);
     item("three are tallied", 0, 0, 1, 3, 5, true);
 }
 
@@ -532,19 +542,217 @@ static void interest(void) {
     counts("no match is counted", i.area, 0, 0);
 }
 
-/* A listing of an empty store, from the count, or from the greatest place: finished, the part empty, no wrap-around. Of fresh entries of
-   lengths 0 and 3, ignoring empty ones hides the first, ignoring incomplete ones the second only, as 0 of 0 is complete; a count has both. */
+/* A listing of an empty store, and from the last record: finished, the part empty. Of fresh entries of lengths 0 and 3, ignoring empty ones hides the first, ignoring incomplete ones the
+   second only, as 0 of 0 is complete; a count has both. */
 static void listings(void) {
     const size_t record = 16 + 3 + 2 + 8 + VALUE;
-    fresh(8), lists("empty store", ignore(false, false), 0, false, 0, 0);
+    fresh(8), lists("empty store", ignore(false, false), START, false, 0, 0);
     in("a", 5, 0, 1), in("b", 5, 3, 1);
-    lists("first match", ignore(false, false), 0, true, 0, record);
-    lists("place at the count", ignore(false, false), 2, false, 0, 0);
-    lists("greatest place", ignore(false, false), GREATEST, false, 0, 0);
-    lists("empty ones hidden", ignore(false, true), 0, true, 1, record);
-    lists("incomplete ones hidden", ignore(true, false), 1, false, 0, 0);
-    lists("0 of 0 is complete", ignore(true, false), 0, true, 0, record);
+    lists("first match", ignore(false, false), START, true, 0, record);
+    lists("behind the first", ignore(false, false), 0, true, 1, record);
+    lists("behind the last", ignore(false, false), 1, false, 0, 0);
+    lists("empty ones hidden", ignore(false, true), START, true, 1, record);
+    lists("incomplete ones hidden", ignore(true, false), 0, false, 0, 0);
+    lists("0 of 0 is complete", ignore(true, false), START, true, 0, record);
     counts("a count has both", all(), 0, 2);
+}
+
+/* The key that a listing remembers: the last that it gave, copied; none at its start. */
+typedef struct {
+    uint8_t key[VB_KEY_MOST + 2];
+    size_t len;
+} remembered;
+
+/* A key by the printed table: the subspace's last byte, components of text parted by '/', each with its end 00 01, the path's end 00 00, the time's last byte. */
+static remembered key(uint8_t low, const char *components, uint8_t time) {
+    remembered k;
+    memset(&k, 0, sizeof k);
+    k.key[15] = low, k.len = 16;
+    for (const char *c = components; *c; c++) {
+        if (*c == '/') k.len++, k.key[k.len++] = 1;
+        else k.key[k.len++] = (uint8_t)*c;
+    }
+    if (*components) k.len++, k.key[k.len++] = 1;
+    k.len += 2, k.key[k.len + 7] = time, k.len += 8;
+    return k;
+}
+
+/* The step of everything from what is remembered gives the record of this key, whose digest is a byte 32 times; then this key is remembered. */
+static void gives(const char *what, remembered *last, vb_ignore i, remembered k, uint8_t digest) {
+    size_t offset = SIZE_MAX, length = 0;
+    for (size_t n = 0; n < state.count; n++)
+        if (dir[0][2 * n + 1] == k.len + VALUE && !memcmp(tree[0] + dir[0][2 * n], k.key, k.len)) offset = dir[0][2 * n], length = k.len + VALUE;
+    makes(what, all(), whole(), i, last->key, last->len, 0, offset, length);
+    vb_part p = vb_query_area(state, READ, all(), i, last->key, last->len), its_key = vb_record_key(tree[0] + p.offset, p.length);
+    expect(what, its_key.offset, 0), expect(what, its_key.length, k.len), expect(what, memcmp(tree[0] + p.offset, k.key, k.len), 0);
+    expect(what, tree[0][p.offset + k.len + VB_VALUE_DIGEST], digest);
+    memcpy(last->key, tree[0] + p.offset, its_key.length), last->len = its_key.length;
+}
+
+static void ends(const char *what, const remembered *last, vb_ignore i) { makes(what, all(), whole(), i, last->key, last->len, 0, 0, 0); }
+
+static void gone(const char *p) {
+    static const uint8_t digest[32];
+    vb_entry_forgotten f = vb_forget_entry(state, STORE, subspace(1), path(p), 0, digest);
+    expect(p, f.refusal, 0), expect(p, f.state.count, state.count - 1);
+    state = f.state;
+}
+
+/* The remembered key's own record is not given again; it need not be stored any more, nor match, nor ever have been stored. */
+static void not_again(void) {
+    const vb_ignore none = ignore(false, false);
+    remembered last = {{0}, 0};
+    fresh(8), in("a", 5, 3, 1), in("b", 5, 3, 2), in("c", 5, 3, 3);
+    gives("the first", &last, none, key(1, "a", 5), 1), gives("the next", &last, none, key(1, "b", 5), 2);
+    gone("b"), gives("behind one that is gone", &last, none, key(1, "c", 5), 3), ends("none is left", &last, none), ends("nor later", &last, none);
+    vb_range from_c = whole(), to_b = whole();
+    from_c.paths.start = path("c"), to_b.paths.end = path("b"), to_b.paths.open = 0;
+    vb_area c = all();
+    c.path = path("c");
+    remembered a = key(1, "a", 5);
+    makes("from one that does not match", c, from_c, none, a.key, a.len, 0, dir[0][2], KEY + VALUE);
+    vb_area early = all();
+    early.times.start = 6;
+    makes("from one that does not match, and nothing else does", early, to_b, none, a.key, a.len, 0, 0, 0);
+    last = key(1, "b/x", 0), gives("never stored, between two", &last, none, key(1, "c", 5), 3);
+    last = key(1, "c", 4), gives("never stored, at its path and before its time", &last, none, key(1, "c", 5), 3);
+    last = key(1, "c", 6), ends("at its path and after its time", &last, none);
+}
+
+/* [61] time 5 is given, and then pruned by [61] time 6, whose key is above: it is given. With a greater digest in its place the key is the same, and it is not. */
+static void in_its_place(void) {
+    const vb_ignore none = ignore(false, false);
+    remembered last = {{0}, 0};
+    fresh(8), in("a", 5, 3, 1), in("b", 5, 3, 2);
+    gives("time 5", &last, none, key(1, "a", 5), 1);
+    ingests("time 6", named(entry("a", 6, 3, 1)), false, 0, false, 1);
+    gives("time 6", &last, none, key(1, "a", 6), 1), gives("and on", &last, none, key(1, "b", 5), 2), ends("to the end", &last, none);
+    last.len = 0, fresh(8), in("a", 5, 3, 1), in("b", 5, 3, 2);
+    gives("time 5", &last, none, key(1, "a", 5), 1);
+    ingests("a greater digest", named(entry("a", 5, 3, 9)), false, 0, false, 1);
+    gives("the key was given", &last, none, key(1, "b", 5), 2), ends("to the end", &last, none);
+}
+
+/* A key above all: finished. Below all: the first. Of a subspace without entries, by its bytes. The longest key, and one all ff. A time-first key of the empty path is one that the subspace-first
+   encoder writes: it lies where its bytes do. */
+static void any_key(void) {
+    const vb_ignore none = ignore(false, false);
+    remembered last;
+    fresh(8), in("a", 5, 3, 1);
+    vb_entry third = named(entry("a", 5, 3, 3));
+    third.subspace_id = subspace(3), ingests("subspace 3", third, false, 0, false, 0);
+    last = key(0, "", 0), gives("below all", &last, none, key(1, "a", 5), 1);
+    last = key(2, "", 0), gives("between the subspaces", &last, none, key(3, "a", 5), 3);
+    last = key(3, "b", 0), ends("above all", &last, none);
+    last = key(4, "", 0), ends("of a greater subspace", &last, none);
+    vb_area one = all();
+    one.any_subspace = 0, one.subspace = subspace(1);
+    vb_range only = whole();
+    only.subspaces.end = subspace(2), only.subspaces.open = 0;
+    last = key(2, "", 0), makes("subspace 1 is behind", one, only, none, last.key, last.len, 0, 0, 0);
+    last = key(0, "z", 255), makes("subspace 1 is ahead", one, only, none, last.key, last.len, 0, 0, KEY + VALUE);
+    memset(&last, 0, sizeof last); /* two components of 64 bytes 00 and six empty ones */
+    last.key[15] = 1, last.len = 298;
+    for (int i = 0; i < 2; i++) {
+        for (int n = 0; n < 64; n++) last.key[16 + 130 * i + 2 * n + 1] = 2;
+        last.key[16 + 130 * i + 129] = 1;
+    }
+    for (int i = 0; i < 6; i++) last.key[276 + 2 * i + 1] = 1;
+    gives("298 bytes", &last, none, key(1, "a", 5), 1);
+    last.len = 16 + 66 + 66 + 2 + 8; /* a subspace, two components and a time, all ff */
+    memset(last.key, 0xff, last.len), last.key[80] = last.key[146] = last.key[148] = last.key[149] = 0, last.key[81] = last.key[147] = 1;
+    ends("above everything", &last, none);
+    uint8_t time_first[26] = {0, 0, 0, 0, 0, 0, 0, 5, 0, 0, 0, 0, 0, 0, 0, 0, 0, 0, 0, 0, 0, 0, 0, 1}; /* time 5, subspace 1, the empty path; as a key: subspace 5 << 64, the empty path, time 2^16 */
+    memcpy(last.key, time_first, last.len = 26), ends("time 5 of the empty path", &last, none);
+    last.key[7] = 0, gives("time 0 of the empty path", &last, none, key(1, "a", 5), 1);
+}
+
+/* 5 for what the subspace-first encoder does not write: cut anywhere, with a byte behind it, nine components, a time-first key, 299 bytes, 61 00 00, 61 00 03. Behind 1, 2, 3 and 4, whatever else. */
+static void no_keys(void) {
+    const vb_ignore none = ignore(false, false);
+    remembered k = key(1, "a", 5), odd;
+    fresh(8), in("a", 5, 3, 1);
+    makes("the empty key", all(), whole(), none, k.key, 0, 0, 0, KEY + VALUE), makes("no bytes at all", all(), whole(), none, NULL, 0, 0, 0, KEY + VALUE);
+    makes("a key", all(), whole(), none, k.key, k.len, 0, 0, 0);
+    for (size_t n = 1; n < k.len; n++) makes("cut", all(), whole(), none, k.key, n, 5, 0, 0);
+    for (int b = 0; b < 256; b += 51) odd = k, odd.key[odd.len++] = (uint8_t)b, makes("a byte behind it", all(), whole(), none, odd.key, odd.len, 5, 0, 0);
+    odd = key(1, "", 5), makes("26 bytes", all(), whole(), none, odd.key, 26, 0, 0, KEY + VALUE), makes("25 bytes", all(), whole(), none, odd.key, 25, 5, 0, 0);
+    odd = key(1, "b/b/b/b/b/b/b/b", 5), makes("eight components", all(), whole(), none, odd.key, odd.len, 0, 0, 0);
+    odd = key(1, "b/b/b/b/b/b/b/b/b", 5), makes("nine components", all(), whole(), none, odd.key, odd.len, 5, 0, 0);
+    odd = key(1, "bbbbbbbbbbbbbbbbbbbbbbbbbbbbbbbbbbbbbbbbbbbbbbbbbbbbbbbbbbbbbbbb", 5), makes("64 bytes", all(), whole(), none, odd.key, odd.len, 0, 0, 0);
+    odd = key(1, "bbbbbbbbbbbbbbbbbbbbbbbbbbbbbbbbbbbbbbbbbbbbbbbbbbbbbbbbbbbbbbbbb", 5), makes("65 bytes", all(), whole(), none, odd.key, odd.len, 5, 0, 0);
+    const uint8_t time_first[29] = {0, 0, 0, 0, 0, 0, 0, 5, 0, 0, 0, 0, 0, 0, 0, 0, 0, 0, 0, 0, 0, 0, 0, 1, 'a', 0, 1, 0, 0};
+    makes("the time-first key", all(), whole(), none, time_first, 29, 5, 0, 0);
+    const uint8_t zeros[VB_KEY_MOST + 1] = {0};
+    makes("299 bytes", all(), whole(), none, zeros, 299, 5, 0, 0), makes("298 zeros", all(), whole(), none, zeros, 298, 5, 0, 0), makes("26 zeros", all(), whole(), none, zeros, 26, 0, 0, KEY + VALUE);
+    static const uint8_t paths[][6] = {{'a', 0, 0}, {'a', 0, 3, 0, 1, 0}, {'a', 0, 3, 0, 0}, {0, 3, 0, 1, 0, 0}, {'a', 0, 255, 0, 1, 0}, {'a', 'b', 'c', 'd', 'e', 'f'}};
+    for (size_t n = 0; n < sizeof paths / sizeof *paths; n++)
+        for (size_t len = 3; len <= 6; len++) { /* then the time */
+            memset(&odd, 0, sizeof odd), odd.key[15] = 1, memcpy(odd.key + 16, paths[n], len), odd.key[16 + len + 7] = 5;
+            makes("no path", all(), whole(), none, odd.key, 16 + len + 8, 5, 0, 0);
+        }
+    vb_range back = whole(), bad_range = whole();
+    vb_area nothing = all(), bad = all();
+    back.paths.start = path("b"), back.paths.end = path("a"), back.paths.open = 0, nothing.times.start = 9, nothing.times.end = 3, nothing.times.open = 0;
+    makes("it ends before it starts", nothing, back, none, NULL, 0, 0, 0, 0), makes("from a key", nothing, back, none, k.key, k.len, 0, 0, 0), makes("from no key", nothing, back, none, k.key, k.len - 1, 5, 0, 0);
+    bad.path.count = bad_range.paths.start.count = 9;
+    const vb_state was_state = state;
+    for (int n = 0; n < 3; n++) { /* the start, a key, no key */
+        const size_t len = n == 0 ? 0 : n == 1 ? k.len : k.len - 1;
+        makes("an illegal path", bad, bad_range, none, k.key, len, 4, 0, 0);
+        tree[1][RECORD * 8 - 1] = 1;
+        makes("not well-formed", bad, bad_range, none, k.key, len, 3, 0, 0), makes("not well-formed", all(), whole(), none, k.key, len, 3, 0, 0);
+        room = RECORD * 8 - 1;
+        makes("a short tree", bad, bad_range, none, k.key, len, 2, 0, 0);
+        state.limit = 0;
+        makes("no limit", bad, bad_range, none, k.key, len, 1, 0, 0);
+        state = was_state, room = sizeof tree[0], tree[1][RECORD * 8 - 1] = 0;
+    }
+    fresh(8), makes("no key in an empty store", all(), whole(), none, k.key, k.len - 1, 5, 0, 0), makes("a key in an empty store", all(), whole(), none, k.key, k.len, 0, 0, 0);
+}
+
+/* What arrives behind is not given, what arrives ahead is; pruned or forgotten before its turn it is not; forgotten and filed again it is, if it is ahead when its turn comes; what is there all the
+   while is given once. An opening between: the listing goes on in what is filed then. The key lies in the tree, and a filing moves it: a copy stays what it was. */
+static void open_listing(void) {
+    const vb_ignore none = ignore(false, false);
+    remembered last = {{0}, 0};
+    fresh(8), in("b", 5, 3, 1), in("d", 5, 3, 2), in("f", 5, 3, 3), in("f/x", 6, 3, 4), in("h", 5, 3, 5);
+    gives("the first", &last, none, key(1, "b", 5), 1), gives("the next", &last, none, key(1, "d", 5), 2);
+    vb_part p = vb_query_area(state, READ, all(), none, key(1, "b", 5).key, KEY);
+    expect("its key is in the tree", memcmp(tree[0] + p.offset, last.key, KEY), 0);
+    in("a", 5, 3, 6);
+    expect("and is moved", memcmp(tree[0] + p.offset, last.key, KEY) != 0, true);
+    in("e", 5, 3, 7);
+    gives("ahead", &last, none, key(1, "e", 5), 7);
+    ingests("both that were to come", named(entry("f", 7, 3, 8)), false, 0, false, 2);
+    gives("in their place", &last, none, key(1, "f", 7), 8);
+    gone("h"), gone("f"), in("h", 5, 3, 9), in("f", 7, 3, 9);
+    gives("filed again ahead", &last, none, key(1, "h", 5), 9), ends("filed again behind, and what arrived behind", &last, none);
+    ingests("everything of the subspace", named(entry("", 9, 3, 1)), false, 0, false, 6), ends("pruned", &last, none);
+    in("i", 9, 3, 1), gives("finished it goes on", &last, none, key(1, "i", 9), 1);
+    fresh(8), ends("an empty store", &last, none), in("a", 5, 3, 1), in("j", 5, 3, 2);
+    gives("in another store", &last, none, key(1, "j", 5), 2), ends("to its end", &last, none);
+}
+
+/* Passed over as incomplete, then recorded complete: its key is behind, not given; ahead, given. Forgotten before its turn: not given. */
+static void completed(void) {
+    const vb_ignore incomplete = ignore(true, false);
+    remembered last = {{0}, 0};
+    fresh(8), in("a", 5, 3, 1), in("b", 5, 3, 2), in("c", 5, 3, 3), in("d", 5, 3, 4);
+    records("all of b", path("b"), -1, 3, 0), records("all of d", path("d"), -1, 3, 0);
+    gives("the first that is all there", &last, incomplete, key(1, "b", 5), 2);
+    records("all of a", path("a"), -1, 3, 0), records("all of c", path("c"), -1, 3, 0), unrecords("none of d", path("d"), -1, 0), unrecords("none of b", path("b"), -1, 0);
+    gives("completed ahead", &last, incomplete, key(1, "c", 5), 3), ends("completed behind, forgotten ahead", &last, incomplete);
+}
+
+/* The key of a record is all but its last 121 bytes; of fewer bytes there is none. */
+static void keys_of_records(void) {
+    static const uint8_t record[RECORD + 1];
+    static const size_t some[][2] = {{0, 0}, {1, 0}, {120, 0}, {121, 0}, {122, 1}, {KEY + VALUE, KEY}, {418, 297}, {419, 298}, {420, 299}};
+    for (size_t k = 0; k < sizeof some / sizeof *some; k++) {
+        vb_part p = vb_record_key(record, some[k][0]);
+        expect("a record's key", p.length, some[k][1]), expect("from its first byte on", p.offset, 0);
+    }
 }
 
 /* 3 for a byte 1 at the last place within the bounds of either tree, a number 1 behind the last pair, values that differ between the trees
@@ -731,7 +939,7 @@ static void turned_away(void) {
     expect("illegal path", vb_forget_area(state, STORE, bad, 0, bad).refusal, 10);
     expect("no byte changed", tally[27], 6), expect("no number changed", dir[0][1], before);
     counts("reading calls don't take it", all(), 0, 1), counts("nor with an illegal path", bad, 4, 0);
-    lists("nor listings", ignore(false, false), 0, true, 0, before);
+    lists("nor listings", ignore(false, false), START, true, 0, before);
     expect("nor lookups", vb_find_entry(state, READ, subspace(1), path("a"), ignore(false, false)).found, 1);
     tree[1][RECORD - 1] = 1;
     ingests("not well-formed, wrong tally", illegal, false, 3, false, 0), forgets("not well-formed, wrong tally", 1, "a", 3);
@@ -802,8 +1010,8 @@ static void all_refuse(const char *what, int refusal) {
     records(what, path("a"), -1, 2, refusal), unrecords(what, path("a"), -1, refusal);
     vb_entry_found f = vb_find_entry(state, READ, subspace(1), path("a"), none);
     expect(what, f.refusal, refusal), expect(what, f.found | f.lengthy.origin.remote | f.lengthy.origin.session, 0);
-    expect(what, vb_query_area_place(state, READ, all(), none, 0).refusal, refusal), expect(what, vb_query_range_place(state, READ, whole(), none, 0).refusal, refusal);
-    expect(what, vb_query_area(state, READ, all(), none, 0).length, 0), expect(what, vb_query_range(state, READ, whole(), none, 0).length, 0);
+    expect(what, vb_query_area_found(state, READ, all(), none, NULL, 0).refusal, refusal), expect(what, vb_query_range_found(state, READ, whole(), none, NULL, 0).refusal, refusal);
+    expect(what, vb_query_area(state, READ, all(), none, NULL, 0).length, 0), expect(what, vb_query_range(state, READ, whole(), none, NULL, 0).length, 0);
     counts(what, all(), refusal, 0);
     expect(what, vb_summarise(state, READ, whole()).refusal, refusal), expect(what, vb_area_of_interest_to_range(state, READ, i).refusal, refusal);
     expect(what, as_it_was(), true);
@@ -880,7 +1088,7 @@ static void sessions(void) {
                 origin = local;
                 nine("its last nine bytes", 0, y > 0, y ? some[k] : 0);
                 shows("looked up", "a", ignore(false, false), true, y ? remote(some[k]) : local);
-                vb_part p = vb_query_area(state, READ, all(), ignore(false, false), 0);
+                vb_part p = vb_query_area(state, READ, all(), ignore(false, false), NULL, 0);
                 expect("listed", p.length, KEY + VALUE), expect("listed", tree[0][p.offset + p.length - ORIGIN], y > 0);
                 expect("listed", tree[0][p.offset + p.length - 1], y ? some[k] & 255 : 0);
                 expect("nothing has arrived", tree[0][LENGTH_AT] | tree[1][LENGTH_AT], 0);
@@ -1032,6 +1240,7 @@ int main(void) {
     ties(), line_of_ties(), full_of_ties(), beside_ties(), full(), resends(), pruned(), interest(), listings(), shapes();
     zeros(), lowered(), moved_up(), halves(), most(), behind(), turned_away();
     lengths(), exact(), flagged(), filed(), turned_away_lengths();
+    not_again(), in_its_place(), any_key(), no_keys(), open_listing(), completed(), keys_of_records();
     unknown_kinds(), trees_that_differ(), rooms(), sessions(), greatest_records(), kept_origins(), recorded_origins(), pairs_with_origins(), nothing_shown(), no_other_byte();
     printf("traps: %d expectations, %d wrong\n", asked, wrong);
     return wrong != 0;

@@ -174,6 +174,49 @@ static vb_range random_range(void) {
     return r;
 }
 
+/* The key of a subspace, a legal path and a time, subspace-first or time-first. */
+static size_t put_key(bool time_first, vb_subspace s, const vb_path *p, uint64_t time, uint8_t *out) {
+    uint8_t *at = out;
+    uint64_t numbers[] = {time, s.high, s.low};
+    size_t from = 0;
+    for (int i = !time_first; i < 3; i++)
+        for (int k = 56; k >= 0; k -= 8) *at++ = (uint8_t)(numbers[i] >> k);
+    for (size_t i = 0; i < p->count; from = p->ends[i++]) {
+        for (size_t k = from; k < p->ends[i]; k++) {
+            *at++ = p->bytes[k];
+            if (!p->bytes[k]) *at++ = 2;
+        }
+        *at++ = 0, *at++ = 1;
+    }
+    *at++ = 0, *at++ = 0;
+    for (int k = 56; !time_first && k >= 0; k -= 8) *at++ = (uint8_t)(time >> k);
+    return at - out;
+}
+
+/* A listing remembers the key of this entry, whose path is legal; or, often, another, or something that is none: of another time or subspace, time-first, cut, with a byte behind it, a byte of its path
+   another, more components, bytes that are nothing, more of them than a key has; all ff. */
+static void remember(call *c, vb_entry e) {
+    uint8_t *k = c->last;
+    size_t n = c->last_len = put_key(false, e.subspace_id, &e.path, e.timestamp, k), end = n - 10;
+    switch (below(20)) {
+    case 0: c->last_len = put_key(false, e.subspace_id, &e.path, e.timestamp + 1, k); break;
+    case 1: c->last_len = put_key(false, e.subspace_id, &e.path, e.timestamp - 1, k); break;
+    case 2: c->last_len = put_key(false, random_subspace(), &e.path, e.timestamp, k); break;
+    case 3: c->last_len = put_key(true, e.subspace_id, &e.path, e.timestamp, k); break;
+    case 4: c->last_len = one_in(3) ? 25 : 1 + below(n - 1); break;
+    case 5: k[c->last_len++] = SOME[below(5)]; break;
+    case 6: k[16 + below(n - 24)] = one_in(3) ? 3 : SOME[below(5)]; break;
+    case 7: /* components behind its own: eight of them are one too many, if it has one */
+        memmove(k + end + 16, k + end, 10), memset(k + end, 0, 16), c->last_len += 16;
+        for (size_t i = 1; i < 16; i += 2) k[end + i] = 1;
+        break;
+    case 8: random_bytes(k, c->last_len = 1 + below(LAST_ROOM)); break;
+    case 9: memset(k + n, 0, LAST_ROOM - n), c->last_len = 299; break;
+    case 10: memset(k, 0xff, 16); break;
+    case 11: case 12: c->last_len = 0;
+    }
+}
+
 /* Set while a store is filled: entries are then unrelated, and their paths not yet handed in. */
 static uint64_t filled;
 
@@ -238,7 +281,12 @@ static call random_call(enum call_kind kind, const uint8_t namespace_id[16]) {
     c.area = random_area(), c.protected_area = random_area();
     c.range = random_range();
     c.ignore.incomplete_payloads = yes_in(4), c.ignore.empty_payloads = yes_in(4);
-    c.place = one_in(2) ? 0 : random_number(8);
+    if (!one_in(4)) {
+        vb_entry e = c.entry;
+        if (memories && !one_in(3)) e = remembered[below(memories)];
+        else e.subspace_id = random_subspace(), e.path = random_path();
+        remember(&c, e);
+    }
     c.max_count = one_in(2) ? UINT64_MAX : random_number(6), c.max_size = one_in(2) ? UINT64_MAX : random_number(12);
     return c;
 }

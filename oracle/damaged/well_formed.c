@@ -44,20 +44,25 @@ static bool read_origin(const uint8_t *value) {
     return value[KIND_AT] == REMOTE;
 }
 
-static bool read_record(int t, const uint8_t *p, size_t n, item *e) {
-    if (n < VALUE_BYTES + KEY_LEAST) return false;
-    size_t key = n - VALUE_BYTES, used;
-    e->value = p + key;
+bool read_key(int t, const uint8_t *p, size_t n, item *e) {
+    if (n < KEY_LEAST) return false;
     if (t) {
         e->time = be64(p), memcpy(e->subspace, p + 8, 16);
-        used = read_path(p + 24, key - 24, e);
-        if (!used || 24 + used != key) return false;
-    } else {
-        memcpy(e->subspace, p, 16);
-        used = read_path(p + 16, key - 16, e);
-        if (!used || 16 + used + 8 != key) return false;
-        e->time = be64(p + key - 8);
+        size_t used = read_path(p + 24, n - 24, e);
+        return used && 24 + used == n;
     }
+    memcpy(e->subspace, p, 16);
+    size_t used = read_path(p + 16, n - 16, e);
+    if (!used || 16 + used + 8 != n) return false;
+    e->time = be64(p + n - 8);
+    return true;
+}
+
+static bool read_record(int t, const uint8_t *p, size_t n, item *e) {
+    if (n < VALUE_BYTES + KEY_LEAST) return false;
+    size_t key = n - VALUE_BYTES;
+    e->value = p + key;
+    if (!read_key(t, p, key, e)) return false;
     if (be64(e->value + AVAILABLE_AT) > be64(e->value)) return false;
     return read_origin(e->value);
 }

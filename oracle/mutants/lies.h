@@ -113,11 +113,136 @@ MAY static vb_entry_found lie_find_entry(vb_state state, VB_CONST_BUFFERS, vb_su
     return f;
 }
 
-MAY static vb_listed lie_query_area_place(vb_state state, VB_CONST_BUFFERS, vb_area area, vb_ignore ignore, size_t place) {
-    vb_listed l = vb_query_area_place(state, ARGUMENTS, area, ignore, place);
-    if (LIE == READS_REFUSED && !l.refusal) l.refusal = 9, l.found = 0, l.place = 0;
-    if (LIE == FINISHED_TOO_EARLY) l.found = 0, l.place = 0;
-    return l;
+/* Listings */
+
+/* Both calls of a step, told honestly: of an area's listing, or of a range's where `area` is NULL. */
+typedef struct {
+    vb_listed listed;
+    vb_part part;
+} both;
+MAY static both honest(vb_state state, VB_CONST_BUFFERS, const vb_area *area, const vb_range *range, vb_ignore ignore, const uint8_t *last, size_t len) {
+    both s;
+    s.listed = area ? vb_query_area_found(state, ARGUMENTS, *area, ignore, last, len) : vb_query_range_found(state, ARGUMENTS, *range, ignore, last, len);
+    s.part = area ? vb_query_area(state, ARGUMENTS, *area, ignore, last, len) : vb_query_range(state, ARGUMENTS, *range, ignore, last, len);
+    return s;
+}
+
+/* By the first byte that differs; and else the longer one is above. */
+MAY static int key_order(const uint8_t *p, size_t m, const uint8_t *q, size_t n) {
+    int c = memcmp(p, q, m < n ? m : n);
+    return c ? c : (m > n) - (m < n);
+}
+
+/* Where the matches are walked by another rule: the match that it gives behind some bytes. */
+enum rule { AT_OR_ABOVE, ABOVE, BY_LENGTH, BY_NUMBER, BY_TIME };
+MAY static both walked(enum rule rule, size_t number, vb_state state, VB_CONST_BUFFERS, const vb_area *area, const vb_range *range, vb_ignore ignore, const uint8_t *last, size_t len) {
+    both none = {{0, 0}, {0, 0}}, best = none;
+    size_t met = 0, best_len = 0;
+    for (both s = honest(state, ARGUMENTS, area, range, ignore, NULL, 0); s.part.length;) {
+        const uint8_t *key = spt + s.part.offset;
+        const size_t n = s.part.length - VB_VALUE;
+        int order = key_order(key, n, last, len), longer = n > len || (n == len && order > 0), later = len >= 8 && memcmp(key + n - 8, last + len - 8, 8) > 0;
+        if (rule == AT_OR_ABOVE && order >= 0) return s;
+        if (rule == ABOVE && order > 0) return s;
+        if (rule == BY_TIME && (!len || later)) return s;
+        if (rule == BY_NUMBER && met++ == number) return s;
+        if (rule == BY_LENGTH && (!len || longer) && (!best_len || n < best_len)) best = s, best_len = n;
+        s = honest(state, ARGUMENTS, area, range, ignore, key, n);
+    }
+    return best;
+}
+
+/* How many an area's listing and a range's gave since they began. */
+static size_t given_since[2];
+
+/* Lies about a step; `part_asked`: the call that answers the record, and not the other. */
+MAY static both lie_step(int part_asked, vb_state state, VB_CONST_BUFFERS, const vb_area *area, const vb_range *range, vb_ignore ignore, const uint8_t *last, size_t len) {
+    both s = honest(state, ARGUMENTS, area, range, ignore, last, len);
+    const int refusal = s.listed.refusal, five = refusal == 5;
+    const both finished = {{0, 0}, {0, 0}};
+    both other = finished;
+    if (LIE == READS_REFUSED && area && !refusal) s = finished, s.listed.refusal = 9;
+    if (LIE == FINISHED_TOO_EARLY && area) s.listed.found = 0;
+#define WALKED(RULE, NUMBER) walked(RULE, NUMBER, state, ARGUMENTS, area, range, ignore, last, len)
+#define FROM_KEY(KEY, LEN) honest(state, ARGUMENTS, area, range, ignore, KEY, LEN)
+    if (!refusal) {
+        const uint8_t *key = spt + s.part.offset;
+        const size_t n = s.part.length ? s.part.length - VB_VALUE : 0;
+        if (LIE == REMEMBERED_GIVEN_AGAIN || (LIE == RANGE_GIVES_IT_AGAIN && !area)) s = WALKED(AT_OR_ABOVE, 0);
+        if (LIE == FIRST_ALWAYS) s = FROM_KEY(NULL, 0);
+        if (LIE == EMPTY_KEY_REFUSED && !len) s = finished, s.listed.refusal = 5;
+        if (LIE == LENGTHS_COMPARED) s = WALKED(BY_LENGTH, 0);
+        if (LIE == TIMES_COMPARED) s = WALKED(BY_TIME, 0);
+        if (LIE == BY_THE_PLACE) {
+            size_t *given = given_since + !area;
+            if (!len) *given = 0;
+            s = WALKED(BY_NUMBER, *given);
+            *given += part_asked && s.part.length;
+        }
+        if (LIE == ONE_SKIPPED && n) other = FROM_KEY(key, n), s = len && other.part.length ? other : s;
+        if (LIE == LAST_NOT_GIVEN && n) s = FROM_KEY(key, n).part.length ? s : finished;
+        if (LIE == WITHIN_ITS_SUBSPACE && n && len && memcmp(key, last, 16)) s = finished;
+        if (LIE == FLAGS_OF_STEPS_NOT_LOOKED_AT) s = honest(state, ARGUMENTS, area, range, (vb_ignore){0, 0}, last, len);
+        if ((LIE == STORED_KEYS_ONLY || LIE == KEYS_THAT_MATCH_ONLY) && len) {
+            int there = 0;
+            for (size_t k = 0; k < state.count; k++) there |= !key_order(spt + spt_dir[2 * k], spt_dir[2 * k + 1] - VB_VALUE, last, len);
+            if (LIE == KEYS_THAT_MATCH_ONLY) other = WALKED(AT_OR_ABOVE, 0), there = other.part.length && !key_order(spt + other.part.offset, other.part.length - VB_VALUE, last, len);
+            if (!there) s = finished, s.listed.refusal = LIE == STORED_KEYS_ONLY ? 5 : 0;
+        }
+    }
+    if (five) {
+        const vb_decoded turned = vb_decode_tsp_entry_key(last, len);
+        uint8_t key[VB_KEY_MOST];
+        int escape = 0;
+        for (size_t i = 16; i + 9 < len; i++) escape |= !last[i] && last[i + 1] > 2;
+        if (LIE == NO_FIVE || (LIE == SHORT_KEYS_TAKEN && len < 26) || (LIE == LONG_KEYS_TAKEN && len > VB_KEY_MOST) || (LIE == ESCAPES_TAKEN && escape)) s = WALKED(ABOVE, 0);
+        if (LIE == FIVE_IS_FINISHED) s = finished;
+        if (LIE == FIVE_IS_THE_START) s = FROM_KEY(NULL, 0);
+        if (LIE == BYTE_BEHIND_TAKEN) s = FROM_KEY(last, len - 1);
+        if (LIE == TIME_FIRST_KEYS_TAKEN && !turned.refusal) s = FROM_KEY(key, vb_encode_spt_entry_key(turned.subspace, turned.path, turned.timestamp, key, VB_KEY_MOST).length);
+        size_t at = 16, components = 0;
+        while (at + 1 < len && (last[at] || last[at + 1] == 1 || last[at + 1] == 2)) components += !last[at] && last[at + 1] == 1, at += last[at] ? 1 : 2;
+        if (LIE == NINE_COMPONENTS_TAKEN && components > 8 && at + 10 == len) s = WALKED(ABOVE, 0);
+        if (LIE == FOUR_AND_FIVE_EXCHANGED) s.listed.refusal = 4;
+    }
+    if (refusal == 4) {
+        const int none = len && vb_decode_spt_entry_key(last, len).refusal;
+        if (LIE == FOUR_AND_FIVE_EXCHANGED || (LIE == FIVE_BEFORE_FOUR && none)) s.listed.refusal = 5;
+    }
+    if (LIE == FIVE_BEFORE_THREE && refusal == 3 && len && vb_decode_spt_entry_key(last, len).refusal) s.listed.refusal = 5;
+    if (LIE == FOUND_AT_THE_END && !refusal && !s.part.length) s.listed.found = 1;
+    if (LIE == FOUND_IS_THE_LENGTH && s.listed.found) s.listed.found = 2;
+    if (LIE == PART_ONE_BYTE_ON && s.part.length) s.part.offset++;
+    if (LIE == PART_ONE_BYTE_LESS && s.part.length) s.part.length--;
+    if (LIE == PART_IS_THE_KEY && s.part.length) s.part.length -= VB_VALUE;
+    if (LIE == PART_AT_THE_END && !s.part.length) s.part.offset = 1;
+    if (LIE == PART_OF_THE_REFUSED && five) s.part = FROM_KEY(NULL, 0).part;
+    if (LIE == STEP_WRITES && s.part.length && spt_len > VB_RECORD_MOST * state.limit) ((uint8_t *)spt)[VB_RECORD_MOST * state.limit] ^= 1;
+#undef WALKED
+#undef FROM_KEY
+    return s;
+}
+
+MAY static vb_listed lie_query_area_found(vb_state state, VB_CONST_BUFFERS, vb_area area, vb_ignore ignore, const uint8_t *last, size_t last_len) {
+    return lie_step(0, state, ARGUMENTS, &area, NULL, ignore, last, last_len).listed;
+}
+MAY static vb_part lie_query_area(vb_state state, VB_CONST_BUFFERS, vb_area area, vb_ignore ignore, const uint8_t *last, size_t last_len) {
+    return lie_step(1, state, ARGUMENTS, &area, NULL, ignore, last, last_len).part;
+}
+MAY static vb_listed lie_query_range_found(vb_state state, VB_CONST_BUFFERS, vb_range range, vb_ignore ignore, const uint8_t *last, size_t last_len) {
+    return lie_step(0, state, ARGUMENTS, NULL, &range, ignore, last, last_len).listed;
+}
+MAY static vb_part lie_query_range(vb_state state, VB_CONST_BUFFERS, vb_range range, vb_ignore ignore, const uint8_t *last, size_t last_len) {
+    return lie_step(1, state, ARGUMENTS, NULL, &range, ignore, last, last_len).part;
+}
+
+MAY static vb_part lie_record_key(const uint8_t *record, size_t record_len) {
+    vb_part p = vb_record_key(record, record_len);
+    if (LIE == KEY_ONE_BYTE_SHORT && p.length) p.length--;
+    if (LIE == KEY_WITH_ITS_LENGTH && p.length) p.length += 8;
+    if (LIE == KEY_OF_A_STUMP && record_len < VB_VALUE) p.length = record_len;
+    if (LIE == KEY_BY_112_BYTES && record_len > VB_VALUE_ORIGIN) p.length = record_len - VB_VALUE_ORIGIN;
+    return p;
 }
 
 MAY static vb_area_range lie_interest(vb_state state, VB_CONST_BUFFERS, vb_interest interest) {
@@ -509,7 +634,11 @@ MISREAD(vb_stepped, read_component_at, at, 0, (const uint8_t *key, size_t key_le
 #define vb_count_area lie_count_area
 #define vb_summarise lie_summarise
 #define vb_find_entry lie_find_entry
-#define vb_query_area_place lie_query_area_place
+#define vb_query_area_found lie_query_area_found
+#define vb_query_area lie_query_area
+#define vb_query_range_found lie_query_range_found
+#define vb_query_range lie_query_range
+#define vb_record_key lie_record_key
 #define vb_area_of_interest_to_range lie_interest
 #define vb_open lie_open
 #define vb_forget_entry lie_forget_entry

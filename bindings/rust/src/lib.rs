@@ -3,7 +3,8 @@
 //!
 //! A reading may be sent as often as a tablet likes: an entry that is stored already is [held](EntryIngestionSuccess::Held), and nothing changes. Payloads are
 //! kept elsewhere; how much of one has arrived is [recorded](Store::record_available_length) here, so that a listing can pass over those that are not all there.
-//! With each entry stands [where it came from](EntryOrigin), as it was filed.
+//! With each entry stands [where it came from](EntryOrigin), as it was filed. A [`Listing`] stays open while readings come in: it remembers the last key that it
+//! gave, and goes on above it in the store as it then is.
 //!
 //! - [`Store`] owns its buffers and takes values that are legal by their types: [`Path`], [`Entry`], [`Area`], [`Range3d`].
 //! - [`raw`] has every export of the archive as one safe function, over buffers of any length and values of any kind.
@@ -39,7 +40,7 @@ pub use entry::{
     AuthorisationToken, AuthorisedEntry, Entry, EntryOrigin, LengthyAuthorisedEntry, NamespaceId, PayloadDigest, Recency, SubspaceId, Timestamp,
 };
 pub use grouping::{Area, AreaOfInterest, AreaSubspace, Range, Range3d, RangeEnd};
-pub use listing::Listing;
+pub use listing::{Entries, Listing};
 pub use path::Path;
 pub use refusal::Refusal;
 pub use store::{EntryIngestionSuccess, QueryIgnoreParams, Store};

@@ -22,7 +22,7 @@ pub enum Refusal {
     NotWellFormed = 3,
     /// A path has over 8 components, a component over 64 bytes, over 128 bytes in all, or ends that descend.
     IllegalPath = 4,
-    /// The bytes are a key that no encoder writes.
+    /// The bytes are no key that the encoder of that order writes: for a listing, the subspace-first one.
     NoKey = 5,
     /// The entry names another namespace than the store's.
     OtherNamespace = 6,
@@ -88,7 +88,7 @@ impl fmt::Display for Refusal {
             ShortBuffer => "a lent buffer is too short",
             NotWellFormed => "the state and the buffers are not a well-formed store",
             IllegalPath => "a path is illegal",
-            NoKey => "the bytes are a key that no encoder writes",
+            NoKey => "the bytes are no key that the encoder writes",
             OtherNamespace => "the entry names another namespace",
             PruningPrevented => "pruning is prevented, and an entry would be removed",
             Full => "the store is full",

@@ -1,9 +1,8 @@
 //! The store, in buffers of its own.
-use crate::listing::{Listing, Query};
 use crate::tally::{tally_of, Tally};
 use crate::{
-    raw, Area, AreaOfInterest, AuthorisedEntry, Entry, EntryOrigin, LengthyAuthorisedEntry, NamespaceId, Path, PayloadDigest, Range3d, Refusal,
-    SubspaceId,
+    raw, Area, AreaOfInterest, AuthorisedEntry, Entries, Entry, EntryOrigin, LengthyAuthorisedEntry, Listing, NamespaceId, Path, PayloadDigest,
+    Range3d, Refusal, SubspaceId,
 };
 use raw::{Buffers, BuffersMut, Pair, State, Trees};
 
@@ -38,7 +37,7 @@ pub struct QueryIgnoreParams {
 }
 
 impl QueryIgnoreParams {
-    fn to_raw(self) -> raw::Ignore {
+    pub(crate) fn to_raw(self) -> raw::Ignore {
         raw::Ignore { incomplete_payloads: u8::from(self.ignore_incomplete_payloads), empty_payloads: u8::from(self.ignore_empty_payloads) }
     }
 }
@@ -207,14 +206,16 @@ impl Store {
         Ok((answer.found != 0).then(found))
     }
 
-    /// The entries that an area includes, in key order: by subspace, then path.
-    pub fn query_area(&self, area: &Area, ignore: QueryIgnoreParams) -> Result<Listing<'_>, Refusal> {
-        Listing::new(self, Query::Area(area.to_raw()), ignore.to_raw())
+    /// The entries that an area includes, in key order: by subspace, then path. The store is lent meanwhile; to file between two steps, walk a
+    /// [`Listing::of_area`].
+    pub fn query_area(&self, area: &Area, ignore: QueryIgnoreParams) -> Result<Entries<'_>, Refusal> {
+        Entries::new(self, Listing::of_area(area, ignore))
     }
 
-    /// The entries that a 3d range includes, in key order: by subspace, then path.
-    pub fn query_range(&self, range: &Range3d, ignore: QueryIgnoreParams) -> Result<Listing<'_>, Refusal> {
-        Listing::new(self, Query::Range(range.to_raw()), ignore.to_raw())
+    /// The entries that a 3d range includes, in key order: by subspace, then path. The store is lent meanwhile; to file between two steps, walk a
+    /// [`Listing::of_range`].
+    pub fn query_range(&self, range: &Range3d, ignore: QueryIgnoreParams) -> Result<Entries<'_>, Refusal> {
+        Entries::new(self, Listing::of_range(range, ignore))
     }
 
     /// How many entries an area includes.
@@ -267,7 +268,7 @@ impl Store {
     /// A store that an edition before 6 kept has 410 bytes of a tree for each entry of the limit, and values of 112: it is refused with 2, and in longer trees
     /// with 3, unless it has no entry and is 0 up to 419 × limit. It is carried over by giving both trees 419 × limit bytes and writing nine zeros, which say local, behind each value, at
     /// the record's end; each record then has nine bytes more, and the one in place i begins 9 × i bytes later, which goes into the directories. State, keys
-    /// and tally stay. `docs/FORMAT.md` tells it too.
+    /// and tally stay. `docs/FORMAT.md` tells it too. One that edition 6 kept is taken as it is.
     pub fn from_parts(state: State, spt: Vec<u8>, spt_dir: Vec<u32>, tsp: Vec<u8>, tsp_dir: Vec<u32>) -> Result<Store, Refusal> {
         let mut store = Store { state, spt, spt_dir, tsp, tsp_dir, tally: Vec::new(), prune: Vec::new() };
         store.count_area(&Area::new_full())?;

@@ -3,11 +3,12 @@ use virebony::{raw, Refusal};
 
 const HEADER: &str = include_str!("../../c/virebony.h");
 const CALLS: &str = include_str!("../src/sys/calls.rs");
-const TESTS: [&str; 5] = [
+const TESTS: [&str; 6] = [
     include_str!("raw_values.rs"),
     include_str!("raw_keys.rs"),
     include_str!("raw_store.rs"),
     include_str!("raw_origins.rs"),
+    include_str!("raw_listings.rs"),
     include_str!("common/mod.rs"),
 ];
 
@@ -28,7 +29,7 @@ fn names(text: &str) -> Vec<&str> {
 #[test]
 fn every_export_is_declared_and_tested() {
     let exports = names(HEADER);
-    assert_eq!(exports.len(), 36);
+    assert_eq!(exports.len(), 37);
     assert_eq!(names(CALLS), exports);
     for name in exports.iter().map(|name| name.replace("vb_", "raw::") + "(") {
         assert!(name == "raw::edition(" || TESTS.iter().any(|test| test.contains(&name)), "{name} is not called");
@@ -76,7 +77,7 @@ fn sentences_of_refusals() {
     assert_eq!((Refusal::from_number(0), Refusal::from_number(13)), (None, None));
 }
 
-/// What an ingestion does is said in the same words, and in which order the calls about available lengths are refused.
+/// What an ingestion does is said in the same words, and in which order the calls about available lengths and the steps of listings are refused.
 #[test]
 fn words_of_a_call() {
     let words = |text: &'static str, front, behind| {
@@ -92,6 +93,10 @@ fn words_of_a_call() {
         let calls = &calls[calls.rfind("Refused: ").unwrap()..];
         assert!(header.ends_with(calls), "{name}: {calls}");
     }
+    let step = |text, behind| words(text, "A step of an area's listing", behind).join(" ").replace(['[', ']', '`'], "").replace("vb_", "");
+    let (header, calls) = (step(HEADER, "*/"), step(CALLS, "query_area ="));
+    let calls = &calls[calls.rfind("Refused: ").unwrap()..];
+    assert!(header.ends_with(&format!("{calls} Writes nothing.")), "{calls}");
 }
 
 /// The header's asserts name a struct, its size and offsets; the crate's own asserts (src/sys) have the same.

@@ -58,7 +58,7 @@ fn came(kept: &Kept, text: &str, (spt, tsp): (usize, usize)) -> ([u8; 9], [u8; 9
     };
     let found = raw::find_entry(kept.state, kept.buffers(), subspace(1), path(text), ignore(0, 0));
     assert_eq!((found.refusal, found.found), (0, 1));
-    let record = raw::query_area(kept.state, kept.buffers(), area(0, 1, text, times(0, 0, 1)), ignore(0, 0), spt);
+    let record = raw::query_area(kept.state, kept.buffers(), area(0, 1, text, times(0, 0, 1)), ignore(0, 0), &[]);
     let value = &kept.spt[record.offset..record.offset + record.length][record.length - raw::VALUE..];
     assert_eq!(value[raw::VALUE_ORIGIN..], end(&kept.spt, &kept.spt_dir, spt)); // the listing shows the same bytes
     assert_eq!(value[raw::VALUE_SESSION..], end(&kept.spt, &kept.spt_dir, spt)[1..]);

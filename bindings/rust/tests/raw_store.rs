@@ -274,25 +274,28 @@ fn lookups() {
 fn listings_and_counts() {
     let kept = four();
     let (state, lent, all, whole, none) = (kept.state, kept.buffers(), everything(), range(path(""), path(""), 1), ignore(0, 0));
+    let mut last: &[u8] = &[];
     for (i, (low, text, timestamp)) in [(1, "61", 40), (1, "61/62", 50), (1, "63", 20), (2, "64", 10)].into_iter().enumerate() {
-        let listed = raw::Listed { refusal: 0, found: 1, place: i };
-        assert_eq!([raw::query_area_place(state, lent, all, none, i), raw::query_range_place(state, lent, whole, none, i)], [listed; 2]);
-        let part = raw::Part { offset: kept.spt_dir[2 * i] as usize, length: kept.spt_dir[2 * i + 1] as usize };
-        assert_eq!([raw::query_area(state, lent, all, none, i), raw::query_range(state, lent, whole, none, i)], [part; 2]);
-        let key = &kept.spt[part.offset..part.offset + part.length - raw::VALUE];
+        let listed = raw::Listed { refusal: 0, found: 1 };
+        assert_eq!([raw::query_area_found(state, lent, all, none, last), raw::query_range_found(state, lent, whole, none, last)], [listed; 2]);
+        let part = kept.part(i);
+        assert_eq!([raw::query_area(state, lent, all, none, last), raw::query_range(state, lent, whole, none, last)], [part; 2]);
+        let record = kept.record(part);
+        assert_eq!(raw::record_key(record), raw::Part { offset: 0, length: part.length - raw::VALUE });
+        last = &record[..part.length - raw::VALUE];
         let triple = raw::Decoded { refusal: 0, subspace: subspace(low), path: answered(text), timestamp };
-        assert_eq!(raw::decode_spt_entry_key(key), triple);
+        assert_eq!(raw::decode_spt_entry_key(last), triple);
     }
-    let finished = raw::Listed { refusal: 0, found: 0, place: 0 };
-    for place in [4, usize::MAX] {
-        assert_eq!([raw::query_area_place(state, lent, all, none, place), raw::query_range_place(state, lent, whole, none, place)], [finished; 2]);
+    let finished = raw::Listed { refusal: 0, found: 0 };
+    for last in [last, &key(2, "64", 11), &key(u64::MAX, "", 0)] {
+        assert_eq!([raw::query_area_found(state, lent, all, none, last), raw::query_range_found(state, lent, whole, none, last)], [finished; 2]);
         let empty = raw::Part { offset: 0, length: 0 };
-        assert_eq!([raw::query_area(state, lent, all, none, place), raw::query_range(state, lent, whole, none, place)], [empty; 2]);
+        assert_eq!([raw::query_area(state, lent, all, none, last), raw::query_range(state, lent, whole, none, last)], [empty; 2]);
     }
     let (some, from) = (area(0, 1, "61", times(0, 50, 0)), range(path("61/62"), path("64"), 0));
-    assert_eq!(raw::query_area_place(state, lent, some, none, 1), finished); // at 50 it is outside
-    assert_eq!(raw::query_range_place(state, lent, from, none, 0).place, 1);
-    assert_eq!(raw::query_range_place(state, lent, from, ignore(7, 0), 0), finished);
+    assert_eq!(raw::query_area_found(state, lent, some, none, &key(1, "61", 40)), finished); // at 50 it is outside
+    assert_eq!(raw::query_range(state, lent, from, none, &[]), kept.part(1));
+    assert_eq!(raw::query_range_found(state, lent, from, ignore(7, 0), &[]), finished);
     assert_eq!([raw::count_area(state, lent, all), raw::count_area(state, lent, some)].map(|c| (c.refusal, c.count)), [(0, 4), (0, 1)]);
     assert_eq!([raw::summarise(state, lent, whole), raw::summarise(state, lent, from)].map(|c| (c.refusal, c.count)), [(0, 4), (0, 2)]);
 }
@@ -436,12 +439,15 @@ fn neither_extensions_nor_prefixes() {
 fn recorded_lengths_and_flags() {
     let mut kept = four();
     let listed = |kept: &Kept| -> Vec<usize> {
-        let place = |from| raw::query_area_place(kept.state, kept.buffers(), everything(), ignore(1, 0), from);
-        let (area, whole): (Vec<_>, _) =
-            ((0..4).filter(|from| place(*from).place == *from && place(*from).found == 1).collect(), range(path(""), path(""), 1));
-        let first = raw::query_range_place(kept.state, kept.buffers(), whole, ignore(1, 0), 0);
-        assert_eq!((first.found, first.place), (1, area[0]));
-        area
+        let (mut places, mut last, whole) = (vec![], vec![], range(path(""), path(""), 1));
+        loop {
+            let part = raw::query_area(kept.state, kept.buffers(), everything(), ignore(1, 0), &last);
+            assert_eq!(raw::query_range(kept.state, kept.buffers(), whole, ignore(1, 0), &last), part);
+            let Some(place) = (0..4).find(|place| part.length != 0 && kept.part(*place) == part) else { return places };
+            assert!(!places.contains(&place));
+            places.push(place);
+            last = kept.record(part)[..raw::record_key(kept.record(part)).length].to_vec();
+        }
     };
     assert_eq!(listed(&kept), [0]); // [61], whose payload is empty
     assert_eq!((record(&mut kept, 1, "63", None, 1), listed(&kept)), (0, vec![0]));

@@ -211,15 +211,20 @@ fn lookups_listings_and_counts() {
 }
 
 #[test]
-fn records_are_the_parts_that_the_second_call_answers() {
+fn records_are_the_parts_that_the_archive_answers() {
     let (store, _) = four();
     let (state, buffers) = store.as_parts();
-    let mut listing = store.query_area(&Area::new_full(), NONE).unwrap();
-    for place in 0..4 {
-        let part = raw::query_area(state, buffers, Area::new_full().to_raw(), raw::Ignore::default(), place);
-        assert_eq!(listing.next_record(), Some(&buffers.spt[part.offset..part.offset + part.length]));
+    let (mut entries, mut listing) = (store.query_area(&Area::new_full(), NONE).unwrap(), Listing::of_area(&Area::new_full(), NONE));
+    let mut last: &[u8] = &[];
+    for _ in 0..4 {
+        let part = raw::query_area(state, buffers, Area::new_full().to_raw(), raw::Ignore::default(), last);
+        let record = &buffers.spt[part.offset..part.offset + part.length];
+        assert_eq!((entries.next_record(), listing.next_record(&store)), (Some(record), Ok(Some(record))));
+        last = &record[..raw::record_key(record).length];
+        assert_eq!(listing.last_key(), last);
     }
-    assert_eq!((listing.next_record(), listing.next()), (None, None));
+    assert_eq!((entries.next_record(), entries.next(), listing.next_record(&store), listing.next(&store)), (None, None, Ok(None), Ok(None)));
+    assert_eq!(listing.last_key(), last);
 }
 
 #[test]

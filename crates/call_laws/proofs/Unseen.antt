@@ -23,7 +23,7 @@ use Rattle.keys.specs.Encode.{triple, sptKey, tspKey, roomy, encoded, encodedIn
 use Rattle.key_laws.specs.Agree.{PathsAgree, EntriesAgree, AreasAgree, PathRangesAgree, RangesAgree, SameFor, SameForBoth}
 use Rattle.key_laws.proofs.Behind.{behind-legal, behind-components, guarded, behind-rank, behind-entry, behind-area, behind-area-range, behind-legal-range, behind-paths, behind-range}
 use Rattle.tree.specs.Matching.{inArea, inRange}
-use Rattle.query.specs.Listing.{partOf, offsetOf}
+use Rattle.query.specs.Listing.{isFound, partOf, offsetOf}
 use Rattle.call_laws.specs.Unseen.{Unseen}
 use Rattle.call_laws.proofs.UnseenStore.{area-test, range-test, counted-same, found-same, area-listed-same, range-listed-same, interest-same, ingested-same, pairs-same, forgotten-same, area-forgotten-same, available-same}
 
@@ -127,12 +127,12 @@ unseen f = record {
   record-available-length = available-same f;
   forget-payload = λ s subspace expects digest. available-same f s subspace expects digest 0;
   entry = found-same f;
-  query-area-place = area-listed-same f;
-  query-area = λ s ignore place a b h. ap (partOf f s) (area-listed-same f s ignore place a b h);
-  query-area-begins = λ s ignore place a b h. ap (offsetOf (s .sptDir)) (area-listed-same f s ignore place a b h);
-  query-range-place = range-listed-same f;
-  query-range = λ s ignore place a b h. ap (partOf f s) (range-listed-same f s ignore place a b h);
-  query-range-begins = λ s ignore place a b h. ap (offsetOf (s .sptDir)) (range-listed-same f s ignore place a b h);
+  query-area-found = λ s ignore last a b h. ap isFound (area-listed-same f s ignore last a b h);
+  query-area = λ s ignore last a b h. ap partOf (area-listed-same f s ignore last a b h);
+  query-area-begins = λ s ignore last a b h. ap (offsetOf f s) (area-listed-same f s ignore last a b h);
+  query-range-found = λ s ignore last a b h. ap isFound (range-listed-same f s ignore last a b h);
+  query-range = λ s ignore last a b h. ap partOf (range-listed-same f s ignore last a b h);
+  query-range-begins = λ s ignore last a b h. ap (offsetOf f s) (range-listed-same f s ignore last a b h);
   count-area = λ s a b h. counted-same f s (inArea a) (inArea b) (behind-legal f (a .path) (b .path) (h .path)) (area-test f a b h);
   summarise = λ s a b h. counted-same f s (inRange a) (inRange b) (behind-legal-range f (a .paths) (b .paths) (h .paths)) (range-test f a b h);
   area-of-interest-to-range = interest-same f;

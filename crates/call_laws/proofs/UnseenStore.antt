@@ -31,7 +31,7 @@ use Rattle.store.specs.Forget.{talliedWithout, unexpected, forgetEntryRefusal, 
 use Rattle.available.specs.Available.{arrivedAt, entryRefusal, availableRefusal, AvailableOutcome, availableSet}
 use Rattle.pairs.specs.Pairs.{numbersOf, inPairs, pairsIngested}
 use Rattle.pairs.specs.declared.Pair.{Pair}
-use Rattle.query.specs.Reading.{readRefusal}
+use Rattle.query.specs.Reading.{readRefusal, listRefusal}
 use Rattle.query.specs.Lookup.{foundIn, notFound, entryFound}
 use Rattle.query.specs.Listing.{listed, areaListed, rangeListed}
 use Rattle.query.specs.Count.{counted}
@@ -78,11 +78,15 @@ module _ (f : Figures) (s : Store) where
       blind : (x y : Stored → Bool) → counted f s (readRefusal f s false) x ≡ counted f s (readRefusal f s false) y
       blind x y = unfold counted in rw illegal-read refl
 
-  listed-same : (place : ℕ) {b c : Bool} (x y : Stored → Bool) → b ≡ c → (b ≡ true → (z : Stored) → x z ≡ y z) → listed f s (readRefusal f s b) x place ≡ listed f s (readRefusal f s c) y place
-  listed-same place {b} {c} x y e same = guarded (λ (d : Bool) (t : Stored → Bool). listed f s (readRefusal f s d) t place) blind b c x y e (λ l. fun-ext (same l))
+  illegal-list : (last : List ℕ) → eqb (listRefusal f s false last) 0 ≡ false
+  unfolding listRefusal _orElse_
+  illegal-list last = rw illegal-read illegal-read
+
+  listed-same : (last : List ℕ) {b c : Bool} (x y : Stored → Bool) → b ≡ c → (b ≡ true → (z : Stored) → x z ≡ y z) → listed f s (listRefusal f s b last) x last ≡ listed f s (listRefusal f s c last) y last
+  listed-same last {b} {c} x y e same = guarded (λ (d : Bool) (t : Stored → Bool). listed f s (listRefusal f s d last) t last) blind b c x y e (λ l. fun-ext (same l))
     where
-      blind : (x y : Stored → Bool) → listed f s (readRefusal f s false) x place ≡ listed f s (readRefusal f s false) y place
-      blind x y = unfold listed in rw illegal-read refl
+      blind : (x y : Stored → Bool) → listed f s (listRefusal f s false last) x last ≡ listed f s (listRefusal f s false last) y last
+      blind x y = unfold listed in rw (illegal-list last) refl
 
   pub found-same : (subspace : Subspace) (ignore : QueryIgnoreParams) → SameFor PathsAgree (λ p. entryFound f s subspace p ignore)
   unfolding entryFound
@@ -90,11 +94,11 @@ module _ (f : Figures) (s : Store) where
       (λ (c : Bool) (cs : Components). cond (eqb (readRefusal f s c) 0) (foundIn subspace cs ignore (held f Spt s)) (notFound (readRefusal f s c)))
       (λ x y. rw illegal-read refl) _ _ _ _ (behind-legal f p q h) (behind-components f p q h)
 
-  pub area-listed-same : (ignore : QueryIgnoreParams) (place : ℕ) → SameFor AreasAgree (λ a. areaListed f s a ignore place)
-  area-listed-same ignore place a b h = listed-same place (listedInArea a ignore) (listedInArea b ignore) (behind-legal f (a .path) (b .path) (h .path)) (λ l. area-listed-test f a b h l ignore)
+  pub area-listed-same : (ignore : QueryIgnoreParams) (last : List ℕ) → SameFor AreasAgree (λ a. areaListed f s a ignore last)
+  area-listed-same ignore last a b h = listed-same last (listedInArea a ignore) (listedInArea b ignore) (behind-legal f (a .path) (b .path) (h .path)) (λ l. area-listed-test f a b h l ignore)
 
-  pub range-listed-same : (ignore : QueryIgnoreParams) (place : ℕ) → SameFor RangesAgree (λ r. rangeListed f s r ignore place)
-  range-listed-same ignore place a b h = listed-same place (listedInRange a ignore) (listedInRange b ignore) (behind-legal-range f (a .paths) (b .paths) (h .paths)) (λ l. range-listed-test f a b h l ignore)
+  pub range-listed-same : (ignore : QueryIgnoreParams) (last : List ℕ) → SameFor RangesAgree (λ r. rangeListed f s r ignore last)
+  range-listed-same ignore last a b h = listed-same last (listedInRange a ignore) (listedInRange b ignore) (behind-legal-range f (a .paths) (b .paths) (h .paths)) (λ l. range-listed-test f a b h l ignore)
 
   pub interest-same : SameFor InterestsAgree (interestRange f s)
   unfolding interestRange

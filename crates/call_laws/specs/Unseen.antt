@@ -23,7 +23,7 @@ use Rattle.available.specs.Available.{availableSet}
 use Rattle.pairs.specs.Pairs.{pairsIngested}
 use Rattle.pairs.specs.declared.Pair.{Pair}
 use Rattle.query.specs.Lookup.{entryFound}
-use Rattle.query.specs.Listing.{areaListed, rangeListed, areaPart, rangePart, areaOffset, rangeOffset}
+use Rattle.query.specs.Listing.{isFound, areaListed, rangeListed, areaPart, rangePart, areaOffset, rangeOffset}
 use Rattle.query.specs.Count.{areaCounted, summarised}
 use Rattle.query.specs.Interest.{interestRange}
 
@@ -70,12 +70,12 @@ pub record Unseen (f : Figures) : Type 0 where
   pub forget-payload : (s : Store) (subspace : Subspace) (expects : Bool) (digest : List ℕ) → SameFor PathsAgree (λ p. availableSet f s subspace p expects digest 0)
   -- Readings of a store
   pub entry : (s : Store) (subspace : Subspace) (ignore : QueryIgnoreParams) → SameFor PathsAgree (λ p. entryFound f s subspace p ignore)
-  pub query-area-place : (s : Store) (ignore : QueryIgnoreParams) (place : ℕ) → SameFor AreasAgree (λ a. areaListed f s a ignore place)
-  pub query-area : (s : Store) (ignore : QueryIgnoreParams) (place : ℕ) → SameFor AreasAgree (λ a. areaPart f s a ignore place)
-  pub query-area-begins : (s : Store) (ignore : QueryIgnoreParams) (place : ℕ) → SameFor AreasAgree (λ a. areaOffset f s a ignore place)
-  pub query-range-place : (s : Store) (ignore : QueryIgnoreParams) (place : ℕ) → SameFor RangesAgree (λ r. rangeListed f s r ignore place)
-  pub query-range : (s : Store) (ignore : QueryIgnoreParams) (place : ℕ) → SameFor RangesAgree (λ r. rangePart f s r ignore place)
-  pub query-range-begins : (s : Store) (ignore : QueryIgnoreParams) (place : ℕ) → SameFor RangesAgree (λ r. rangeOffset f s r ignore place)
+  pub query-area-found : (s : Store) (ignore : QueryIgnoreParams) (last : List ℕ) → SameFor AreasAgree (λ a. isFound (areaListed f s a ignore last))
+  pub query-area : (s : Store) (ignore : QueryIgnoreParams) (last : List ℕ) → SameFor AreasAgree (λ a. areaPart f s a ignore last)
+  pub query-area-begins : (s : Store) (ignore : QueryIgnoreParams) (last : List ℕ) → SameFor AreasAgree (λ a. areaOffset f s a ignore last)
+  pub query-range-found : (s : Store) (ignore : QueryIgnoreParams) (last : List ℕ) → SameFor RangesAgree (λ r. isFound (rangeListed f s r ignore last))
+  pub query-range : (s : Store) (ignore : QueryIgnoreParams) (last : List ℕ) → SameFor RangesAgree (λ r. rangePart f s r ignore last)
+  pub query-range-begins : (s : Store) (ignore : QueryIgnoreParams) (last : List ℕ) → SameFor RangesAgree (λ r. rangeOffset f s r ignore last)
   pub count-area : (s : Store) → SameFor AreasAgree (areaCounted f s)
   pub summarise : (s : Store) → SameFor RangesAgree (summarised f s)
   pub area-of-interest-to-range : (s : Store) → SameFor InterestsAgree (interestRange f s)

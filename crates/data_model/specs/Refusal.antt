@@ -30,7 +30,7 @@ notWellFormed = 3
 abbrev pub illegalPath : ℕ
 illegalPath = 4
 
--- A key handed in is none that an encoder writes.
+-- A key handed in is none that the encoder of its order writes.
 abbrev pub noKey : ℕ
 noKey = 5
 

@@ -16,7 +16,7 @@ pub const NOT_WELL_FORMED: u8 = 3;
 // A path handed in is illegal.
 pub const ILLEGAL_PATH: u8 = 4;
 
-// A key handed in is none that an encoder writes.
+// A key handed in is none that the encoder of its order writes.
 pub const NO_KEY: u8 = 5;
 
 // An entry names another namespace than the store's.

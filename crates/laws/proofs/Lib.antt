@@ -3,3 +3,4 @@ pub mod Order
 pub mod Prefix
 pub mod Sorted
 pub mod Lists
+pub mod First

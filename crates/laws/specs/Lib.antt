@@ -3,3 +3,4 @@ pub mod Prefix
 pub mod Sorted
 pub mod Lists
 pub mod Parts
+pub mod First

@@ -14,12 +14,15 @@ records (suc n) [] tree = []
 records (suc n) (o ∷ []) tree = []
 records (suc n) (o ∷ l ∷ dir) tree = take l (drop o tree) ∷ records n dir tree
 
--- What pair k cuts out, and at which offset.
+-- What pair k cuts out, at which offset, and how many bytes.
 abbrev pub recordAt : ℕ → List ℕ → List ℕ → List ℕ
 recordAt k dir tree = take (getD dir (2 * k + 1) 0) (drop (getD dir (2 * k) 0) tree)
 
 abbrev pub offsetAt : ℕ → List ℕ → ℕ
 offsetAt k dir = getD dir (2 * k) 0
+
+abbrev pub lengthAt : ℕ → List ℕ → ℕ
+lengthAt k dir = getD dir (2 * k + 1) 0
 
 -- Pair k is there, and what it cuts out lies within the bytes.
 pub record CutsOut (k : ℕ) (dir tree : List ℕ) : Type 0 where

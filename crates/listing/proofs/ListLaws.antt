@@ -6,7 +6,7 @@ use mathlib.Core.Bool.{Bool, true}
 use mathlib.Core.Option.{Option, some}
 use native.Mathlib.Omega.{arith}
 use lib.ListN.{length, drop, length-append}
-use lib.Seq.{drop-at, drop-drop}
+use lib.Seq.{drop-at, drop-drop, length-take-le}
 use lib.Dec.{eqb, ltb}
 use borrow.Author.Tests.{eqb-true, le-ltb}
 use borrow.Rule.Slice.PartMut.{putMid, midOf}
@@ -22,22 +22,27 @@ use Rattle.data_model.specs.Path.{field, legal, joined, isPath, pathOf}
 use Rattle.data_model.specs.Range.{timesInclude, includes, beforeEnd, timesEnd}
 use Rattle.data_model.specs.Area.{areaSubspace, areaIncludes}
 use Rattle.data_model.specs.declared.area.Area.{Area}
-use Rattle.key_laws.proofs.Fits.{legal-of, components-of}
-use Rattle.tree.specs.Stored.{Stored, storedFrom, stored, contents}
+use Rattle.keys.specs.Encode.{keyMost}
+use Rattle.key_laws.specs.Bytes.{Bytes}
+use Rattle.key_laws.proofs.Fits.{legal-of, components-of, bytes-take}
+use Rattle.tree.specs.Value.{valueLength}
+use Rattle.tree.specs.Stored.{Stored, storedFrom, stored, contents, keyOf}
 use Rattle.tree.specs.Matching.{inArea, listedInArea}
 use Rattle.data_model.specs.declared.«query_ignore_params».QueryIgnoreParams.{QueryIgnoreParams}
 use Rattle.tree.specs.declared.stored.KeyOrder.the-variants.{Spt}
 use Rattle.tree.proofs.FormedContents.{formed-many}
-use Rattle.tree.proofs.RecordLaws.{contents-length}
-use Rattle.store.specs.Store.{Store, limitMost, treeOf, dirOf, held}
+use Rattle.tree.proofs.RecordLaws.{contents-length, record-forth}
+use Rattle.tree.proofs.WithinLaws.{formed-recorded}
+use Rattle.store.specs.Store.{Store, limitMost, treeRoom, treeOf, dirOf, held}
 use Rattle.store.specs.Refusal.{storeRefusal, unless, _orElse_}
 use Rattle.query.specs.Reading.{readRefusal, areaRefusal}
-use Rattle.query.specs.Listing.{areaListed, areaPart}
+use Rattle.query.specs.Listing.{areaListed, partOf, areaPart}
 use Rattle.query.specs.Count.{counted, areaCounted}
-use Rattle.query.specs.Walk.{Walks, matching}
+use Rattle.query.specs.Walk.{Walked, turnsOn, matching}
 use Rattle.query.specs.declared.answer.Counted.{Counted}
 use Rattle.query.proofs.Tested.{read-tested, formed-spt}
 use Rattle.tree.proofs.TestLaws.{unflagged-area}
+use Rattle.query.proofs.GivenLaws.{answered}
 use Rattle.query.proofs.Walked.{area-lists, area-counts}
 use Rattle.listing.specs.Input.{newline}
 use Rattle.listing.specs.Say.{numbered, entryText, recordText}
@@ -102,7 +107,7 @@ module _ (s : Store) where
     all-held : contents Spt field (s .state .«namespace_id») recs ≡ held field Spt s
     all-held = area-lists s everyEntry noFlags passes .entries ∙ keep-every (listedInArea everyEntry noFlags) every-one (held field Spt s)
 
-    walk-all : Walks (areaListed field s everyEntry noFlags) (areaPart field s everyEntry noFlags) 0 recs
+    walk-all : Walked (λ s last. areaListed field s everyEntry noFlags last) [] (turnsOn s recs) s
     walk-all = area-lists s everyEntry noFlags passes .walks
 
     module _ (w : Counted) (e : w ≡ areaCounted field s everyEntry) where
@@ -118,49 +123,66 @@ module _ (s : Store) where
           ap (λ (n : ℕ). numbered listWord n ++ recordLines recs) count-held
           ∙ ap (λ (x : List ℕ). numbered listWord (length (held field Spt s)) ++ x) (record-lines (s .state .«namespace_id») recs ∙ ap entryLines all-held)
 
--- How far the list is written: the records left are as many as are still to come, and walked from the place.
-pub record Listing (places : ℕ → Said (Option ℕ)) (parts : ℕ → List ℕ) (whole old out : List ℕ) (place at left : ℕ) : Type 0 where
+-- How far the list is written: the records left are as many as are still to come, and walked from the remembered key.
+pub record Listing (s : Store) (area : Area) (ignore : QueryIgnoreParams) (whole old out last : List ℕ) (at left : ℕ) : Type 0 where
   pub rs : List (List ℕ)
-  pub walks : Walks places parts place rs
+  pub walks : Walked (λ s last. areaListed field s area ignore last) last (turnsOn s rs) s
   pub many : length rs ≡ left
   pub wrote : Wrote whole (recordLines rs) old out at
 
-module _ (places : ℕ → Said (Option ℕ)) (parts : ℕ → List ℕ) where
-  walked-next : (place : ℕ) (rs : List (List ℕ)) → Walks places parts place rs → 0 < length rs → (k : ℕ) × (places place ≡ says (some k))
-  walked-next place [] w h = absurd (omega arith)
-  walked-next place (r ∷ rs) w h = (w .0, w .1)
+module _ (s : Store) (area : Area) (ignore : QueryIgnoreParams) where
+  abbrev Walk : (last : List ℕ) → List (List ℕ) → Type 0
+  Walk last rs = Walked (λ s last. areaListed field s area ignore last) last (turnsOn s rs) s
 
-  module _ (whole old out : List ℕ) (place at left : ℕ) where
-    -- There is a next one as long as some are left.
-    pub listing-next : Listing places parts whole old out place at left → 0 < left → (k : ℕ) × (places place ≡ says (some k))
-    listing-next g h = walked-next place (g .rs) (g .walks) (omega (arith, g .many))
+  -- The part that is answered is the next record.
+  walked-next : (last : List ℕ) (rs : List (List ℕ)) → Walk last rs → 0 < length rs → (r : List ℕ) × (areaListed field s area ignore last ≡ says (some r))
+  walked-next last [] w h = absurd (omega arith)
+  walked-next last (r ∷ rs) w h = (r, w .0 .0)
 
-    turn : (rs : List (List ℕ)) → Walks places parts place rs → length rs ≡ left → Wrote whole (recordLines rs) old out at → at + entryLineMost * left ≤ length out → 0 < left
-        → (k : ℕ) → places place ≡ says (some k) → (rec : List ℕ) → rec ≡ parts place → (n : ℕ) (last : List ℕ) → n ≡ length (lineOf rec) → n ≤ entryLineMost
-        → last ≡ put (lineOf rec) (midOf at (length out - at) out) → Listing places parts whole old (putMid at (length out - at) out last) (k + 1) (at + n) (left - 1)
-    turn [] w m wr room h k e rec er n last en most l = absurd (omega arith)
-    turn (r ∷ rs) w m wr room h k e rec er n last en most l =
-        let q : says (some (w .0)) ≡ says (some k) = sym (w .1) ∙ e in
-        let g : w .0 ≡ k = cc in
-        let x : rec ≡ r = er ∙ w .2 in
-        let next = wrote-lent whole (lineOf r) (recordLines rs) old out last at n wr (omega arith) (en ∙ ap (λ (y : List ℕ). length (lineOf y)) x) (l ∙ ap (λ (y : List ℕ). put (lineOf y) (midOf at (length out - at) out)) x) in
+  -- It is a record: a value, and before it a key that a buffer for a key has room for.
+  given-fits : (last r : List ℕ) → areaListed field s area ignore last ≡ says (some r) → Bytes (s .spt) → (valueLength ≤ length r) × (length (keyOf r) ≤ keyMost field)
+  unfolding treeOf
+  given-fits last r e bytes =
+      let k = answered s (legal field (area .path)) (listedInArea area ignore) last (some r) e in
+      let f = formed-recorded (k .0 .formed Spt) (bytes-take (treeRoom field (s .state .limit)) (s .spt) bytes) r (k .2 .among) in
+      let v = record-forth Spt field (s .state .«namespace_id») r (f .0) (f .1) in
+      let m = v .most in
+      let n = v .least in
+      (omega arith, omega (arith, length-take-le (length r - valueLength) r (omega arith)))
+
+  module _ (whole old out last : List ℕ) (at left : ℕ) where
+    -- As long as some are left, the part is one of them.
+    pub listing-given : Listing s area ignore whole old out last at left → 0 < left → Bytes (s .spt) → (rec : List ℕ) → rec ≡ areaPart field s area ignore last
+        → (valueLength ≤ length rec) × (length (keyOf rec) ≤ keyMost field)
+    listing-given g h bytes rec er =
+        let n = walked-next last (g .rs) (g .walks) (omega (arith, g .many)) in
+        let e : rec ≡ n .0 = er ∙ ap partOf (n .1) in
+        subst (λ (r : List ℕ). (valueLength ≤ length r) × (length (keyOf r) ≤ keyMost field)) (sym e) (given-fits last (n .0) (n .1) bytes)
+
+    turn : (rs : List (List ℕ)) → Walk last rs → length rs ≡ left → Wrote whole (recordLines rs) old out at → at + entryLineMost * left ≤ length out → 0 < left
+        → (rec : List ℕ) → rec ≡ areaPart field s area ignore last → (n : ℕ) (end : List ℕ) → n ≡ length (lineOf rec) → n ≤ entryLineMost
+        → end ≡ put (lineOf rec) (midOf at (length out - at) out) → (next : List ℕ) → next ≡ keyOf rec → Listing s area ignore whole old (putMid at (length out - at) out end) next (at + n) (left - 1)
+    turn [] w m wr room h rec er n end en most l next ek = absurd (omega arith)
+    turn (r ∷ rs) w m wr room h rec er n end en most l next ek =
+        let x : rec ≡ r = er ∙ ap partOf (w .0 .0) in
+        let wrote = wrote-lent whole (lineOf r) (recordLines rs) old out end at n wr (omega arith) (en ∙ ap (λ (y : List ℕ). length (lineOf y)) x) (l ∙ ap (λ (y : List ℕ). put (lineOf y) (midOf at (length out - at) out)) x) in
         record {
           rs = rs;
-          walks = subst (λ (j : ℕ). Walks places parts (j + 1) rs) g (w .3);
+          walks = subst (λ (k : List ℕ). Walk k rs) (sym (ek ∙ ap keyOf x)) (w .0 .1, w .1);
           many = omega arith;
-          wrote = next;
+          wrote = wrote;
         }
 
-    pub listing-turn : Listing places parts whole old out place at left → at + entryLineMost * left ≤ length out → 0 < left
-        → (k : ℕ) → places place ≡ says (some k) → (rec : List ℕ) → rec ≡ parts place → (n : ℕ) (last : List ℕ) → n ≡ length (lineOf rec) → n ≤ entryLineMost
-        → last ≡ put (lineOf rec) (midOf at (length out - at) out) → Listing places parts whole old (putMid at (length out - at) out last) (k + 1) (at + n) (left - 1)
+    pub listing-turn : Listing s area ignore whole old out last at left → at + entryLineMost * left ≤ length out → 0 < left
+        → (rec : List ℕ) → rec ≡ areaPart field s area ignore last → (n : ℕ) (end : List ℕ) → n ≡ length (lineOf rec) → n ≤ entryLineMost
+        → end ≡ put (lineOf rec) (midOf at (length out - at) out) → (next : List ℕ) → next ≡ keyOf rec → Listing s area ignore whole old (putMid at (length out - at) out end) next (at + n) (left - 1)
     listing-turn g r h = turn (g .rs) (g .walks) (g .many) (g .wrote) r h
 
     done : (rs : List (List ℕ)) → length rs ≡ 0 → Wrote whole (recordLines rs) old out at → Wrote whole [] old out at
     done [] m w = w
     done (r ∷ rs) m w = absurd (omega arith)
 
-    pub listing-end : Listing places parts whole old out place at left → left ≡ 0 → (at ≡ length whole) × (at ≤ length old) × (out ≡ put whole old)
+    pub listing-end : Listing s area ignore whole old out last at left → left ≡ 0 → (at ≡ length whole) × (at ≤ length old) × (out ≡ put whole old)
     listing-end g z =
         let w = done (g .rs) (g .many ∙ z) (g .wrote) in
         (wrote-length whole old out at w, omega (arith, w .room, w .size), wrote-all whole old out at w)
@@ -179,7 +201,7 @@ module _ (s : Store) (area : Area) (ignore : QueryIgnoreParams) (ea : area ≡ e
       (omega (arith, h, n, p .few), omega (arith, h, n, p .few, p .most))
 
   module _ (old out : List ℕ) (at : ℕ) (h : at ≤ length old) (ex : at ≡ length (numbered listWord (w .count))) (o : out ≡ put (numbered listWord (w .count)) old) where
-    pub listing-start : Listing (areaListed field s area ignore) (areaPart field s area ignore) (listText (held field Spt s)) out out 0 at (w .count)
+    pub listing-start : Listing s area ignore (listText (held field Spt s)) out out [] at (w .count)
     listing-start =
         let f = wrote-first (numbered listWord (w .count)) (recordLines (recs s z)) old out at h ex o in
         rw (ea, eg)

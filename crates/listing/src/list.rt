@@ -7,11 +7,12 @@ use data_model::path::Path;
 use data_model::query_ignore_params::QueryIgnoreParams;
 use data_model::range::RangeEnd;
 use data_model::range::TimesRange;
-use query::answer::Listed;
+use keys::encode::KEY_MOST;
 use query::count::count_area;
 use query::listing::query_area;
-use query::listing::query_area_place;
+use query::listing::record_key;
 use store::state::State;
+use text::line::write_bytes;
 ghost use mathlib.Core.Path.{_≡_};
 ghost use mathlib.Core.Bool.{true};
 ghost use Prim.Native.Nat.{_≤_};
@@ -38,7 +39,7 @@ fn everything() -> Area
     }
 }
 
-// The list of a store that is not refused, into a buffer with room for one of its limit. There are as many matches as were counted.
+// The list of a store that is not refused, into a buffer with room for one of its limit. There are as many matches as were counted; the key of the last one is remembered.
 pub fn write_list(
     state: State,
     spt: &[u8],
@@ -55,15 +56,12 @@ pub fn write_list(
     let counted = count_area(state, spt, spt_dir, tsp, tsp_dir, area);
     let mut left = counted.count;
     let mut at = write_numbered(b"list ", left as u64, out);
-    let mut place: usize = 0;
+    let mut last = [0u8; KEY_MOST];
+    let mut n: usize = 0;
     while 0 < left {
-        let l = query_area_place(state, spt, spt_dir, tsp, tsp_dir, area, ignore, place);
-        let Listed::Match(k) = l else {
-            return at;
-        };
-        let rec = query_area(state, spt, spt_dir, tsp, tsp_dir, area, ignore, place);
+        let rec = query_area(state, spt, spt_dir, tsp, tsp_dir, area, ignore, &last[..n]);
         at += write_line(rec, &mut out[at..]);
-        place = k + 1;
+        n = write_bytes(record_key(rec), &mut last);
         left -= 1;
     }
     at

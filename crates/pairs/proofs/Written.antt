@@ -9,6 +9,7 @@ use native.Mathlib.Omega.{arith}
 use lib.ListN.{length}
 use lib.Dec.{leb, eqb}
 use borrow.Author.Tests.{le-leb, lt-leb}
+use Rattle.laws.specs.First.{firstThat}
 use Rattle.laws.specs.Lists.{put}
 use Rattle.laws.specs.Prefix.{sameNumber, sameList}
 use Rattle.laws.specs.Sorted.{any, keep}
@@ -23,7 +24,7 @@ use Rattle.tree.specs.declared.stored.KeyOrder.the-variants.{Spt}
 use Rattle.tally.specs.Tally.{tallyRight}
 use Rattle.store.specs.Store.{dirRoom, held, wellFormedStore, Tallied}
 use Rattle.store.specs.Refusal.{unless, _orElse_, limitOk, roomy, storeRefusal, tallyFits, talliedRefusal}
-use Rattle.store.specs.Ingest.{succeeds, Decision, refuse, obsolete, already, take-it, stays, firstThat, decidedOf, decided, ingestRefusal, judged, MayFile, prunedPairs, plainAnswer, filing, carried, ingested}
+use Rattle.store.specs.Ingest.{succeeds, Decision, refuse, obsolete, already, take-it, stays, decidedOf, decided, ingestRefusal, judged, MayFile, prunedPairs, plainAnswer, filing, carried, ingested}
 use Rattle.store.specs.declared.ingest.Ingestion.{Ingestion}
 use Rattle.store.proofs.FileLaws.{success-may}
 use Rattle.pairs.specs.Pairs.{pairsOf, numbersOf, pairsIngested}

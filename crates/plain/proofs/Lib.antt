@@ -1,4 +1,3 @@
 pub mod SaysOnce
-mod PartLaws
 pub mod RowLaws
 mod RangeBack

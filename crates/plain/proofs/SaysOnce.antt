@@ -2,7 +2,6 @@
 use Prim.Native.Nat.{ℕ}
 use mathlib.Core.Path.{_≡_, refl, sym, ap, _∙_}
 use mathlib.Core.Bool.{Bool, true, false}
-use mathlib.Core.Option.{Option, some, none}
 use Rattle.laws.specs.Order.{Order, less, same, greater}
 use Rattle.data_model.specs.Said.{Said, refuses, says}
 use Rattle.data_model.specs.Refusal.{answerSays, comparedSays, orderingSays, recencySays, entriesComparedSays}
@@ -143,16 +142,16 @@ next-once = once nextSays nextFor back
     back (next.PathEnd n) = unfold nextSays in refl
     back (next.Refused k) = unfold nextSays in refl
 
-abbrev listedFor : Said (Option ℕ) → Listed
-listedFor (says (some k)) = listed.Match k
-listedFor (says none) = listed.Finished
+abbrev listedFor : Said Bool → Listed
+listedFor (says true) = listed.Found
+listedFor (says false) = listed.Finished
 listedFor (refuses n) = listed.Refused n
 
 pub listed-once : (a b : Listed) → listedSays a ≡ listedSays b → a ≡ b
 listed-once = once listedSays listedFor back
   where
     back : (a : Listed) → listedFor (listedSays a) ≡ a
-    back (listed.Match k) = unfold listedSays in refl
+    back listed.Found = unfold listedSays in refl
     back listed.Finished = unfold listedSays in refl
     back (listed.Refused n) = unfold listedSays in refl
 

@@ -1,7 +1,6 @@
 -- Answers in plain values: their number, which is the refusal's or 0, and their values; what an answer does not have is 0.
 use Prim.Native.Nat.{ℕ}
 use mathlib.Core.Bool.{Bool, true, false}
-use mathlib.Core.Option.{Option, some, none}
 use Rattle.laws.specs.Order.{Order, isLess, isGreater}
 use Rattle.data_model.specs.Said.{Said, refuses, says, numberOf}
 use Rattle.keys.specs.Decode.{Step, component, end-of-path}
@@ -38,11 +37,10 @@ abbrev pub plainEncoded : Said ℕ → PlainEncoded
 plainEncoded (says n) = record { refusal = 0; length = n }
 plainEncoded (refuses n) = record { refusal = n; length = 0 }
 
--- A listing: the match's place, finished, or the refusal.
-abbrev pub plainListed : Said (Option ℕ) → PlainListed
-plainListed (says (some k)) = record { refusal = 0; found = true; place = k }
-plainListed (says none) = record { refusal = 0; found = false; place = 0 }
-plainListed (refuses n) = record { refusal = n; found = false; place = 0 }
+-- A step of a listing: whether it gave a record, being else finished; or the refusal.
+abbrev pub plainListed : Said Bool → PlainListed
+plainListed (says found) = record { refusal = 0; found = found }
+plainListed (refuses n) = record { refusal = n; found = false }
 
 -- Whether a verdict is obsolete.
 abbrev pub isObsolete : Said Verdict → Bool

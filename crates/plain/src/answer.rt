@@ -51,12 +51,11 @@ pub struct PlainEncoded {
     pub length: usize,
 }
 
-// Refusal 0, whether there is a match, and its place; or the refusal.
+// Refusal 0 and whether a step of a listing gave a record, being else finished; or the refusal.
 #[repr(C)]
 pub struct PlainListed {
     pub refusal: u8,
     pub found: bool,
-    pub place: usize,
 }
 
 // Refusal 0 and how many entries were pruned; or obsolete, with the newer entry and its token; or held, the very entry being stored already; or the refusal. In each case the state.
@@ -186,20 +185,17 @@ pub fn plain_listed(l: Listed) -> PlainListed
     ensures { λ r. ⌜ r ≡ plainListed (listedSays l) ⌝ }
 {
     match l {
-        Listed::Match(k) => PlainListed {
+        Listed::Found => PlainListed {
             refusal: 0,
             found: true,
-            place: k,
         },
         Listed::Finished => PlainListed {
             refusal: 0,
             found: false,
-            place: 0,
         },
         Listed::Refused(n) => PlainListed {
             refusal: n,
             found: false,
-            place: 0,
         },
     }
 }

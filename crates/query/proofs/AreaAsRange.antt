@@ -1,45 +1,46 @@
 -- A legal area's calls answer as those of its 3d range: the two include the same of what is stored. For values as the language has them: a
 -- path has room for the field's figures, its bytes and the tree's are below 256, the halves of a subspace below 2^64. Assumes nothing.
-use Prim.Native.Nat.{ℕ, suc, _≤_}
+use Prim.Native.Nat.{ℕ, _≤_}
 use mathlib.Core.Path.{_≡_, refl, sym, ap, ap₂, _∙_}
 use mathlib.Core.Option.{Option, some, none}
 use mathlib.Core.List.{List, [], _∷_, List·Memᴰ·head as here, List·Memᴰ·tail as there}
 use mathlib.Core.Bool.{Bool, true, cond, _&&_}
 use lib.ListN.{length}
-use lib.Dec.{leb}
+use Rattle.laws.specs.First.{lesser, leastThat}
 use Rattle.laws.specs.Sorted.{_∈_, keep}
 use Rattle.layout.specs.Layout.{records}
 use Rattle.data_model.specs.Path.{Figures, Components, field, legal, components, isPath, pathOf}
 use Rattle.data_model.specs.Above.{above}
 use Rattle.data_model.specs.Range.{legalRange}
+use Rattle.data_model.specs.Refusal.{noKey}
 use Rattle.data_model.specs.Area.{pathsUpTo, areaRange}
 use Rattle.data_model.specs.declared.area.Area.{Area}
 use Rattle.key_laws.specs.Bytes.{Bytes}
 use Rattle.key_laws.proofs.Fits.{legal-fits, legal-of}
 use Rattle.key_laws.proofs.OnValues.{above-legal}
 use Rattle.key_laws.proofs.AreaLaws.{AreaWords, area-range}
-use Rattle.tree.specs.Stored.{Stored, tripleOf, Lawful}
+use Rattle.tree.specs.Stored.{Stored, stored, tripleOf, keyBelow, Lawful}
 use Rattle.tree.specs.Matching.{inArea, inRange, letThrough, listedInArea, listedInRange}
 use Rattle.data_model.specs.declared.«query_ignore_params».QueryIgnoreParams.{QueryIgnoreParams}
 use Rattle.tree.specs.declared.stored.KeyOrder.{KeyOrder}
 use Rattle.tree.specs.declared.stored.KeyOrder.the-variants.{Spt}
-use Rattle.tree.proofs.RecordLaws.{record-forth, contents-view}
+use Rattle.tree.proofs.RecordLaws.{record-forth, contents-in, contents-view}
 use Rattle.tree.proofs.WithinLaws.{formed-recorded}
 use Rattle.store.specs.Store.{Store, treeOf, dirOf, held}
+use Rattle.store.specs.Refusal.{unless, _orElse_}
 use Rattle.store.proofs.CheckLaws.{Passed}
-use Rattle.query.specs.Reading.{readRefusal, areaRefusal, rangeRefusal}
-use Rattle.query.specs.Listing.{next, listed, areaListed, rangeListed, partOf, areaPart, rangePart}
+use Rattle.query.specs.Reading.{readRefusal, areaRefusal, rangeRefusal, isRemembered, listRefusal, areaListRefusal, rangeListRefusal}
+use Rattle.query.specs.Listing.{sptRecords, keyAbove, qualifies, stepIn, step, listed, areaListed, rangeListed, partOf, areaPart, rangePart}
 use Rattle.query.specs.Count.{counted, areaCounted, summarised}
 use Rattle.query.proofs.Tested.{read-tested}
 
 -- Tests that answer the same of each element of a list.
-module _ {A : Type 0} (p q : A → Bool) where
-  next-alike : (place : ℕ) (l : List A) → ((x : A) → x ∈ l → p x ≡ q x) → (at : ℕ) → next p place at l ≡ next q place at l
-  unfolding next
-  next-alike place [] e at = refl
-  next-alike place (x ∷ l) e at =
-      ap₂ (λ (b : Bool) r. cond (leb place at && b) (some at) r) (e x (here refl)) (next-alike place l (λ y m. e y (there m)) (suc at))
+least-alike : {A : Type 0} (below : A → A → Bool) (p q : A → Bool) (l : List A) → ((x : A) → x ∈ l → p x ≡ q x) → leastThat below p l ≡ leastThat below q l
+unfolding leastThat
+least-alike below p q [] e = refl
+least-alike below p q (x ∷ l) e = ap₂ (λ (b : Bool) r. cond b (lesser below x r) r) (e x (here refl)) (least-alike below p q l λ y m. e y (there m))
 
+module _ {A : Type 0} (p q : A → Bool) where
   keep-alike : (l : List A) → ((x : A) → x ∈ l → p x ≡ q x) → keep p l ≡ keep q l
   unfolding keep
   keep-alike [] e = refl
@@ -82,14 +83,26 @@ module _ (s : Store) (area : Area) (long : field .mpl ≤ length (area .path .by
 
   module _ (tree : Bytes (treeOf field Spt s)) where
     -- (c)
-    pub area-as-range : (ignore : QueryIgnoreParams) (place : ℕ) → areaListed field s area ignore place ≡ rangeListed field s (areaRange field area) ignore place
-    unfolding listed listedInArea listedInRange
-    area-as-range ignore place =
-        let e = next-alike (listedInArea area ignore) (listedInRange (areaRange field area) ignore) place (held field Spt s) (λ x m. ap (λ (b : Bool). b && letThrough ignore x) (same-included Spt tree x m)) 0 in
-        rw (range-refusal, e)
+    same-step : (ignore : QueryIgnoreParams) (last : List ℕ) → step field s (listedInArea area ignore) last ≡ step field s (listedInRange (areaRange field area) ignore) last
+    unfolding stepIn listedInArea listedInRange held
+    same-step ignore last = least-alike keyBelow
+        (qualifies field (s .state .«namespace_id») (listedInArea area ignore) last)
+        (qualifies field (s .state .«namespace_id») (listedInRange (areaRange field area) ignore) last)
+        (sptRecords field s)
+        (λ r m.
+        let x = stored Spt field (s .state .«namespace_id») r in
+        ap (λ (b : Bool). keyAbove last r && (b && letThrough ignore x)) (same-included Spt tree x (contents-in Spt field (s .state .«namespace_id») (sptRecords field s) m)))
 
-    pub area-part-as-range : (ignore : QueryIgnoreParams) (place : ℕ) → areaPart field s area ignore place ≡ rangePart field s (areaRange field area) ignore place
-    area-part-as-range ignore place = ap (partOf field s) (area-as-range ignore place)
+    list-refusal : (last : List ℕ) → rangeListRefusal field s (areaRange field area) last ≡ areaListRefusal field s area last
+    unfolding listRefusal
+    list-refusal last = ap (λ (n : ℕ). n orElse unless (isRemembered field last) noKey) range-refusal
+
+    pub area-as-range : (ignore : QueryIgnoreParams) (last : List ℕ) → areaListed field s area ignore last ≡ rangeListed field s (areaRange field area) ignore last
+    unfolding listed
+    area-as-range ignore last = rw (list-refusal last, same-step ignore last)
+
+    pub area-part-as-range : (ignore : QueryIgnoreParams) (last : List ℕ) → areaPart field s area ignore last ≡ rangePart field s (areaRange field area) ignore last
+    area-part-as-range ignore last = ap partOf (area-as-range ignore last)
 
     pub area-count-as-range : areaCounted field s area ≡ summarised field s (areaRange field area)
     unfolding counted

@@ -1,23 +1,24 @@
 -- Our listings answer right and nothing else is right, so that a listing finished before a match is shut out. Assumes nothing.
-use Prim.Native.Nat.{ℕ, suc, _+_, _≤_, _<_}
-use mathlib.Core.Path.{_≡_, refl, sym, ap, _∙_}
+use Prim.Native.Nat.{ℕ}
+use mathlib.Core.Path.{_≡_, refl, sym, ap, ap₂, subst, _∙_}
 use mathlib.Core.Logic.{_↔_}
-use mathlib.Core.List.{List, [], _∷_, List·Memᴰ·eq-of-singleton as eq-of-singleton}
+use mathlib.Core.List.{List, [], _∷_, List·Memᴰ·head as here, List·Memᴰ·eq-of-singleton as eq-of-singleton}
 use mathlib.Core.Bool.{Bool, true, false, _&&_}
 use mathlib.Core.Option.{Option, some, none}
 use native.Mathlib.Omega.{arith}
-use lib.ListN.{length, getD, replicate}
-use lib.Dec.{leb, ltb, eqb}
-use borrow.Author.Tests.{leb-true, le-leb, ltb-true, ltb-false, eqb-true, eqb-false}
-use Rattle.laws.specs.Order.{isLess, byNumber}
+use lib.ListN.{replicate}
+use lib.Dec.{eqb}
+use borrow.Author.Tests.{eqb-true, eqb-false}
+use Rattle.laws.specs.Order.{isLess, below, byNumber}
 use Rattle.laws.specs.Prefix.{prefixOf}
-use Rattle.laws.specs.Sorted.{any, all, keep, insert}
+use Rattle.laws.specs.Sorted.{_∈_, any, all, keep, insert}
 use Rattle.laws.proofs.Truth.{split, clash, and-true}
-use Rattle.layout.specs.Layout.{recordAt}
+use Rattle.laws.proofs.Order.{below-total}
+use Rattle.laws.proofs.First.{LeastIs}
 use Rattle.data_model.specs.Origin.{originSession}
 use Rattle.data_model.specs.Ignore.{noFlags}
 use Rattle.data_model.specs.Said.{Said, refuses, says}
-use Rattle.data_model.specs.Path.{field, cut, components, legal, joined, endsFrom, isPath, valueOf, pathOf}
+use Rattle.data_model.specs.Path.{field, cut, components, legal, joined, endsFrom, isPath, valueOf, pathOf, byBytes}
 use Rattle.data_model.specs.Subspace.{firstSubspace}
 use Rattle.data_model.specs.Range.{beforeEnd, includes, timesEnd, timesInclude, legalRange}
 use Rattle.data_model.specs.Area.{areaSubspace, areaIncludes}
@@ -25,129 +26,98 @@ use Rattle.data_model.specs.declared.«entry_origin».EntryOrigin.the-variants.
 use Rattle.data_model.specs.declared.range.RangeEnd.the-variants as times
 use Rattle.data_model.specs.declared.area.AreaSubspace.the-variants.{Any}
 use Rattle.data_model.specs.declared.area.Area.{Area}
+use Rattle.data_model.proofs.Orders.{bytes-linear}
 use Rattle.key_laws.proofs.Fits.{legal-of}
-use Rattle.tree.specs.Stored.{Stored, stored, tripleOf, Lawful}
+use Rattle.tree.specs.Stored.{Stored, stored, keyOf, keyBelow, tripleOf, Lawful}
+use Rattle.tree.specs.Tree.{keysBelow}
 use Rattle.tree.specs.Matching.{inArea, letThrough, listedInArea}
 use Rattle.tree.specs.declared.stored.KeyOrder.the-variants.{Spt}
-use Rattle.tree.proofs.FormedContents.{formed-many}
-use Rattle.store.specs.Store.{treeRoom, dirRoom, Store, storeOf, treeOf, dirOf, held, wellFormedStore, Held, holding}
+use Rattle.tree.proofs.RecordLaws.{contents-view}
+use Rattle.tree.proofs.SearchLaws.{key-place}
+use Rattle.store.specs.Store.{treeRoom, dirRoom, Store, storeOf, held, wellFormedStore, Held, holding}
 use Rattle.store.specs.Refusal.{limitOk, roomy}
 use Rattle.store.specs.Open.{emptyState, nothing}
 use Rattle.store.specs.Ingest.{filedIn, filed}
 use Rattle.store.proofs.Meaning.{SoundHeld, sound-nothing, sound-filed}
 use Rattle.store.proofs.Lifted.{Fit, listOf, bears-held, bears-well, holding-bears, holding-roomy}
 use Rattle.store.proofs.CheckLaws.{Passed, refuses-none}
-use Rattle.store.proofs.IngestLaws.{stands-at}
-use Rattle.query.specs.Reading.{areaRefusal}
-use Rattle.query.specs.Listing.{next, listed}
-use Rattle.query.specs.EarlyFinish.{Wanted, of-area, of-range, refusalOf, isWanted, Matches, RightAnswer, EarlyFinish}
-use Rattle.query.proofs.Tested.{read-passes, read-tested, formed-spt}
-
--- What the next match says of the elements from `at` up to `end`, which match where `m` holds of their number.
-abbrev Told : (m : ℕ → Bool) → (place at end : ℕ) → Option ℕ → Type 0
-Told m place at end (some k) = (place ≤ k) × (k < end) × (m k ≡ true) × ((j : ℕ) → at ≤ j → place ≤ j → j < k → m j ≡ false)
-Told m place at end none = (j : ℕ) → at ≤ j → place ≤ j → j < end → m j ≡ false
-
-module _ (m : ℕ → Bool) (place end : ℕ) where
-  -- One element earlier, which does not match at or after the place.
-  told-earlier : (at : ℕ) (r : Option ℕ) → (place ≤ at → m at ≡ false) → Told m place (suc at) end r → Told m place at end r
-  told-earlier at (some k) f t = (
-    t .0,
-    t .1,
-    t .2,
-    λ j a b c. split (ltb at j)
-        (λ q. let g = ltb-true at j q in t .3 j (omega arith) b c)
-        (λ q. let g = ltb-false at j q in let e : j ≡ at = omega arith in rw e (f (omega arith))),
-  )
-  told-earlier at none f t = λ j a b c. split (ltb at j)
-      (λ q. let g = ltb-true at j q in t j (omega arith) b c)
-      (λ q. let g = ltb-false at j q in let e : j ≡ at = omega arith in rw e (f (omega arith)))
-
-  told : {A : Type 0} (test : A → Bool) (d : A) (l : List A) (at : ℕ) → at + length l ≡ end → ((i : ℕ) → i < length l → test (getD l i d) ≡ m (at + i)) → Told m place at end (next test place at l)
-  unfolding next
-  told test d [] at e h = λ j a b c. absurd (omega arith)
-  told test d (x ∷ l) at e h =
-      let z : at + 0 ≡ at = omega arith in
-      let w : test x ≡ m at = h 0 (omega arith) ∙ ap m z in
-      let i = told test d l (suc at) (omega arith) (λ i b. let g : at + suc i ≡ suc at + i = omega arith in h (suc i) (omega arith) ∙ ap m g) in
-      split (leb place at && test x)
-      (λ q.
-      let k = and-true (leb place at) (test x) q in
-      let p = leb-true place at (k .0) in
-      rw q (p, omega arith, sym w ∙ k .1, λ j a b c. absurd (omega arith)))
-      (λ q. rw q (told-earlier at (next test place (suc at) l) (λ p. sym w ∙ (rw (le-leb place at p) at q)) i))
+use Rattle.query.specs.Reading.{isRemembered, areaListRefusal}
+use Rattle.query.specs.Listing.{sptRecords, keyAbove, qualifies, step, listed}
+use Rattle.query.specs.EarlyFinish.{Wanted, of-area, of-range, refusalOf, isWanted, Comes, RightAnswer, EarlyFinish}
+use Rattle.query.proofs.Tested.{read-passes, list-passes, list-tested}
+use Rattle.query.proofs.StartLaws.{refused-keys, start-above}
+use Rattle.query.proofs.StepLaws.{key-weak}
+use Rattle.query.proofs.GivenLaws.{step-is}
 
 -- Of a store.
-tested : (s : Store) (w : Wanted) → refusalOf s w ≡ 0 → Passed s
-tested s (of-area area ignore) z = read-tested s (legal field (area .path)) z .0
-tested s (of-range range ignore) z = read-tested s (legalRange field (range .paths)) z .0
+tested : (s : Store) (w : Wanted) (last : List ℕ) → refusalOf s w last ≡ 0 → Passed s
+tested s (of-area area ignore) last z = list-tested s (legal field (area .path)) last z .0
+tested s (of-range range ignore) last z = list-tested s (legalRange field (range .paths)) last z .0
 
--- What the record of a number says.
-abbrev said : Store → ℕ → Stored
-said s n = stored Spt field (s .state .«namespace_id») (recordAt n (dirOf Spt s) (treeOf field Spt s))
+module _ (s : Store) (w : Wanted) (last : List ℕ) where
+  abbrev may : List ℕ → Bool
+  may = qualifies field (s .state .«namespace_id») (isWanted w) last
 
-module _ (s : Store) (p : Passed s) where
-  held-many : length (held field Spt s) ≡ s .state .count
-  unfolding held treeOf dirOf
-  held-many = formed-many (formed-spt s p) (s .state .«namespace_id»)
+  comes : (r : List ℕ) → r ∈ sptRecords field s → may r ≡ true → Comes s w last r
+  comes r m e = let k = and-true (keyAbove last r) (isWanted w (stored Spt field (s .state .«namespace_id») r)) e in record { stands = m; above = k .0; wanted = k .1 }
 
-  held-said : (n : ℕ) → n < s .state .count → (d : Stored) → getD (held field Spt s) n d ≡ said s n
-  unfolding held treeOf dirOf
-  held-said = stands-at (formed-spt s p) (s .state .«namespace_id»)
+  may-come : (r : List ℕ) → Comes s w last r → may r ≡ true
+  may-come r h = ap₂ _&&_ (h .above) (h .wanted)
 
-module _ (s : Store) (w : Wanted) (place : ℕ) where
-  next-told : refusalOf s w ≡ 0 → Told (λ n. isWanted w (said s n)) place 0 (s .state .count) (next (isWanted w) place 0 (held field Spt s))
-  next-told z =
-      let p = tested s w z in
-      let many = held-many s p in
-      told (λ n. isWanted w (said s n)) place (s .state .count) (isWanted w) (said s 0) (held field Spt s) 0 (omega arith) (λ i b.
-      let e : i ≡ 0 + i = omega arith in
-      ap (isWanted w) (held-said s p i (omega arith) (said s 0)) ∙ ap (λ (n : ℕ). isWanted w (said s n)) e)
-
-  told-right : refusalOf s w ≡ 0 → (r : Option ℕ) → Told (λ n. isWanted w (said s n)) place 0 (s .state .count) r → RightAnswer s w place (says r)
-  told-right z (some k) t = record {
+  said-right : refusalOf s w last ≡ 0 → (o : Option (List ℕ)) → LeastIs keyBelow may (sptRecords field s) o → RightAnswer s w last (says o)
+  said-right z (some r) v = record {
     refused = λ n. (λ e. absurd (let y : _≡_ {A = ℕ} 0 1 = cc in omega arith), λ e. absurd (e .1 (sym (e .0) ∙ z)));
-    matched = λ n e. let g : k ≡ n = cc in rw (← g) (t .0, (t .1, t .2), λ j a b c. clash (c .1) (t .3 j (omega arith) a b));
+    found = λ q e. let g : r ≡ q = cc in subst (λ x. Comes s w last x × ((y : List ℕ) → Comes s w last y → keyBelow y x ≡ false)) g (comes r (v .among) (v .holds), λ y h. v .none-below y (h .stands) (may-come y h));
     finished = λ e. absurd (let y : _≡_ {A = ℕ} 0 1 = cc in omega arith);
   }
-  told-right z none t = record {
+  said-right z none v = record {
     refused = λ n. (λ e. absurd (let y : _≡_ {A = ℕ} 0 1 = cc in omega arith), λ e. absurd (e .1 (sym (e .0) ∙ z)));
-    matched = λ n e. absurd (let y : _≡_ {A = ℕ} 0 1 = cc in omega arith);
-    finished = λ e n a c. clash (c .1) (t n (omega arith) a (c .0));
+    found = λ q e. absurd (let y : _≡_ {A = ℕ} 0 1 = cc in omega arith);
+    finished = λ e r h. clash (may-come r h) (v r (h .stands));
   }
 
-  refused-right : (refusalOf s w ≡ 0 → ⊥) → RightAnswer s w place (refuses (refusalOf s w))
+  refused-right : (refusalOf s w last ≡ 0 → ⊥) → RightAnswer s w last (refuses (refusalOf s w last))
   refused-right z = record {
-    refused = λ n. (λ e. let g : refusalOf s w ≡ n = cc in (g, λ y. z (g ∙ y)), λ e. ap refuses (e .0));
-    matched = λ n e. absurd (let y : _≡_ {A = ℕ} 0 1 = cc in omega arith);
+    refused = λ n. (λ e. let g : refusalOf s w last ≡ n = cc in (g, λ y. z (g ∙ y)), λ e. ap refuses (e .0));
+    found = λ q e. absurd (let y : _≡_ {A = ℕ} 0 1 = cc in omega arith);
     finished = λ e. absurd (let y : _≡_ {A = ℕ} 0 1 = cc in omega arith);
   }
 
-  ours-right : RightAnswer s w place (listed field s (refusalOf s w) (isWanted w) place)
+  ours-right : RightAnswer s w last (listed field s (refusalOf s w last) (isWanted w) last)
   unfolding listed
-  ours-right = split (eqb (refusalOf s w) 0)
-      (λ q. let z = eqb-true (refusalOf s w) 0 q in rw q (told-right z (next (isWanted w) place 0 (held field Spt s)) (next-told z)))
-      (λ q. rw q (refused-right (eqb-false (refusalOf s w) 0 q)))
+  ours-right = split (eqb (refusalOf s w last) 0)
+      (λ q. let z = eqb-true (refusalOf s w last) 0 q in rw q (said-right z (step field s (isWanted w) last) (step-is s (tested s w last z) (isWanted w) last)))
+      (λ q. rw q (refused-right (eqb-false (refusalOf s w last) 0 q)))
 
-  one-answer : (a b : Said (Option ℕ)) → RightAnswer s w place a → RightAnswer s w place b → a ≡ b
+  -- Records of the tree that are not below one another are one.
+  one-record : Passed s → (a b : List ℕ) → Comes s w last a → Comes s w last b → keyBelow a b ≡ false → keyBelow b a ≡ false → a ≡ b
+  unfolding below
+  one-record p a b x y e f =
+      let k : keyOf a ≡ keyOf b = below-total byBytes bytes-linear (keyOf a) (keyOf b) e f in
+      let u = key-place (keyOf b) (sptRecords field s) (p .ordered Spt .ascends) (keysBelow (keyOf b) (sptRecords field s)) refl (x .stands) k .1 in
+      let v = key-place (keyOf b) (sptRecords field s) (p .ordered Spt .ascends) (keysBelow (keyOf b) (sptRecords field s)) refl (y .stands) refl .1 in
+      sym u ∙ v
+
+  none-refused : (a : Option (List ℕ)) → RightAnswer s w last (says a) → Passed s
+  none-refused a v = split (eqb (refusalOf s w last) 0)
+      (λ q. tested s w last (eqb-true (refusalOf s w last) 0 q))
+      (λ q. absurd (let e : says a ≡ refuses (refusalOf s w last) = v .refused (refusalOf s w last) .1 (refl, eqb-false (refusalOf s w last) 0 q) in let y : _≡_ {A = ℕ} 0 1 = cc in omega arith))
+
+  one-answer : (a b : Said (Option (List ℕ))) → RightAnswer s w last a → RightAnswer s w last b → a ≡ b
   one-answer (says (some n)) (says (some k)) p q =
-      let u = p .matched n refl in
-      let v = q .matched k refl in
-      split (ltb n k)
-      (λ g. absurd (v .2 n (u .0) (ltb-true n k g) (u .1)))
-      (λ g. split (ltb k n)
-      (λ h. absurd (u .2 k (v .0) (ltb-true k n h) (v .1)))
-      (λ h. let a = ltb-false n k g in let b = ltb-false k n h in let e : n ≡ k = omega arith in ap (λ (i : ℕ). says (some i)) e))
-  one-answer (says (some n)) (says none) p q = let u = p .matched n refl in absurd (q .finished refl n (u .0) (u .1))
+      let u = p .found n refl in
+      let v = q .found k refl in
+      ap (λ (x : List ℕ). says (some x)) (one-record (none-refused (some n) p) n k (u .0) (v .0) (v .1 n (u .0)) (u .1 k (v .0)))
+  one-answer (says (some n)) (says none) p q = absurd (q .finished refl n (p .found n refl .0))
   one-answer (says (some n)) (refuses k) p q = p .refused k .1 (q .refused k .0 refl)
-  one-answer (says none) (says (some k)) p q = let v = q .matched k refl in absurd (p .finished refl k (v .0) (v .1))
+  one-answer (says none) (says (some k)) p q = absurd (p .finished refl k (q .found k refl .0))
   one-answer (says none) (says none) p q = refl
   one-answer (says none) (refuses k) p q = p .refused k .1 (q .refused k .0 refl)
   one-answer (refuses n) (says (some k)) p q = sym (q .refused n .1 (p .refused n .0 refl))
   one-answer (refuses n) (says none) p q = sym (q .refused n .1 (p .refused n .0 refl))
   one-answer (refuses n) (refuses k) p q = p .refused k .1 (q .refused k .0 refl)
 
-  only-ours : (r : Said (Option ℕ)) → RightAnswer s w place r ↔ (r ≡ listed field s (refusalOf s w) (isWanted w) place)
+  only-ours : (r : Said (Option (List ℕ))) → RightAnswer s w last r ↔ (r ≡ listed field s (refusalOf s w last) (isWanted w) last)
   only-ours r = (λ v. one-answer r _ v ours-right, λ e. rw e ours-right)
 
 -- A store of limit 1 that holds an entry of zeros, and the area of everything.
@@ -204,24 +174,36 @@ roomy-one = holding-roomy field empty holds-zeros fit (unfold roomy in refl)
 legal-all : legal field (pathOf []) ≡ true
 legal-all = legal-of field [] (unfold isPath all joined in refl)
 
-not-refused : areaRefusal field one-held everything ≡ 0
-unfolding holding limitOk
-not-refused = let e = refuses-none one-held true refl roomy-one refl well in rw legal-all (sym (read-passes one-held true 0 e refl refl))
+not-refused : areaListRefusal field one-held everything [] ≡ 0
+unfolding holding limitOk isRemembered
+not-refused =
+    let e = refuses-none one-held true refl roomy-one refl well in
+    rw legal-all (sym (list-passes one-held true [] 0 (read-passes one-held true 0 e refl refl) refl refl))
 
 wants-zeros : listedInArea everything noFlags zeros ≡ true
 unfolding listedInArea inArea letThrough areaIncludes areaSubspace components cut pathOf valueOf endsFrom joined prefixOf timesInclude includes timesEnd beforeEnd isLess byNumber
 wants-zeros = refl
 
-matches-zeros : Matches one-held (of-area everything noFlags) 0
-unfolding holding
-matches-zeros =
-    let e = held-said one-held (tested one-held (of-area everything noFlags) not-refused) 0 (omega arith) zeros in
-    (omega arith, ap (listedInArea everything noFlags) (sym e ∙ ap (λ (l : List Stored). getD l 0 zeros) held-is) ∙ wants-zeros)
+comes-zeros : (r : List ℕ) × Comes one-held (of-area everything noFlags) [] r
+unfolding held
+comes-zeros =
+    let p = tested one-held (of-area everything noFlags) [] not-refused in
+    let m : zeros ∈ held field Spt one-held = rw held-is (here refl) in
+    let k = contents-view Spt field (one-held .state .«namespace_id») (sptRecords field one-held) m in (
+      k .0,
+      record {
+        stands = k .1;
+        above = start-above one-held p (k .0) (k .1);
+        wanted = ap (listedInArea everything noFlags) (sym (k .2)) ∙ wants-zeros;
+      },
+    )
 
 pub early-finish : EarlyFinish
 early-finish = record {
-  only-ours-area = λ s area ignore. only-ours s (of-area area ignore);
-  only-ours-range = λ s range ignore. only-ours s (of-range range ignore);
-  finishing-early = λ l f right. right (f .0) (f .1) (f .2) .finished (f .4) (f .3) (f .5) (f .6);
-  one-finishes-early = (one-held, of-area everything noFlags, 0, 0, rw not-refused, omega arith, matches-zeros);
+  refused-keys = refused-keys;
+  from-the-start = λ s w z r m. start-above s (tested s w [] z) r m;
+  only-ours-area = λ s area ignore last. only-ours s (of-area area ignore) last;
+  only-ours-range = λ s range ignore last. only-ours s (of-range range ignore) last;
+  finishing-early = λ l f right. right (f .0) (f .1) (f .2) .finished (f .4) (f .3) (f .5);
+  one-finishes-early = (one-held, of-area everything noFlags, [], comes-zeros .0, rw not-refused, comes-zeros .1);
 }

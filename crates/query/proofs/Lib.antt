@@ -1,7 +1,11 @@
 pub mod Tested
-pub mod NextLaws
+pub mod MarkedLaws
+pub mod StepLaws
+pub mod StartLaws
+pub mod GivenLaws
 pub mod FoundLaws
 pub mod Walked
+pub mod WalkShown
 pub mod FinishedEarly
 pub mod AreaAsRange
 pub mod TimeSaid

@@ -4,12 +4,10 @@ use Prim.Native.Nat.{ℕ}
 use mathlib.Core.Path.{_≡_, sym, ap, _∙_}
 use mathlib.Core.List.{List}
 use mathlib.Core.Bool.{Bool, true, false}
-use mathlib.Core.Option.{Option}
 use native.Mathlib.Omega.{arith}
 use lib.ListN.{length, take}
 use borrow.Author.Tests.{ne-eqb}
 use Rattle.laws.specs.Sorted.{keep}
-use Rattle.data_model.specs.Said.{Said, refuses, says}
 use Rattle.data_model.specs.Path.{field, legal, components}
 use Rattle.data_model.specs.Area.{areaRange, areaRangeAnswer, emptyRange}
 use Rattle.data_model.specs.declared.path.Path.{Path}
@@ -18,15 +16,14 @@ use Rattle.data_model.specs.declared.area.Area.{Area}
 use Rattle.data_model.specs.declared.area.AreaRange.{AreaRange}
 use Rattle.data_model.specs.declared.«area_of_interest».AreaOfInterest.{AreaOfInterest}
 use Rattle.tree.specs.Stored.{Stored}
-use Rattle.tree.specs.Tree.{Formed}
+use Rattle.tree.specs.Tree.{Formed, Ordered}
 use Rattle.data_model.specs.declared.«query_ignore_params».QueryIgnoreParams.{QueryIgnoreParams}
 use Rattle.tree.specs.declared.stored.KeyOrder.the-variants.{Spt, Tsp}
 use Rattle.store.specs.Store.{Store, treeRoom, dirRoom, treeOf, dirOf, held}
 use Rattle.store.specs.Refusal.{unless, _orElse_, storeRefusal}
 use Rattle.store.specs.Change.{inTree}
 use Rattle.store.proofs.CheckLaws.{or-none, unless-none, Passed, passed}
-use Rattle.query.specs.Reading.{readRefusal}
-use Rattle.query.specs.Listing.{next, listed}
+use Rattle.query.specs.Reading.{readRefusal, isRemembered, listRefusal}
 use Rattle.query.specs.Count.{counted}
 use Rattle.query.specs.Lookup.{notFound, foundIn, entryFound}
 use Rattle.query.specs.Interest.{interestTime, startingAt, interestRange}
@@ -51,6 +48,27 @@ pub read-tested : (s : Store) (b : Bool) → readRefusal field s b ≡ 0 → Pas
 unfolding readRefusal
 read-tested s b z = let k = or-none (storeRefusal field s true) (unless b 4) z in (passed s true (k .0) .0, unless-none b 4 (omega arith) (k .1))
 
+-- A step of a listing: the same, and then the key that it remembers.
+module _ (s : Store) (paths : Bool) (last : List ℕ) (n : ℕ) (e : n ≡ readRefusal field s paths) where
+  pub list-early : (n ≡ 0 → ⊥) → n ≡ listRefusal field s paths last
+  unfolding listRefusal _orElse_
+  list-early h = rw (← e, ne-eqb n 0 h)
+
+  pub list-no-key : n ≡ 0 → isRemembered field last ≡ false → 5 ≡ listRefusal field s paths last
+  unfolding listRefusal _orElse_ unless
+  list-no-key z k = rw (← e, z, k)
+
+  pub list-passes : n ≡ 0 → isRemembered field last ≡ true → 0 ≡ listRefusal field s paths last
+  unfolding listRefusal _orElse_ unless
+  list-passes z k = rw (← e, z, k)
+
+pub list-tested : (s : Store) (b : Bool) (last : List ℕ) → listRefusal field s b last ≡ 0 → Passed s × (b ≡ true) × (isRemembered field last ≡ true)
+unfolding listRefusal
+list-tested s b last z =
+    let k = or-none (readRefusal field s b) (unless (isRemembered field last) 5) z in
+    let r = read-tested s b (k .0) in
+    (r .0, r .1, unless-none (isRemembered field last) 5 (omega arith) (k .1))
+
 -- The trees in their rooms, as the inner functions have them.
 abbrev pub heldSpt : Store → List Stored
 heldSpt s = inTree Spt (s .state .«namespace_id») (s .state .count) (take (dirRoom (s .state .limit)) (s .sptDir)) (take (treeRoom field (s .state .limit)) (s .spt))
@@ -61,6 +79,10 @@ heldTsp s = inTree Tsp (s .state .«namespace_id») (s .state .count) (take (dir
 pub formed-spt : (s : Store) → Passed s → Formed Spt (s .state .count) (take (dirRoom (s .state .limit)) (s .sptDir)) (take (treeRoom field (s .state .limit)) (s .spt))
 unfolding treeOf dirOf
 formed-spt s p = p .formed Spt
+
+pub ordered-spt : (s : Store) → Passed s → Ordered Spt (s .state .count) (take (dirRoom (s .state .limit)) (s .sptDir)) (take (treeRoom field (s .state .limit)) (s .spt))
+unfolding treeOf dirOf
+ordered-spt s p = p .ordered Spt
 
 pub formed-tsp : (s : Store) → Passed s → Formed Tsp (s .state .count) (take (dirRoom (s .state .limit)) (s .tspDir)) (take (treeRoom field (s .state .limit)) (s .tsp))
 unfolding treeOf dirOf
@@ -73,14 +95,6 @@ module _ (s : Store) (t b : Bool) (q : t ≡ b) (n : ℕ) (e : n ≡ readRefusal
 
   pub tested : n ≡ 0 → Passed s × (b ≡ true)
   tested z = read-tested s b (refusal ∙ z)
-
-  pub list-refused : (test : Stored → Bool) (place : ℕ) → (n ≡ 0 → ⊥) → refuses n ≡ listed field s (readRefusal field s b) test place
-  unfolding listed
-  list-refused test place h = rw (refusal, ne-eqb n 0 h)
-
-  pub list-next : (test : Stored → Bool) (place : ℕ) → n ≡ 0 → (r : Said (Option ℕ)) → r ≡ says (next test place 0 (heldSpt s)) → r ≡ listed field s (readRefusal field s b) test place
-  unfolding listed held treeOf dirOf
-  list-next test place z r er = rw (refusal, z) er
 
   pub count-refused : (test : Stored → Bool) → (n ≡ 0 → ⊥) → record { refusal = n; count = 0 } ≡ counted field s (readRefusal field s b) test
   unfolding counted

@@ -1,180 +1,138 @@
--- The theorems about the calls' definitions, over any store that is not refused: a walk over a listing gives exactly the matching records;
+-- The theorems about the calls' definitions, over one store that is not refused: a walk over a listing gives exactly the matching records;
 -- a count is the length of the listing without flags; what is found is the entry that stands there. Assumes nothing.
-use Prim.Native.Nat.{ℕ, suc, _+_, _-_, _≤_}
-use mathlib.Core.Path.{_≡_, refl, sym, ap, _∙_}
-use mathlib.Core.List.{List, [], _∷_, List·Memᴰ·head as here, List·Memᴰ·tail as there}
-use mathlib.Core.Bool.{Bool, true, false, cond}
+use Prim.Native.Nat.{ℕ}
+use mathlib.Core.Path.{_≡_, refl, sym, ap, ap₂, subst, _∙_}
+use mathlib.Core.Logic.{⊎-elim}
+use mathlib.Core.List.{List, [], _∷_, _++_, append-assoc, List·Memᴰ·head as here, List·Memᴰ·tail as there, List·Memᴰ·not-nil as none-in, List·Memᴰ·append-cases as unappend, List·Memᴰ·eq-of-singleton as only, Memᴰ·append-right as in-right}
+use mathlib.Core.Bool.{Bool, true, false, cond, _&&_}
 use mathlib.Core.Option.{Option, some, none}
 use native.Mathlib.Omega.{arith}
-use native.Mathlib.Numerals.{add-one}
-use lib.ListN.{length, drop, length-drop, getD}
-use lib.Seq.{drop-cons}
-use lib.Dec.{eqb}
-use borrow.Author.Tests.{le-leb, eq-eqb, eqb-true}
-use Rattle.laws.specs.Sorted.{_∈_, any, keep}
+use lib.ListN.{length}
+use borrow.Author.Tests.{eq-eqb}
+use Rattle.laws.specs.First.{firstThat, leastThat}
+use Rattle.laws.specs.Sorted.{_∈_, any, keep, Ascends}
+use Rattle.laws.proofs.First.{least-first}
 use Rattle.laws.proofs.Truth.{split, clash}
 use Rattle.laws.proofs.Sorted.{keep-ascends, any-make}
-use Rattle.layout.specs.Layout.{records, recordAt}
-use Rattle.layout.proofs.LaidLaws.{records-many, records-at}
 use Rattle.data_model.specs.Ignore.{noFlags}
-use Rattle.data_model.specs.Said.{Said, says, numberOf}
+use Rattle.data_model.specs.Said.{Said, says}
 use Rattle.data_model.specs.Path.{field, legal, components}
 use Rattle.data_model.specs.Range.{legalRange}
 use Rattle.data_model.specs.declared.path.Path.{Path}
 use Rattle.data_model.specs.declared.parameters.Subspace.{Subspace}
 use Rattle.data_model.specs.declared.area.Area.{Area}
 use Rattle.data_model.specs.declared.«range_3d».Range3d.{Range3d}
-use Rattle.tree.specs.Stored.{Stored, stored, contents, lengthy, keyBelow}
-use Rattle.tree.specs.Value.{valueLength}
+use Rattle.tree.specs.Stored.{Stored, stored, contents, lengthy, keyOf, keyBelow}
 use Rattle.tree.specs.Matching.{standsAt, letThrough, inArea, inRange, listedInArea, listedInRange}
 use Rattle.data_model.specs.declared.«query_ignore_params».QueryIgnoreParams.{QueryIgnoreParams}
 use Rattle.tree.specs.declared.stored.KeyOrder.the-variants.{Spt}
-use Rattle.tree.proofs.FormedLaws.{record-long, formed-record}
 use Rattle.tree.proofs.RecordLaws.{contents-length}
-use Rattle.store.specs.Store.{Store, treeOf, dirOf, held}
-use Rattle.store.specs.Ingest.{firstThat}
+use Rattle.tree.proofs.TestLaws.{unflagged-area, unflagged-range}
+use Rattle.store.specs.Store.{Store, held}
 use Rattle.store.proofs.CheckLaws.{Passed}
 use Rattle.store.proofs.IngestLaws.{first-absent}
 use Rattle.store.proofs.ForgetLaws.{only-one}
-use Rattle.query.specs.Reading.{readRefusal, areaRefusal, rangeRefusal}
-use Rattle.query.specs.Listing.{next, listed, areaListed, rangeListed, part, partOf, areaPart, rangePart}
+use Rattle.query.specs.Reading.{readRefusal, areaRefusal, rangeRefusal, isRemembered, listRefusal}
+use Rattle.query.specs.Listing.{sptRecords, keyAbove, qualifies, stepIn, listed, areaListed, rangeListed}
 use Rattle.query.specs.Count.{counted, areaCounted, summarised}
 use Rattle.query.specs.Lookup.{notFound, foundOf, entryFound}
-use Rattle.query.specs.Walk.{Walks, matching, Lists, Finds}
+use Rattle.query.specs.Walk.{Steps, Walked, turnsOn, matching, Lists, Finds}
 use Rattle.query.specs.declared.answer.EntryFound.{EntryFound}
-use Rattle.query.proofs.Tested.{read-tested, formed-spt}
-use Rattle.query.proofs.FoundLaws.{match-below}
-use Rattle.tree.proofs.TestLaws.{unflagged-area, unflagged-range}
-use Rattle.query.proofs.NextLaws.{next-drop, keep-same}
+use Rattle.query.proofs.Tested.{read-tested, list-passes}
+use Rattle.query.proofs.MarkedLaws.{keep-same}
+use Rattle.query.proofs.StartLaws.{record-remembered, start-above}
+use Rattle.query.proofs.StepLaws.{key-weak, above-self, below-above, not-above, ascends-around}
 
--- The number of what a listing answers is the refusal, 0 for none.
-pub listed-number : (s : Store) (refusal : ℕ) (test : Stored → Bool) (place : ℕ) → numberOf (listed field s refusal test place) ≡ refusal
-unfolding listed numberOf
-listed-number s refusal test place = split (eqb refusal 0) (λ q. rw q (sym (eqb-true refusal 0 q))) (λ q. rw q)
-
--- The part of a match is a record, and so is not empty: it is empty exactly where the listing is finished or refused.
-pub match-long : (s : Store) (b : Bool) (test : Stored → Bool) (place k : ℕ) → listed field s (readRefusal field s b) test place ≡ says (some k)
-    → valueLength ≤ length (partOf field s (listed field s (readRefusal field s b) test place))
-unfolding partOf part
-match-long s b test place k e =
-    let m = match-below s b test place k e in
-    rw e (record-long Spt field _ (formed-record (formed-spt s (m .0)) k (m .1)))
-
--- Once its places are reached the place that was asked for plays no part.
-next-reached : {A : Type 0} (test : A → Bool) (place place′ : ℕ) (l : List A) (at : ℕ) → place ≤ at → place′ ≤ at → next test place at l ≡ next test place′ at l
-unfolding next
-next-reached test place place′ [] at h h′ = refl
-next-reached test place place′ (x ∷ l) at h h′ =
-    let i = next-reached test place place′ l (suc at) (omega arith) (omega arith) in
-    rw (le-leb place at h, le-leb place′ at h′) (ap (cond (test x) (some at)) i)
-
--- A step that answers as the next one does begins the same walk; and calls that answer the same have the same walks.
-walks-earlier : (places : ℕ → Said (Option ℕ)) (parts : ℕ → List ℕ) (from on : ℕ) (rs : List (List ℕ)) → places from ≡ places on → parts from ≡ parts on → Walks places parts on rs → Walks places parts from rs
-walks-earlier places parts from on [] e q w = (e ∙ w .0, q ∙ w .1)
-walks-earlier places parts from on (r ∷ rs) e q w = (w .0, e ∙ w .1, q ∙ w .2, w .3)
-
-walks-same : (places places′ : ℕ → Said (Option ℕ)) (parts parts′ : ℕ → List ℕ) → ((k : ℕ) → places′ k ≡ places k) → ((k : ℕ) → parts′ k ≡ parts k)
-    → (from : ℕ) (rs : List (List ℕ)) → Walks places parts from rs → Walks places′ parts′ from rs
-walks-same places places′ parts parts′ e q from [] w = (e from ∙ w .0, q from ∙ w .1)
-walks-same places places′ parts parts′ e q from (r ∷ rs) w = (w .0, e from ∙ w .1, q from ∙ w .2, walks-same places places′ parts parts′ e q (w .0 + 1) rs (w .3))
-
--- There is one walk from a place.
-pub walks-once : (places : ℕ → Said (Option ℕ)) (parts : ℕ → List ℕ) (from : ℕ) (rs rs′ : List (List ℕ)) → Walks places parts from rs → Walks places parts from rs′ → rs ≡ rs′
-walks-once places parts from [] [] w w′ = refl
-walks-once places parts from [] (r ∷ rs) w w′ = absurd (let q : says none ≡ says (some (w′ .0)) = sym (w .0) ∙ w′ .1 in let z : _≡_ {A = ℕ} 0 1 = cc in omega arith)
-walks-once places parts from (r ∷ rs) [] w w′ = absurd (let q : says none ≡ says (some (w .0)) = sym (w′ .0) ∙ w .1 in let z : _≡_ {A = ℕ} 0 1 = cc in omega arith)
-walks-once places parts from (r ∷ rs) (r′ ∷ rs′) w w′ =
-    let q : says (some (w .0)) ≡ says (some (w′ .0)) = sym (w .1) ∙ w′ .1 in
-    let g : w .0 ≡ w′ .0 = cc in
-    let h : r ≡ r′ = sym (w .2) ∙ w′ .2 in
-    let i = walks-once places parts (w .0 + 1) rs rs′ (w .3) (walks-earlier places parts (w .0 + 1) (w′ .0 + 1) rs′ (ap (λ (k : ℕ). places (k + 1)) g) (ap (λ (k : ℕ). parts (k + 1)) g) (w′ .3)) in
-    cc
-
--- A walk over a list whose elements the parts are.
-module _ (recs : List (List ℕ)) (test : List ℕ → Bool) (part-at : Said (Option ℕ) → List ℕ) (nothing : part-at (says none) ≡ [])
-    (found : (k : ℕ) (x : List ℕ) (l : List (List ℕ)) → drop k recs ≡ x ∷ l → part-at (says (some k)) ≡ x) where
-  abbrev places : ℕ → Said (Option ℕ)
-  places k = says (next test k 0 recs)
-
-  abbrev parts : ℕ → List ℕ
-  parts k = part-at (says (next test k 0 recs))
-
-  drop-next : (from : ℕ) (x : List ℕ) (l : List (List ℕ)) → drop from recs ≡ x ∷ l → drop (from + 1) recs ≡ l
-  drop-next from x l e =
-      let h : length (x ∷ l) ≡ length recs - from = sym (ap length e) ∙ length-drop from recs in
-      let g : getD recs from x ∷ drop (suc from) recs ≡ x ∷ l = sym (drop-cons recs from x (omega arith)) ∙ e in
-      let w : drop (suc from) recs ≡ l = cc in
-      rw (add-one from) w
-
-  at-place : (from : ℕ) (l : List (List ℕ)) → drop from recs ≡ l → next test from 0 recs ≡ next test from from l
-  at-place from l e = next-drop test from from recs 0 (omega arith) ∙ ap (next test from from) e
-
-  pub walk-from : (l : List (List ℕ)) (from : ℕ) → drop from recs ≡ l → Walks places parts from (keep test l)
-  unfolding keep next
-  walk-from [] from e = let q = ap says (at-place from [] e) in (q, ap part-at q ∙ nothing)
-  walk-from (x ∷ l) from e =
-      let i = walk-from l (from + 1) (drop-next from x l e) in
-      let a = at-place from (x ∷ l) e in
-      split (test x)
-      (λ q.
-      let m : says (next test from 0 recs) ≡ says (some from) = ap says (a ∙ rw (le-leb from from (omega arith), q)) in
-      rw q (from, m, ap part-at m ∙ found from x l e, i))
-      (λ q.
-      let m : next test from 0 recs ≡ next test from (suc from) l = a ∙ rw (le-leb from from (omega arith), q) in
-      let j : next test (from + 1) 0 recs ≡ next test (from + 1) (suc from) l = at-place (from + 1) l (drop-next from x l e) ∙ ap (λ (k : ℕ). next test (from + 1) k l) (add-one from) in
-      let w : says (next test from 0 recs) ≡ says (next test (from + 1) 0 recs) = ap says (m ∙ next-reached test from (from + 1) l (suc from) (omega arith) (omega arith) ∙ sym j) in
-      rw q (walks-earlier places parts from (from + 1) (keep test l) w (ap part-at w) i))
+-- There is one walk over a store from a key.
+pub walks-once : (answer : Steps) (s : Store) (last : List ℕ) (rs rs′ : List (List ℕ)) → Walked answer last (turnsOn s rs) s → Walked answer last (turnsOn s rs′) s → rs ≡ rs′
+walks-once answer s last [] [] w w′ = refl
+walks-once answer s last [] (r ∷ rs) w w′ = absurd (let q : says none ≡ says (some r) = sym (w .1) ∙ w′ .0 .0 in let z : _≡_ {A = ℕ} 0 1 = cc in omega arith)
+walks-once answer s last (r ∷ rs) [] w w′ = absurd (let q : says none ≡ says (some r) = sym (w′ .1) ∙ w .0 .0 in let z : _≡_ {A = ℕ} 0 1 = cc in omega arith)
+walks-once answer s last (r ∷ rs) (r′ ∷ rs′) w w′ =
+    let q : says (some r) ≡ says (some r′) = sym (w .0 .0) ∙ w′ .0 .0 in
+    let g : r ≡ r′ = cc in
+    ap₂ _∷_ g (walks-once answer s (keyOf r) rs rs′ (w .0 .1, w .1) (subst (λ (x : List ℕ). Walked answer (keyOf x) (turnsOn s rs′) s) (sym g) (w′ .0 .1, w′ .1)))
 
 -- What records say, and the test of an entry as one of its record.
 module _ (ns : List ℕ) (test : Stored → Bool) where
   abbrev of-record : List ℕ → Bool
   of-record r = test (stored Spt field ns r)
 
-  next-contents : (place : ℕ) (recs : List (List ℕ)) (at : ℕ) → next test place at (contents Spt field ns recs) ≡ next of-record place at recs
-  unfolding next
-  next-contents place [] at = refl
-  next-contents place (r ∷ rs) at = rw (next-contents place rs (suc at))
-
   contents-keep : (recs : List (List ℕ)) → contents Spt field ns (keep of-record recs) ≡ keep test (contents Spt field ns recs)
   unfolding keep
   contents-keep [] = refl
   contents-keep (r ∷ rs) = let h = contents-keep rs in split (test (stored Spt field ns r)) (λ q. rw q (ap (stored Spt field ns r ∷_) h)) (λ q. rw q h)
 
--- (a) A listing, of an area or of a range: one law over the test.
+-- The first that a test holds of, where it fails of all before some.
+first-behind : {A : Type 0} (p : A → Bool) (pre l : List A) → ((x : A) → x ∈ pre → p x ≡ false) → firstThat p (pre ++ l) ≡ firstThat p l
+unfolding firstThat
+first-behind p [] l h = refl
+first-behind p (a ∷ pre) l h = rw (h a (here refl)) (first-behind p pre l λ x m. h x (there m))
+
+first-alike : {A : Type 0} (p q : A → Bool) (l : List A) → ((x : A) → x ∈ l → p x ≡ q x) → firstThat p l ≡ firstThat q l
+unfolding firstThat
+first-alike p q [] h = refl
+first-alike p q (a ∷ l) h = ap₂ (λ (b : Bool) r. cond b (some a) r) (h a (here refl)) (first-alike p q l λ x m. h x (there m))
+
+-- (a) A listing of one store, of an area or of a range: one law over the test.
 module _ (s : Store) (b : Bool) (test : Stored → Bool) (z : readRefusal field s b ≡ 0) where
   abbrev recs : List (List ℕ)
-  recs = records (s .state .count) (dirOf Spt s) (treeOf field Spt s)
+  recs = sptRecords field s
+
+  abbrev wants : List ℕ → Bool
+  wants = of-record (s .state .«namespace_id») test
+
+  abbrev may : (last : List ℕ) → List ℕ → Bool
+  may last = qualifies field (s .state .«namespace_id») test last
+
+  abbrev steps : Steps
+  steps s last = listed field s (listRefusal field s b last) test last
 
   passes : Passed s
   passes = read-tested s b z .0
 
-  abbrev at-match : Said (Option ℕ) → List ℕ
-  at-match l = partOf field s l
+  ascends : Ascends keyBelow recs
+  ascends = passes .ordered Spt .ascends
 
-  no-part : at-match (says none) ≡ []
-  unfolding partOf part
-  no-part = refl
+  -- From a key that may be remembered, where no record before some qualifies and all from there on are above the key: the first of these that is wanted.
+  answers : (last : List ℕ) → isRemembered field last ≡ true → (pre rest : List (List ℕ)) → recs ≡ pre ++ rest → ((r : List ℕ) → r ∈ pre → may last r ≡ false) → ((r : List ℕ) → r ∈ rest → keyAbove last r ≡ true)
+      → steps s last ≡ says (firstThat wants rest)
+  unfolding listed stepIn
+  answers last k pre rest e low high =
+      let n = list-passes s b last 0 (sym z) refl k in
+      let f : leastThat keyBelow (may last) recs ≡ firstThat wants rest
+      = least-first keyBelow key-weak (may last) recs ascends ∙ ap (firstThat (may last)) e ∙ first-behind (may last) pre rest low
+      ∙ first-alike (may last) wants rest (λ r m. ap (_&& wants r) (high r m)) in
+      rw (← n) (ap says f)
 
-  match-part : (k : ℕ) (x : List ℕ) (l : List (List ℕ)) → drop k recs ≡ x ∷ l → at-match (says (some k)) ≡ x
-  unfolding partOf part treeOf dirOf
-  match-part k x l e =
-      let v = formed-spt s passes in
-      let n = records-many (s .state .count) (dirOf Spt s) (treeOf field Spt s) (v .few) in
-      let h : length (x ∷ l) ≡ length recs - k = sym (ap length e) ∙ length-drop k recs in
-      let g : x ∷ l ≡ recordAt k (dirOf Spt s) (treeOf field Spt s) ∷ drop (k + 1) recs = sym e ∙ records-at (s .state .count) k (dirOf Spt s) (treeOf field Spt s) (v .few) (omega arith) in
-      let w : recordAt k (dirOf Spt s) (treeOf field Spt s) ≡ x = cc in
-      w
+  walk-from : (rest pre : List (List ℕ)) (last : List ℕ) → isRemembered field last ≡ true → recs ≡ pre ++ rest → ((r : List ℕ) → r ∈ pre → may last r ≡ false)
+      → ((r : List ℕ) → r ∈ rest → keyAbove last r ≡ true) → Walked steps last (turnsOn s (keep wants rest)) s
+  unfolding keep firstThat
+  walk-from [] pre last k e low high = (tt, answers last k pre [] e low high)
+  walk-from (x ∷ rest) pre last k e low high =
+      let a = answers last k pre (x ∷ rest) e low high in
+      let g : recs ≡ (pre ++ x ∷ []) ++ rest = e ∙ sym (append-assoc pre (x ∷ []) rest) in
+      let apart = ascends-around keyBelow pre x rest (subst (Ascends keyBelow) e ascends) in
+      split (wants x)
+      (λ q.
+      let i = walk-from rest (pre ++ x ∷ []) (keyOf x) (record-remembered s passes x (subst (x ∈_) (sym e) (in-right pre (here refl)))) g
+      (λ r m. ⊎-elim
+      (λ n. ap (_&& wants r) (not-above r x (apart .0 r n)))
+      (λ n. ap (_&& wants r) (subst (λ (y : List ℕ). keyAbove (keyOf x) y ≡ false) (sym (only n)) (above-self x)))
+      (unappend pre m))
+      (λ r m. below-above x r (apart .1 r m)) in
+      rw q ((rw q at a, i .0), i .1))
+      (λ q.
+      let i = walk-from rest (pre ++ x ∷ []) last k g
+      (λ r m. ⊎-elim (low r) (λ n. subst (λ (y : List ℕ). may last y ≡ false) (sym (only n)) (ap₂ _&&_ (high x (here refl)) q)) (unappend pre m))
+      (λ r m. high r (there m)) in
+      rw q i)
 
-  places-are : (k : ℕ) → listed field s (readRefusal field s b) test k ≡ says (next (of-record (s .state .«namespace_id») test) k 0 recs)
-  unfolding listed held
-  places-are k = rw (eq-eqb (readRefusal field s b) 0 z) (ap says (next-contents (s .state .«namespace_id») test k recs 0))
-
-  pub lists : Lists field s test (λ k. listed field s (readRefusal field s b) test k) (λ k. partOf field s (listed field s (readRefusal field s b) test k))
-  unfolding held treeOf dirOf
+  pub lists : Lists field s test steps
+  unfolding held
   lists = record {
-    walks = walks-same _ _ _ _ places-are (λ k. ap at-match (places-are k)) 0 (matching field s test)
-        (walk-from recs (of-record (s .state .«namespace_id») test) at-match no-part match-part recs 0 refl);
-    ascends = keep-ascends keyBelow (of-record (s .state .«namespace_id») test) recs (passes .ordered Spt .ascends);
+    walks = walk-from recs [] [] (unfold isRemembered in refl) refl (λ r m. absurd (none-in m)) (λ r m. start-above s passes r m);
+    ascends = keep-ascends keyBelow wants recs ascends;
     entries = contents-keep (s .state .«namespace_id») test recs;
   }
 
@@ -187,11 +145,11 @@ module _ (s : Store) (b : Bool) (test : Stored → Bool) (z : readRefusal field 
   counts same alike = rw z (ap length (sym (keep-same test same alike (held field Spt s))) ∙ sym listing-length)
 
 pub area-lists : (s : Store) (area : Area) (ignore : QueryIgnoreParams) → areaRefusal field s area ≡ 0
-    → Lists field s (listedInArea area ignore) (areaListed field s area ignore) (areaPart field s area ignore)
+    → Lists field s (listedInArea area ignore) (λ s last. areaListed field s area ignore last)
 area-lists s area ignore z = lists s (legal field (area .path)) (listedInArea area ignore) z
 
 pub range-lists : (s : Store) (range : Range3d) (ignore : QueryIgnoreParams) → rangeRefusal field s range ≡ 0
-    → Lists field s (listedInRange range ignore) (rangeListed field s range ignore) (rangePart field s range ignore)
+    → Lists field s (listedInRange range ignore) (λ s last. rangeListed field s range ignore last)
 range-lists s range ignore z = lists s (legalRange field (range .paths)) (listedInRange range ignore) z
 
 pub area-counts : (s : Store) (area : Area) → areaRefusal field s area ≡ 0 → areaCounted field s area .count ≡ length (matching field s (listedInArea area noFlags))

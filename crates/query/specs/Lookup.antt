@@ -5,6 +5,7 @@ use mathlib.Core.Option.{Option, some, none}
 use mathlib.Core.Bool.{true, false, cond}
 use lib.ListN.{replicate}
 use lib.Dec.{eqb}
+use Rattle.laws.specs.First.{firstThat}
 use Rattle.data_model.specs.Path.{Figures, Components, components, legal}
 use Rattle.data_model.specs.Entry.{noEntry}
 use Rattle.data_model.specs.declared.«entry_origin».EntryOrigin.the-variants.{Local}
@@ -16,7 +17,6 @@ use Rattle.data_model.specs.declared.«query_ignore_params».QueryIgnoreParams.
 use Rattle.tree.specs.declared.stored.KeyOrder.the-variants.{Spt}
 use Rattle.tree.specs.declared.stored.LengthyAuthorisedEntry.{LengthyAuthorisedEntry}
 use Rattle.store.specs.Store.{Store, held}
-use Rattle.store.specs.Ingest.{firstThat}
 use Rattle.query.specs.Reading.{readRefusal}
 use Rattle.query.specs.declared.answer.EntryFound.{EntryFound}
 

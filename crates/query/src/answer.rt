@@ -10,11 +10,20 @@ pub struct EntryFound {
     pub lengthy: LengthyAuthorisedEntry,
 }
 
-// The place of a listing's next match; or there is none; or the refusal.
+// What a step of a listing says: it gave a record; or the listing is finished; or the refusal.
 pub enum Listed {
-    Match(usize),
+    Found,
     Finished,
     Refused(u8),
+}
+
+// A step of a listing: refusal 0, whether it gave a record, and where that lies in the subspace-first tree, as offset and length; or the refusal. Where no record is
+// given all else is 0.
+pub struct ListingStep {
+    pub refusal: u8,
+    pub found: bool,
+    pub offset: usize,
+    pub length: usize,
 }
 
 // Refusal 0 and the count; or the refusal and 0.

@@ -1,5 +1,5 @@
-// The store's reading half. The public entries are `entry::entry`, `listing::query_area`, `listing::query_area_place`, `listing::query_range`,
-// `listing::query_range_place`, `count::count_area`, `count::summarise` and `interest::area_of_interest_to_range`: they have no `requires`,
+// The store's reading half. The public entries are `entry::entry`, `listing::query_area`, `listing::query_area_found`, `listing::query_range`,
+// `listing::query_range_found`, `listing::record_key`, `count::count_area`, `count::summarise` and `interest::area_of_interest_to_range`: they have no `requires`,
 // are lent the store's buffers shared, and write nothing.
 pub mod answer;
 pub mod check;
@@ -7,3 +7,4 @@ pub mod count;
 pub mod entry;
 pub mod interest;
 pub mod listing;
+pub mod step;

@@ -57,13 +57,12 @@ fn tell_range(r: plain::input::PlainRange) {
     tell(t.open as u64);
 }
 
-// A listing's answer: the refusal, the match's place, where its record lies, and the record.
+// A listing's answer: the refusal, whether a record was found, where it lies, and the record.
 fn tell_match(l: PlainListed, p: PlainPart, a: &[u8]) {
     let from = p.offset;
     let n = p.length;
     tell(l.refusal as u64);
     tell(l.found as u64);
-    tell(l.place as u64);
     tell(from as u64);
     tell(n as u64);
     if from <= a.len() {
@@ -198,25 +197,57 @@ fn find(q: &[u8], s: State, a: &[u8], b: &[u32], c: &[u8], d: &[u32], i: PlainIg
     tell(o.session);
 }
 
-// The next match of an area.
-fn list_area(q: &[u8], s: State, a: &[u8], b: &[u32], c: &[u8], d: &[u32], i: PlainIgnore) {
+// A step of an area's listing.
+fn list_area(
+    q: &[u8],
+    s: State,
+    a: &[u8],
+    b: &[u32],
+    c: &[u8],
+    d: &[u32],
+    i: PlainIgnore,
+    k: &[u8],
+) {
     let x = field::area(q);
-    let k = field::number(q, 35) as usize;
-    let l = reading::vb_query_area_place(s, a, b, c, d, x, i, k);
+    let l = reading::vb_query_area_found(s, a, b, c, d, x, i, k);
     let p = reading::vb_query_area(s, a, b, c, d, x, i, k);
     tell_match(l, p, a);
 }
 
-// The next match of a range.
-fn list_range(q: &[u8], s: State, a: &[u8], b: &[u32], c: &[u8], d: &[u32], i: PlainIgnore) {
+// A step of a range's listing.
+fn list_range(
+    q: &[u8],
+    s: State,
+    a: &[u8],
+    b: &[u32],
+    c: &[u8],
+    d: &[u32],
+    i: PlainIgnore,
+    k: &[u8],
+) {
     let x = field::range(q);
-    let k = field::number(q, 35) as usize;
-    let l = reading::vb_query_range_place(s, a, b, c, d, x, i, k);
+    let l = reading::vb_query_range_found(s, a, b, c, d, x, i, k);
     let p = reading::vb_query_range(s, a, b, c, d, x, i, k);
     tell_match(l, p, a);
 }
 
-// 5 finds an entry, 6 and 7 the next match of an area and of a range, 8 and 9 count them, a is an area of interest, b tells the buffers.
+// A step of a listing, from the key k: 6 is of an area, else of a range.
+fn step(q: &[u8], s: State, a: &[u8], b: &[u32], c: &[u8], d: &[u32], i: PlainIgnore, k: &[u8]) {
+    if field::number(q, 0) == 6 {
+        list_area(q, s, a, b, c, d, i, k);
+    } else {
+        list_range(q, s, a, b, c, d, i, k);
+    }
+}
+
+// A step of a listing, from the key in field 35.
+fn list(q: &[u8], s: State, a: &[u8], b: &[u32], c: &[u8], d: &[u32], i: PlainIgnore) {
+    let mut buffer = [0u8; field::LAST_MOST];
+    let n = field::last(q, &mut buffer);
+    step(q, s, a, b, c, d, i, &buffer[..n]);
+}
+
+// 5 finds an entry, 6 and 7 make a step of an area's and of a range's listing, 8 and 9 count the entries of an area and of a range, a is an area of interest, b tells the buffers.
 pub fn look(q: &[u8], s: State, a: &[u8], b: &[u32], c: &[u8], d: &[u32], e: &[u8]) {
     let i = PlainIgnore {
         incomplete_payloads: field::flag(q, 33),
@@ -224,8 +255,8 @@ pub fn look(q: &[u8], s: State, a: &[u8], b: &[u32], c: &[u8], d: &[u32], e: &[u
     };
     match field::number(q, 0) {
         5 => find(q, s, a, b, c, d, i),
-        6 => list_area(q, s, a, b, c, d, i),
-        7 => list_range(q, s, a, b, c, d, i),
+        6 => list(q, s, a, b, c, d, i),
+        7 => list(q, s, a, b, c, d, i),
         8 => tell_count(reading::vb_count_area(s, a, b, c, d, field::area(q))),
         9 => tell_count(reading::vb_summarise(s, a, b, c, d, field::range(q))),
         10 => {

@@ -10,7 +10,7 @@ use plain::input::PlainRange;
 use plain::input::PlainTimes;
 use text::hex::read_hex;
 use text::line::nth_field;
-ghost use Prim.Native.Nat.{_<_};
+ghost use Prim.Native.Nat.{_≤_, _<_};
 
 // The number that the last 16 digits of a field spell.
 pub fn number(q: &[u8], k: usize) -> u64 {
@@ -86,6 +86,22 @@ pub fn origin(q: &[u8]) -> PlainOrigin {
         remote: flag(q, 34),
         session: number(q, 35),
     }
+}
+
+// How many bytes of a remembered key are read: two more than any key has.
+pub const LAST_MOST: usize = 300;
+
+// The key that a listing remembers, field 35, into a buffer; answers how many bytes it has.
+pub fn last(q: &[u8], out: &mut [u8]) -> usize
+    ensures { λ r. ⌜ r ≤ 300 ⌝ }
+{
+    let s = nth_field(q, 32, 35);
+    read_hex(s, out);
+    let n = s.len() / 2;
+    if LAST_MOST < n {
+        return LAST_MOST;
+    }
+    n
 }
 
 fn times(q: &[u8]) -> PlainTimes {

@@ -10,6 +10,7 @@ use lib.ListN.{length, take, drop, getD}
 use lib.Seq.{drop-cons}
 use lib.Dec.{ltb, leb}
 use borrow.Author.Tests.{ltb-true, ltb-false, leb-true, leb-false, lt-ltb, eq-eqb, ne-eqb}
+use Rattle.laws.specs.First.{firstThat}
 use Rattle.laws.specs.Prefix.{sameNumber, sameList}
 use Rattle.laws.specs.Sorted.{any, keep}
 use Rattle.laws.proofs.Truth.{split, clash}
@@ -29,7 +30,7 @@ use Rattle.tree.proofs.FormedLaws.{formed-bounds}
 use Rattle.tree.proofs.FormedContents.{formed-many, formed-next}
 use Rattle.store.specs.Store.{stateWith, Store, dirRoom, treeOf, dirOf, held, heldBy, holding, treeRoom, Tallied}
 use Rattle.store.specs.Refusal.{unless, _orElse_, talliedRefusal}
-use Rattle.store.specs.Ingest.{succeeds, is-obsolete, is-held, IngestSaid, Decision, refuse, obsolete, already, take-it, firstThat, decidedOf, decided, stays, outdatedAt, removedFrom, placeDecided, ingestRefusal, judged, plainAnswer, obsoleteAnswer, filed, filedIn, filing, carried, ingested}
+use Rattle.store.specs.Ingest.{succeeds, is-obsolete, is-held, IngestSaid, Decision, refuse, obsolete, already, take-it, decidedOf, decided, stays, outdatedAt, removedFrom, placeDecided, ingestRefusal, judged, plainAnswer, obsoleteAnswer, filed, filedIn, filing, carried, ingested}
 use Rattle.store.specs.Change.{Marked}
 use Rattle.store.specs.declared.state.State.{State}
 use Rattle.store.specs.declared.ingest.Ingestion.{Ingestion}

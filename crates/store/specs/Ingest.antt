@@ -9,6 +9,7 @@ use lib.Dec.{leb, ltb, eqb}
 use Rattle.laws.specs.Lists.{put}
 use Rattle.laws.specs.Order.{below, on}
 use Rattle.laws.specs.Prefix.{sameNumber, sameList}
+use Rattle.laws.specs.First.{firstThat}
 use Rattle.laws.specs.Sorted.{any, keep, insert}
 use Rattle.layout.specs.Layout.{records}
 use Rattle.layout.specs.Marks.{marksOf, firstMark, markedPairs}
@@ -85,11 +86,6 @@ pub data Decision : Type 0 where
   refuse : ℕ → Decision
   obsolete : Stored → Decision
   already take-it : Decision
-
--- The first that a test holds of.
-unfoldable pub firstThat : {A : Type 0} → (A → Bool) → List A → Option A
-firstThat p [] = none
-firstThat p (a ∷ l) = cond (p a) (some a) (firstThat p l)
 
 unfoldable pub decidedOf : Option Stored → Decision → Decision
 decidedOf (some x) d = obsolete x

@@ -20,11 +20,11 @@ use layout::directory::offset;
 use layout::directory::size;
 ghost use mathlib.Core.Path.{_≡_};
 ghost use mathlib.Core.Bool.{true};
-ghost use Prim.Native.Nat.{_+_, _≤_, _<_, _^_};
+ghost use Prim.Native.Nat.{_+_, _*_, _≤_, _<_, _^_};
 ghost use lib.ListN.{length};
 ghost use Rattle.laws.specs.Lists.{put};
 ghost use Rattle.laws.specs.Parts.{partBegins};
-ghost use Rattle.layout.specs.Layout.{CutsOut, recordAt, offsetAt};
+ghost use Rattle.layout.specs.Layout.{CutsOut, recordAt, offsetAt, lengthAt};
 ghost use Rattle.data_model.specs.Path.{field, legal, components};
 ghost use Rattle.data_model.specs.Origin.{originSession};
 ghost use Rattle.keys.specs.Encode.{triple, keyMost, encodedSays};
@@ -106,6 +106,22 @@ pub fn record_at<'a>(tree: &'a [u8], dir: &[u32], k: usize) -> &'a [u8]
     ensures { λ r. ⌜ partBegins (tree .entry .ptr) (r .ptr) (offsetAt k (now (dir .entry))) ⌝ }
 {
     layout::directory::record_at(tree, dir, k)
+}
+
+// Where record k begins in the tree.
+pub fn record_offset(dir: &[u32], k: usize) -> usize
+    requires { ⌜ 2 * k + 1 < length (now dir) ⌝ }
+    ensures { λ r. ⌜ r ≡ offsetAt k (now (dir .entry)) ⌝ }
+{
+    offset(dir, k)
+}
+
+// How many bytes record k has.
+pub fn record_length(dir: &[u32], k: usize) -> usize
+    requires { ⌜ 2 * k + 1 < length (now dir) ⌝ }
+    ensures { λ r. ⌜ r ≡ lengthAt k (now (dir .entry)) ⌝ }
+{
+    size(dir, k)
 }
 
 pub fn key_at<'a>(tree: &'a [u8], dir: &[u32], k: usize) -> &'a [u8]

@@ -1,9 +1,12 @@
 -- The wrapped calls' equations, carried over to plain values. Assumes nothing.
-use Prim.Native.Nat.{ℕ}
+use Prim.Native.Nat.{ℕ, _-_}
 use mathlib.Core.Path.{_≡_, ap, _∙_}
 use mathlib.Core.Bool.{Bool, _&&_}
 use mathlib.Core.List.{List}
 use mathlib.Core.Option.{Option}
+use native.Mathlib.Omega.{arith}
+use lib.ListN.{length, take, drop}
+use lib.Seq.{length-take-le}
 use Rattle.data_model.specs.Said.{Said}
 use Rattle.data_model.specs.Path.{field, legal, components}
 use Rattle.data_model.specs.Area.{areaIncludes}
@@ -15,6 +18,8 @@ use Rattle.data_model.specs.declared.parameters.Subspace.{Subspace}
 use Rattle.data_model.specs.declared.path.Path.{Path}
 use Rattle.data_model.specs.declared.«range_3d».Range3d.{Range3d}
 use Rattle.data_model.specs.declared.«query_ignore_params».QueryIgnoreParams.{QueryIgnoreParams}
+use Rattle.tree.specs.Stored.{Stored, keyOf}
+use Rattle.tree.specs.Value.{valueLength}
 use Rattle.store.specs.Store.{Store, Tallied}
 use Rattle.store.specs.Ingest.{IngestSaid, ingestedSays, ingestOutcome, ingested}
 use Rattle.store.specs.declared.ingest.Ingestion.{Ingestion}
@@ -22,10 +27,12 @@ use Rattle.store.specs.Forget.{areaForgotten, ForgetAreaOutcome}
 use Rattle.pairs.specs.Pairs.{pairsOf, pairsOutcome, pairsIngested}
 use Rattle.pairs.specs.declared.Pair.{Pair}
 use Rattle.pairs.specs.declared.NumbersIngested.{NumbersIngested}
-use Rattle.query.specs.Listing.{areaListed, areaPart, rangeListed, rangePart, part, partOf, offsetOf}
-use Rattle.query.proofs.FoundLaws.{part-listed}
+use Rattle.query.specs.Reading.{listRefusal}
+use Rattle.query.specs.Listing.{listed, areaListed, rangeListed, isFound, partOf, offsetOf, stepTold}
+use Rattle.query.specs.declared.answer.ListingStep.{ListingStep}
+use Rattle.query.proofs.GivenLaws.{part-bytes}
 use Rattle.plain.specs.Answer.{plainAnswer, plainListed, plainIngested, plainNumbers}
-use Rattle.plain.specs.Part.{plainPart}
+use Rattle.plain.specs.Part.{plainPart, plainStep}
 use Rattle.plain.specs.declared.answer.PlainAnswer.{PlainAnswer}
 use Rattle.plain.specs.declared.answer.PlainListed.{PlainListed}
 use Rattle.plain.specs.declared.answer.PlainIngested.{PlainIngested}
@@ -57,24 +64,28 @@ pub range-told : (a a′ : Range3d) → a ≡ a′ → (u : Subspace) (p : Path)
 range-told a a′ ea u p t w ew r er =
     er ∙ ap plainAnswer (ew ∙ ap (λ (x : Range3d). answered (legalRange field (x .paths) && legal field p) (rangeIncludes x u (components p) t)) ea)
 
--- A listing over any test that two values give: read, the answer plain, and where the record lies.
-module _ (s : Store) (l l′ : Said (Option ℕ)) (el : l ≡ l′) where
-  pub listed-told : (r : PlainListed) → r ≡ plainListed l → r ≡ plainListed l′
-  listed-told r er = er ∙ ap plainListed el
+-- A step of a listing: what is handed read, the answer plain, and where the record lies.
+module _ (l l′ : Said (Option (List ℕ))) (el : l ≡ l′) where
+  pub listed-told : (g : Said Bool) → g ≡ isFound l → (r : PlainListed) → r ≡ plainListed g → r ≡ plainListed (isFound l′)
+  listed-told g eg r er = er ∙ ap plainListed (eg ∙ ap isFound el)
 
-  pub part-named : (r : PlainPart) → r ≡ plainPart (offsetOf (s .sptDir) l) (part field (s .state .limit) (s .sptDir) (s .spt) l) → r ≡ plainPart (offsetOf (s .sptDir) l′) (partOf field s l′)
-  unfolding partOf
-  part-named r er = er ∙ ap (λ (x : Said (Option ℕ)). plainPart (offsetOf (s .sptDir) x) (partOf field s x)) el
+  pub part-told : (s : Store) (t : ListingStep) → t ≡ stepTold field s l → (r : PlainPart) → r ≡ plainStep t → r ≡ plainPart (offsetOf field s l′) (partOf l′)
+  part-told s t et r er = er ∙ ap plainStep et ∙ ap (λ (x : Said (Option (List ℕ))). plainPart (offsetOf field s x) (partOf x)) el
 
-module _ (s : Store) (i i′ : QueryIgnoreParams) (ei : i ≡ i′) (place : ℕ) (l : Said (Option ℕ)) where
-  pub same-area : (a a′ : Area) → a ≡ a′ → l ≡ areaListed field s a i place → l ≡ areaListed field s a′ i′ place
-  same-area a a′ ea el = el ∙ ap (λ (x : Area). areaListed field s x i place) ea ∙ ap (λ (x : QueryIgnoreParams). areaListed field s a′ x place) ei
+pub part-lies : (s : Store) (b : Bool) (test : Stored → Bool) (last : List ℕ) (l′ : Said (Option (List ℕ))) → listed field s (listRefusal field s b last) test last ≡ l′
+    → (t : ListingStep) → t ≡ stepTold field s (listed field s (listRefusal field s b last) test last) → (r : PlainPart) → r ≡ plainStep t → take (r .length) (drop (r .offset) (s .spt)) ≡ partOf l′
+part-lies s b test last l′ el t et r er = ap (λ (x : PlainPart). take (x .length) (drop (x .offset) (s .spt))) er ∙ part-bytes s b test last t et ∙ ap partOf el
 
-  pub same-range : (a a′ : Range3d) → a ≡ a′ → l ≡ rangeListed field s a i place → l ≡ rangeListed field s a′ i′ place
-  same-range a a′ ea el = el ∙ ap (λ (x : Range3d). rangeListed field s x i place) ea ∙ ap (λ (x : QueryIgnoreParams). rangeListed field s a′ x place) ei
+module _ (s : Store) (i i′ : QueryIgnoreParams) (ei : i ≡ i′) (last : List ℕ) where
+  pub same-area : (a a′ : Area) → a ≡ a′ → areaListed field s a i last ≡ areaListed field s a′ i′ last
+  same-area a a′ ea = ap (λ (x : Area). areaListed field s x i last) ea ∙ ap (λ (x : QueryIgnoreParams). areaListed field s a′ x last) ei
 
-  pub area-part : (a a′ : Area) → a ≡ a′ → l ≡ areaListed field s a i place → (r : List ℕ) → r ≡ part field (s .state .limit) (s .sptDir) (s .spt) l → r ≡ areaPart field s a′ i′ place
-  area-part a a′ ea el r er = part-listed s l (areaListed field s a′ i′ place) (same-area a a′ ea el) r er
+  pub same-range : (a a′ : Range3d) → a ≡ a′ → rangeListed field s a i last ≡ rangeListed field s a′ i′ last
+  same-range a a′ ea = ap (λ (x : Range3d). rangeListed field s x i last) ea ∙ ap (λ (x : QueryIgnoreParams). rangeListed field s a′ x last) ei
 
-  pub range-part : (a a′ : Range3d) → a ≡ a′ → l ≡ rangeListed field s a i place → (r : List ℕ) → r ≡ part field (s .state .limit) (s .sptDir) (s .spt) l → r ≡ rangePart field s a′ i′ place
-  range-part a a′ ea el r er = part-listed s l (rangeListed field s a′ i′ place) (same-range a a′ ea el) r er
+-- A record's key as a part of the record.
+pub key-told : (r key : List ℕ) → key ≡ keyOf r → record { offset = 0; length = length key } ≡ plainPart 0 (keyOf r)
+key-told r key e = ap (plainPart 0) e
+
+pub key-lies : (r key : List ℕ) → key ≡ keyOf r → take (length key) (drop 0 r) ≡ keyOf r
+key-lies r key e = ap (λ (k : List ℕ). take (length k) r) e ∙ ap (λ (n : ℕ). take n r) (length-take-le (length r - valueLength) r (omega arith))

@@ -10,12 +10,12 @@ pub mod rows;
 ghost use mathlib.Core.Path.{_≡_};
 
 // Raised with every change of an export, of its form or of what it answers; `VB_EDITION` of the header it was made with.
-pub const EDITION: u32 = 6;
+pub const EDITION: u32 = 7;
 
 // The edition of the archive, to be compared with the header's.
 #[no_mangle]
 pub extern "C" fn vb_edition() -> u32
-    ensures { λ r. ⌜ r ≡ 6 ⌝ }
+    ensures { λ r. ⌜ r ≡ 7 ⌝ }
 {
     EDITION
 }

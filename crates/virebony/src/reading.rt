@@ -22,15 +22,19 @@ use query::count::count_area;
 use query::count::summarise;
 use query::entry::entry;
 use query::interest::area_of_interest_to_range;
-use query::listing::query_area_place;
-use query::listing::query_range_place;
+use query::listing::query_area_found;
+use query::listing::query_range_found;
+use query::listing::record_key;
+use query::step::area_step;
+use query::step::range_step;
 use store::state::State;
 ghost use mathlib.Core.Path.{_≡_};
 ghost use lib.ListN.{take, drop};
 ghost use Rattle.data_model.specs.Path.{field};
+ghost use Rattle.tree.specs.Stored.{keyOf};
 ghost use Rattle.store.specs.Store.{storeOf};
 ghost use Rattle.query.specs.Lookup.{entryFound};
-ghost use Rattle.query.specs.Listing.{areaListed, areaPart, areaOffset, rangeListed, rangePart, rangeOffset};
+ghost use Rattle.query.specs.Listing.{isFound, areaListed, areaPart, areaOffset, rangeListed, rangePart, rangeOffset};
 ghost use Rattle.query.specs.Count.{areaCounted, summarised};
 ghost use Rattle.query.specs.Interest.{interestRange};
 ghost use Rattle.plain.specs.Input.{areaOf, rangeOf, interestOf, ignoreOf};
@@ -57,9 +61,9 @@ pub extern "C" fn vb_find_entry(
     plain_found(entry(state, spt, spt_dir, tsp, tsp_dir, subspace, path, flags))
 }
 
-// `query::listing::query_area_place`: the place of an area's first match at or after a place, in key order.
+// `query::listing::query_area_found`: whether a step of an area's listing gives a record, or the listing is finished, or the refusal. `last` is the key that it remembers.
 #[no_mangle]
-pub extern "C" fn vb_query_area_place(
+pub extern "C" fn vb_query_area_found(
     state: State,
     spt: &[u8],
     spt_dir: &[u32],
@@ -67,16 +71,16 @@ pub extern "C" fn vb_query_area_place(
     tsp_dir: &[u32],
     area: PlainArea,
     ignore: PlainIgnore,
-    place: usize,
+    last: &[u8],
 ) -> PlainListed
-    ensures { λ r. ⌜ r ≡ plainListed (areaListed field (storeOf state (now (spt .entry)) (now («spt_dir» .entry)) (now (tsp .entry)) (now («tsp_dir» .entry))) (areaOf area) (ignoreOf ignore) place) ⌝ }
+    ensures { λ r. ⌜ r ≡ plainListed (isFound (areaListed field (storeOf state (now (spt .entry)) (now («spt_dir» .entry)) (now (tsp .entry)) (now («tsp_dir» .entry))) (areaOf area) (ignoreOf ignore) (now (last .entry)))) ⌝ }
 {
     let whole = area_of(area);
     let flags = ignore_of(ignore);
-    plain_listed(query_area_place(state, spt, spt_dir, tsp, tsp_dir, whole, flags, place))
+    plain_listed(query_area_found(state, spt, spt_dir, tsp, tsp_dir, whole, flags, last))
 }
 
-// The part that `query::listing::query_area` answers, as offset and length in the caller's subspace-first tree, by the match's place; no match or a refusal is 0 and 0.
+// The part that `query::listing::query_area` answers, as offset and length in the caller's subspace-first tree; finished or refused it is 0 and 0.
 #[no_mangle]
 pub extern "C" fn vb_query_area(
     state: State,
@@ -86,20 +90,19 @@ pub extern "C" fn vb_query_area(
     tsp_dir: &[u32],
     area: PlainArea,
     ignore: PlainIgnore,
-    place: usize,
+    last: &[u8],
 ) -> PlainPart
-    ensures { λ r. ⌜ r ≡ plainPart (areaOffset field (storeOf state (now (spt .entry)) (now («spt_dir» .entry)) (now (tsp .entry)) (now («tsp_dir» .entry))) (areaOf area) (ignoreOf ignore) place) (areaPart field (storeOf state (now (spt .entry)) (now («spt_dir» .entry)) (now (tsp .entry)) (now («tsp_dir» .entry))) (areaOf area) (ignoreOf ignore) place) ⌝ }
-    ensures { λ r. ⌜ take (r .length) (drop (r .offset) (now (spt .entry))) ≡ areaPart field (storeOf state (now (spt .entry)) (now («spt_dir» .entry)) (now (tsp .entry)) (now («tsp_dir» .entry))) (areaOf area) (ignoreOf ignore) place ⌝ }
+    ensures { λ r. ⌜ r ≡ plainPart (areaOffset field (storeOf state (now (spt .entry)) (now («spt_dir» .entry)) (now (tsp .entry)) (now («tsp_dir» .entry))) (areaOf area) (ignoreOf ignore) (now (last .entry))) (areaPart field (storeOf state (now (spt .entry)) (now («spt_dir» .entry)) (now (tsp .entry)) (now («tsp_dir» .entry))) (areaOf area) (ignoreOf ignore) (now (last .entry))) ⌝ }
+    ensures { λ r. ⌜ take (r .length) (drop (r .offset) (now (spt .entry))) ≡ areaPart field (storeOf state (now (spt .entry)) (now («spt_dir» .entry)) (now (tsp .entry)) (now («tsp_dir» .entry))) (areaOf area) (ignoreOf ignore) (now (last .entry)) ⌝ }
 {
     let whole = area_of(area);
     let flags = ignore_of(ignore);
-    let listed = query_area_place(state, spt, spt_dir, tsp, tsp_dir, whole, flags, place);
-    plain_part(state.limit, spt, spt_dir, listed)
+    plain_part(area_step(state, spt, spt_dir, tsp, tsp_dir, whole, flags, last))
 }
 
-// `query::listing::query_range_place`: the place of a 3d range's first match at or after a place, in key order.
+// `query::listing::query_range_found`: whether a step of a 3d range's listing gives a record, or the listing is finished, or the refusal. `last` is the key that it remembers.
 #[no_mangle]
-pub extern "C" fn vb_query_range_place(
+pub extern "C" fn vb_query_range_found(
     state: State,
     spt: &[u8],
     spt_dir: &[u32],
@@ -107,16 +110,16 @@ pub extern "C" fn vb_query_range_place(
     tsp_dir: &[u32],
     range: PlainRange,
     ignore: PlainIgnore,
-    place: usize,
+    last: &[u8],
 ) -> PlainListed
-    ensures { λ r. ⌜ r ≡ plainListed (rangeListed field (storeOf state (now (spt .entry)) (now («spt_dir» .entry)) (now (tsp .entry)) (now («tsp_dir» .entry))) (rangeOf range) (ignoreOf ignore) place) ⌝ }
+    ensures { λ r. ⌜ r ≡ plainListed (isFound (rangeListed field (storeOf state (now (spt .entry)) (now («spt_dir» .entry)) (now (tsp .entry)) (now («tsp_dir» .entry))) (rangeOf range) (ignoreOf ignore) (now (last .entry)))) ⌝ }
 {
     let whole = range_of(range);
     let flags = ignore_of(ignore);
-    plain_listed(query_range_place(state, spt, spt_dir, tsp, tsp_dir, whole, flags, place))
+    plain_listed(query_range_found(state, spt, spt_dir, tsp, tsp_dir, whole, flags, last))
 }
 
-// The part that `query::listing::query_range` answers, as offset and length in the caller's subspace-first tree, by the match's place; no match or a refusal is 0 and 0.
+// The part that `query::listing::query_range` answers, as offset and length in the caller's subspace-first tree; finished or refused it is 0 and 0.
 #[no_mangle]
 pub extern "C" fn vb_query_range(
     state: State,
@@ -126,15 +129,27 @@ pub extern "C" fn vb_query_range(
     tsp_dir: &[u32],
     range: PlainRange,
     ignore: PlainIgnore,
-    place: usize,
+    last: &[u8],
 ) -> PlainPart
-    ensures { λ r. ⌜ r ≡ plainPart (rangeOffset field (storeOf state (now (spt .entry)) (now («spt_dir» .entry)) (now (tsp .entry)) (now («tsp_dir» .entry))) (rangeOf range) (ignoreOf ignore) place) (rangePart field (storeOf state (now (spt .entry)) (now («spt_dir» .entry)) (now (tsp .entry)) (now («tsp_dir» .entry))) (rangeOf range) (ignoreOf ignore) place) ⌝ }
-    ensures { λ r. ⌜ take (r .length) (drop (r .offset) (now (spt .entry))) ≡ rangePart field (storeOf state (now (spt .entry)) (now («spt_dir» .entry)) (now (tsp .entry)) (now («tsp_dir» .entry))) (rangeOf range) (ignoreOf ignore) place ⌝ }
+    ensures { λ r. ⌜ r ≡ plainPart (rangeOffset field (storeOf state (now (spt .entry)) (now («spt_dir» .entry)) (now (tsp .entry)) (now («tsp_dir» .entry))) (rangeOf range) (ignoreOf ignore) (now (last .entry))) (rangePart field (storeOf state (now (spt .entry)) (now («spt_dir» .entry)) (now (tsp .entry)) (now («tsp_dir» .entry))) (rangeOf range) (ignoreOf ignore) (now (last .entry))) ⌝ }
+    ensures { λ r. ⌜ take (r .length) (drop (r .offset) (now (spt .entry))) ≡ rangePart field (storeOf state (now (spt .entry)) (now («spt_dir» .entry)) (now (tsp .entry)) (now («tsp_dir» .entry))) (rangeOf range) (ignoreOf ignore) (now (last .entry)) ⌝ }
 {
     let whole = range_of(range);
     let flags = ignore_of(ignore);
-    let listed = query_range_place(state, spt, spt_dir, tsp, tsp_dir, whole, flags, place);
-    plain_part(state.limit, spt, spt_dir, listed)
+    plain_part(range_step(state, spt, spt_dir, tsp, tsp_dir, whole, flags, last))
+}
+
+// The part that `query::listing::record_key` answers: a record's key, as offset, which is 0, and length in the bytes that were handed in. Of fewer bytes than a value has, nothing.
+#[no_mangle]
+pub extern "C" fn vb_record_key(rec: &[u8]) -> PlainPart
+    ensures { λ r. ⌜ r ≡ plainPart 0 (keyOf (now (rec .entry))) ⌝ }
+    ensures { λ r. ⌜ take (r .length) (drop (r .offset) (now (rec .entry))) ≡ keyOf (now (rec .entry)) ⌝ }
+{
+    let key = record_key(rec);
+    PlainPart {
+        offset: 0,
+        length: key.len(),
+    }
 }
 
 // `query::count::count_area`: how many entries an area includes.

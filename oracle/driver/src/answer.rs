@@ -32,13 +32,15 @@ pub enum Answer {
     /// The very entry is stored already.
     Held,
     Done,
-    /// There is no such entry to poke.
+    /// There is no such entry to poke, or no such listing open.
     Absent,
     Forgot(u64),
     Found(Option<Shown>),
     List(Vec<Shown>),
-    /// The place of the next match, or finished.
-    Next(Option<u64>),
+    /// A listing has begun.
+    Begun,
+    /// What a step of a listing gives, and its key as bytes; or finished.
+    Next(Option<(Shown, Vec<u8>)>),
     Count(u64),
     Size(u64),
     Range(Range3d),

@@ -283,8 +283,9 @@ fn rows(n: u32, subs: u32, shape: Shape, secs: f64, out: &mut Vec<Row>) {
     let b = best(secs, || (), |_| assert_eq!(block_on(rust.store.count_area(&one)), Ok(1)));
     push("count_area of one", a, b, check);
 
-    let mid = n as usize / 2;
-    let a = best(secs, || (), |_| assert_eq!(port.list(true, &any, 0, mid), Some(mid)));
+    // Behind the first half, by the key of its last record.
+    let half = port.records(false)[n as usize / 2 - 1..=n as usize / 2].to_vec();
+    let a = best(secs, || (), |_| assert_eq!(port.list(true, &any, 0, Port::key(half[0])), Some(half[1])));
     let b = best(secs, || (), |_| assert_eq!(rust.list(1), 1));
     push("one listing step", a, b, check);
 
@@ -292,16 +293,16 @@ fn rows(n: u32, subs: u32, shape: Shape, secs: f64, out: &mut Vec<Row>) {
         secs,
         || (),
         |_| {
-            let (mut from, mut found) = (0, 0);
-            while let Some(k) = port.list(true, &any, 0, from) {
+            let (mut last, mut found) = (&[][..], 0);
+            while let Some(record) = port.list(true, &any, 0, last) {
                 found += 1;
-                from = k + 1;
+                last = Port::key(record);
             }
             assert_eq!(found, n);
         },
     );
     let b = best(secs, || (), |_| assert_eq!(rust.list(usize::MAX), n as usize));
-    push("full listing", a, b, check * (n + 1) as f64);
+    push("full listing", a, b, check * (n + 2) as f64);
 
     let most = n as u64 / 4;
     let a = best(secs, || (), |_| assert_eq!(port.interest(true, &any, 0, most, u64::MAX), 101));

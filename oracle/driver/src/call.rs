@@ -15,9 +15,12 @@ pub enum Call {
     QueryArea(Area, Ignore),
     IncludedIn(Area, Ignore),
     QueryRange(Range3d, Ignore),
-    /// The place of the first match at or after a place.
-    NextInArea(Area, Ignore, u64),
-    NextInRange(Range3d, Ignore, u64),
+    /// A listing of this number begins (02, U7): it remembers the empty key. One of the same number that was open is given up.
+    Walk(u8, Query, Ignore),
+    /// A step of the listing of this number, from the key that it remembers.
+    More(u8),
+    /// A step from any bytes.
+    Next(Query, Ignore, Vec<u8>),
     Count(Area),
     Size(Range3d),
     /// The most entries, the most bytes.
@@ -53,6 +56,14 @@ pub enum Call {
     Existing,
     /// An entry whose token says yes so many times, and then no.
     Deny(u64, Entry, Token),
+}
+
+/// A listing that is open, with the last key that it gave: empty at its start.
+#[derive(Clone, Debug, PartialEq)]
+pub struct Walk {
+    pub query: Query,
+    pub ignore: Ignore,
+    pub last: Vec<u8>,
 }
 
 // Fields
@@ -157,6 +168,10 @@ fn triple(f: &[&str]) -> Option<Entry> {
     Some(entry(&[s, p, t, "0", "00"])?.0)
 }
 
+/// The number of a listing: a digit.
+fn listing(t: &str) -> Option<u8> {
+    number(t).filter(|n| *n < 10).map(|n| n as u8)
+}
 /// A key: pairs of hex digits, or - for no byte at all.
 fn raw(t: &str) -> Option<Vec<u8>> {
     if t == "-" { Some(vec![]) } else { hex(t).filter(|v| !v.is_empty()) }
@@ -194,8 +209,11 @@ pub fn call(line: &str) -> Option<Call> {
         ("qarea", 6) => Call::QueryArea(area(&f[..4])?, flags(&f[4..])?),
         ("iarea", 6) => Call::IncludedIn(area(&f[..4])?, flags(&f[4..])?),
         ("qrange", 8) => Call::QueryRange(range(&f[..6])?, flags(&f[6..])?),
-        ("narea", 7) => Call::NextInArea(area(&f[..4])?, flags(&f[4..])?, number(f[6])?),
-        ("nrange", 9) => Call::NextInRange(range(&f[..6])?, flags(&f[6..])?, number(f[8])?),
+        ("walka", 7) => Call::Walk(listing(f[0])?, Query::Area(area(&f[1..5])?), flags(&f[5..])?),
+        ("walk", 9) => Call::Walk(listing(f[0])?, Query::Range(range(&f[1..7])?), flags(&f[7..])?),
+        ("more", 1) => Call::More(listing(f[0])?),
+        ("nexta", 7) => Call::Next(Query::Area(area(&f[..4])?), flags(&f[4..])?, raw(f[6])?),
+        ("next", 9) => Call::Next(Query::Range(range(&f[..6])?), flags(&f[6..])?, raw(f[8])?),
         ("count", 4) => Call::Count(area(f)?),
         ("size", 6) => Call::Size(range(f)?),
         ("aoi", 6) => Call::Aoi(area(&f[..4])?, number(f[4])?, number(f[5])?),
@@ -254,6 +272,21 @@ mod tests {
             assert_eq!(call(&format!("ingest 1 01 61 5 3 0a 07 {bad}")), None, "{bad}");
         }
         assert_eq!(call("in 01 61 5 3 0a 07 00 7"), None);
+    }
+    #[test]
+    fn listings() {
+        let all = Area { subspace: None, path: vec![], times: Range { start: 0, end: None } };
+        let range = Range3d { subspaces: Range { start: [0; 16], end: None }, paths: Range { start: vec![vec![0x61]], end: None }, times: Range { start: 0, end: Some(9) } };
+        let (none, both) = (Ignore { incomplete: false, empty: false }, Ignore { incomplete: true, empty: true });
+        for (line, wanted) in [
+            ("walka 0 * - 0 * 0 0", Call::Walk(0, Query::Area(all.clone()), none)), ("walk 9 00 * 61 * 0 9 1 1", Call::Walk(9, Query::Range(range.clone()), both)), ("more 3", Call::More(3)),
+            ("nexta * - 0 * 1 1 -", Call::Next(Query::Area(all), both, vec![])), ("next 00 * 61 * 0 9 0 0 0061ff", Call::Next(Query::Range(range), none, vec![0, 0x61, 255])),
+        ] {
+            assert_eq!(call(line), Some(wanted), "{line}");
+        }
+        for bad in ["walka 10 * - 0 * 0 0", "walka - * - 0 * 0 0", "walka * - 0 * 0 0", "walk 0 * - 0 * 0 0", "walka 0 00 * 61 * 0 9 0 0", "more", "more 00", "more 1 2", "nexta * - 0 * 0 0", "nexta * - 0 * 0 0 0", "next * - 0 * 0 0 -"] {
+            assert_eq!(call(bad), None, "{bad}");
+        }
     }
     #[test]
     fn arrivals() {

@@ -18,6 +18,7 @@ pub fn cut(answer: &Answer) -> Answer {
     match answer {
         Answer::Found(x) => Answer::Found(x.as_ref().map(bare)),
         Answer::List(l) => Answer::List(l.iter().map(bare).collect()),
+        Answer::Next(x) => Answer::Next(x.as_ref().map(|(x, key)| (bare(x), key.clone()))),
         Answer::Dump(a, b, items) => Answer::Dump(records(a), records(b), items.clone()),
         other => other.clone(),
     }

@@ -77,7 +77,11 @@ struct AreaForgotten {
 struct Listed {
     refusal: u8,
     found: u8,
-    place: usize,
+}
+#[repr(C)]
+struct Part {
+    offset: usize,
+    length: usize,
 }
 #[repr(C)]
 struct Counted {
@@ -131,10 +135,12 @@ extern "C" {
     fn vb_forget_entry(s: State, a: *mut u8, al: usize, b: *mut u32, bl: usize, c: *mut u8, cl: usize, d: *mut u32, dl: usize, t: *mut u8, tl: usize, subspace: Subspace, path: Path, expects: u8, digest: *const u8) -> Opened;
     fn vb_forget_area(s: State, a: *mut u8, al: usize, b: *mut u32, bl: usize, c: *mut u8, cl: usize, d: *mut u32, dl: usize, t: *mut u8, tl: usize, area: Area, protects: u8, protected: Area) -> AreaForgotten;
     fn vb_count_area(s: State, a: *const u8, al: usize, b: *const u32, bl: usize, c: *const u8, cl: usize, d: *const u32, dl: usize, area: Area) -> Counted;
-    fn vb_query_area_place(s: State, a: *const u8, al: usize, b: *const u32, bl: usize, c: *const u8, cl: usize, d: *const u32, dl: usize, area: Area, ignore: Ignore, place: usize) -> Listed;
+    fn vb_query_area_found(s: State, a: *const u8, al: usize, b: *const u32, bl: usize, c: *const u8, cl: usize, d: *const u32, dl: usize, area: Area, ignore: Ignore, last: *const u8, ll: usize) -> Listed;
+    fn vb_query_area(s: State, a: *const u8, al: usize, b: *const u32, bl: usize, c: *const u8, cl: usize, d: *const u32, dl: usize, area: Area, ignore: Ignore, last: *const u8, ll: usize) -> Part;
+    fn vb_record_key(record: *const u8, len: usize) -> Part;
     fn vb_area_of_interest_to_range(s: State, a: *const u8, al: usize, b: *const u32, bl: usize, c: *const u8, cl: usize, d: *const u32, dl: usize, interest: Interest) -> AreaRange;
 }
-const EDITION: u32 = 6;
+const EDITION: u32 = 7;
 
 /// A record's key and value, read: what a call is handed.
 #[derive(Clone, Copy)]
@@ -253,11 +259,20 @@ impl Port {
         assert_eq!(r.refusal, 0);
         r.count
     }
-    /// The place of the next match.
-    pub fn list(&self, any: bool, at: &Place, start: u64, place: usize) -> Option<usize> {
-        let r = call!(vb_query_area_place, self.state, self, Port::area(any, at, start), Ignore(0, 0), place);
-        assert_eq!(r.refusal, 0);
-        (r.found == 1).then_some(r.place)
+    /// The record of the next match behind a key, as it lies in the tree; at the end the second call is asked whether that is one.
+    pub fn list(&self, any: bool, at: &Place, start: u64, last: &[u8]) -> Option<&[u8]> {
+        let r = call!(vb_query_area, self.state, self, Port::area(any, at, start), Ignore(0, 0), last.as_ptr(), last.len());
+        if r.length == 0 {
+            let r = call!(vb_query_area_found, self.state, self, Port::area(any, at, start), Ignore(0, 0), last.as_ptr(), last.len());
+            assert_eq!((r.refusal, r.found), (0, 0));
+            return None;
+        }
+        Some(&self.spt[r.offset..r.offset + r.length])
+    }
+    /// The key of a record.
+    pub fn key(record: &[u8]) -> &[u8] {
+        let r = unsafe { vb_record_key(record.as_ptr(), record.len()) };
+        &record[r.offset..r.offset + r.length]
     }
     /// Where the range's times start.
     pub fn interest(&self, any: bool, at: &Place, start: u64, max_count: u64, max_size: u64) -> u64 {

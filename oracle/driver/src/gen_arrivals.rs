@@ -111,9 +111,9 @@ impl Gen {
             83..=85 => Call::IncludedIn(self.a.area_around(&e), self.incomplete()),
             86..=87 => Call::QueryRange(self.a.range_around(&e), self.incomplete()),
             88..=89 => {
-                let (a, i) = (self.a.area_around(&e), self.incomplete());
-                let from = self.place(i, |e| a.includes(e));
-                Call::NextInArea(a, i, from)
+                let (q, i) = (Query::Area(self.a.area_around(&e)), self.incomplete());
+                let last = self.from(&q, i);
+                Call::Next(q, i, last)
             }
             90 => Call::Count(self.a.area_around(&e)),
             91 => Call::Dump,

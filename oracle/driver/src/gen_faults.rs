@@ -38,7 +38,8 @@ impl Gen {
             _ if self.kind == "arrivals" && on_store(call) && self.a.r.one_in(40) => return self.one_tree(),
             // An origin that is none, or another in one tree; a tree that has no room for origins.
             _ if self.kind == "origins" && on_store(call) && self.a.r.one_in(if matches!(call, Call::Ingest(..) | Call::Entry(..)) { 16 } else { 3 }) => return self.wrong_origin(),
-            _ if !on_store(call) || !self.a.r.one_in(14) => return Front::Plain,
+            // Often beside a step from any key, so that what is wrong with the key meets it.
+            _ if !on_store(call) || !self.a.r.one_in(if self.kind == "listings" && matches!(call, Call::Next(..)) { 4 } else { 14 }) => return Front::Plain,
             _ => {}
         }
         let limit = self.judge.store.limit.unwrap_or(1024);

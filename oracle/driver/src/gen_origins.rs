@@ -100,14 +100,14 @@ impl Gen {
             74..=77 => Call::IncludedIn(self.a.area_around(&e), self.a.ignore()),
             78..=80 => Call::QueryRange(self.a.range_around(&e), self.a.ignore()),
             81..=83 => {
-                let (a, i) = (self.a.area_around(&e), self.a.ignore());
-                let from = self.place(i, |e| a.includes(e));
-                Call::NextInArea(a, i, from)
+                let (q, i) = (Query::Area(self.a.area_around(&e)), self.a.ignore());
+                let last = self.from(&q, i);
+                Call::Next(q, i, last)
             }
             84..=86 => {
-                let (r, i) = (self.a.range_around(&e), self.a.ignore());
-                let from = self.place(i, |e| r.includes(e));
-                Call::NextInRange(r, i, from)
+                let (q, i) = (Query::Range(self.a.range_around(&e)), self.a.ignore());
+                let last = self.from(&q, i);
+                Call::Next(q, i, last)
             }
             87..=88 => Call::Count(self.a.area_around(&e)),
             89..=90 => Call::Size(self.a.range_around(&e)),

@@ -2,7 +2,7 @@
 //! what is stored. KIND: `untied`, without ties among the entries that are handed in, so that the Rust stays the comparison
 //! (02, U3); `tied`, with many; `held`, mostly what is stored once more, or nearly; `full`, stores of up to 1,024 entries,
 //! filled and kept full; `values`, calls that need no store; `arrivals`, how much of a payload has arrived (gen_arrivals.rs);
-//! `origins`, where an entry came from (gen_origins.rs). The same seed gives the same steps.
+//! `origins`, where an entry came from (gen_origins.rs); `listings`, filing while listings are open (gen_listings.rs). The same seed gives the same steps.
 use crate::answer::Answer;
 use crate::call::Call;
 use crate::gen_any::Any;
@@ -12,7 +12,7 @@ use crate::rng::Rng;
 use crate::step::{Front, Step};
 use model::*;
 
-pub const KINDS: [&str; 7] = ["untied", "tied", "held", "full", "values", "arrivals", "origins"];
+pub const KINDS: [&str; 8] = ["untied", "tied", "held", "full", "values", "arrivals", "origins", "listings"];
 
 pub struct Gen {
     pub a: Any,
@@ -20,8 +20,10 @@ pub struct Gen {
     pub judge: Judge,
     /// Handed in since the last opening that was not refused.
     pub sent: Vec<Entry>,
-    /// Forgotten since then, with the origin that it had (`origins`).
+    /// Forgotten since then, with the origin that it had (`origins`, `listings`).
     pub gone: Vec<(Entry, EntryOrigin)>,
+    /// For the keys that listings go on from.
+    pub keys: Rng,
 }
 
 /// An ingestion whose origin is yet to be drawn.
@@ -35,6 +37,7 @@ impl Gen {
             "full" => &[1024, 1024, 1024, 1024, 1023, 700],
             "held" => &[1, 2, 2, 3, 4, 6, 8, 16, 32],
             "arrivals" | "origins" => &[1, 2, 3, 4, 6, 8, 12, 16, 24],
+            "listings" => &[2, 3, 4, 6, 8, 8, 12, 16, 24],
             _ => &[1, 2, 4, 8, 16, 24, 32, 48, 64, 64, 64, 64, 100, 200],
         };
         let namespace = if self.a.r.one_in(4) { [0; 16] } else { self.a.subspace() };
@@ -152,11 +155,15 @@ impl Gen {
         let size = r.of(&[u64::MAX, sum, sum, sum.saturating_sub(1), sum.saturating_sub(1), any, 0, u64::MAX - 1]);
         Call::Bent(Box::new(Call::Aoi(a, count, size)))
     }
-    /// A place to list from: often a record that does not match and has a match behind it, if there is one.
-    pub fn place(&mut self, ignore: Ignore, includes: impl Fn(&Entry) -> bool) -> u64 {
+    /// A key to list from: mostly that of the record before a place, and often a record stands there that does not match and has a match behind it, if there is one.
+    pub fn from(&mut self, query: &Query, ignore: Ignore) -> Vec<u8> {
+        let place = self.place(query, ignore);
+        self.key_before(place)
+    }
+    fn place(&mut self, query: &Query, ignore: Ignore) -> u64 {
         let list = self.judge.store.entries();
         let n = list.len() as u64;
-        let matches: Vec<bool> = list.iter().map(|x| includes(&x.entry) && !ignore.passes_over(x)).collect();
+        let matches: Vec<bool> = list.iter().map(|x| query.includes(&x.entry) && !ignore.passes_over(x)).collect();
         let last = matches.iter().rposition(|m| *m).unwrap_or(0);
         let gaps: Vec<u64> = (0..last).filter(|i| !matches[*i]).map(|i| i as u64).collect();
         if !gaps.is_empty() && !self.a.r.one_in(4) {
@@ -220,14 +227,14 @@ impl Gen {
             64..=65 => Call::Bent(Box::new(Call::QueryArea(self.a.area_around(&e), self.a.ignore()))),
             66..=69 => Call::QueryRange(self.a.range_around(&e), self.a.ignore()),
             70..=75 => {
-                let (a, i) = (self.a.area_around(&e), self.a.ignore());
-                let from = self.place(i, |e| a.includes(e));
-                Call::NextInArea(a, i, from)
+                let (q, i) = (Query::Area(self.a.area_around(&e)), self.a.ignore());
+                let last = self.from(&q, i);
+                Call::Next(q, i, last)
             }
             76..=80 => {
-                let (r, i) = (self.a.range_around(&e), self.a.ignore());
-                let from = self.place(i, |e| r.includes(e));
-                Call::NextInRange(r, i, from)
+                let (q, i) = (Query::Range(self.a.range_around(&e)), self.a.ignore());
+                let last = self.from(&q, i);
+                Call::Next(q, i, last)
             }
             81..=83 => Call::Count(self.a.area_around(&e)),
             84..=85 => Call::Size(self.a.range_around(&e)),
@@ -309,19 +316,20 @@ impl Gen {
             "held" => self.again(),
             "arrivals" => self.arrival(),
             "origins" => self.from_elsewhere(),
+            "listings" => self.scrolled(),
             _ => self.store_call(),
         }
     }
 }
 
 pub fn steps(seed: u64, n: u64, kind: &str) -> Vec<Step> {
-    let mut g = Gen { a: Any::new(seed), kind: kind.into(), judge: Judge { store: Store::closed(FIELD) }, sent: vec![], gone: vec![] };
-    // Numbers of their own for the origins, so that all else is what it would be without them.
+    let mut g = Gen { a: Any::new(seed), kind: kind.into(), judge: Judge::closed(), sent: vec![], gone: vec![], keys: Rng(!seed ^ 0x6e45_0000_0000_0000) };
+    // Numbers of their own for the origins, and for the keys above, so that all else is what it would be without them.
     let (mut out, mut origins) = (vec![], Rng(!seed ^ 0x0e16_1257_0000_0000));
     for i in 0..n {
         let mut call = if i == 0 && kind != "values" { g.open() } else { g.call() };
         if let Call::Ingest(_, _, _, origin) = &mut call {
-            if kind != "origins" {
+            if kind != "origins" && kind != "listings" {
                 *origin = any_origin(&mut origins);
             }
         }
@@ -333,7 +341,10 @@ pub fn steps(seed: u64, n: u64, kind: &str) -> Vec<Step> {
         // What the generator knows is what the call does where nothing is wrong with what it is handed.
         if front == Front::Plain && g.judge.exec(&call) == Answer::Opened {
             g.sent.clear();
-            g.gone.clear();
+            // A listing that is open outlives the store, and what was forgotten may come again.
+            if kind != "listings" {
+                g.gone.clear();
+            }
         }
         out.push(Step { call, front, salt });
     }
@@ -343,7 +354,7 @@ pub fn steps(seed: u64, n: u64, kind: &str) -> Vec<Step> {
 #[cfg(test)]
 mod tests {
     use super::*;
-    use crate::call::call;
+    use crate::call::{call, LINE};
     use crate::show::show_call;
 
     /// A call that a line can say whole is read back from it as it was.
@@ -351,8 +362,11 @@ mod tests {
     fn lines() {
         for kind in KINDS {
             for step in steps(7, 3000, kind) {
-                let read = call(&show_call(&step.call));
+                let line = show_call(&step.call);
+                let read = call(&line);
                 match step.call {
+                    // Two long paths and a long key.
+                    Call::Next(Query::Range(_), ..) if line.len() > LINE => assert!(read.is_none()),
                     // A line names no namespace for these, nor what is no part of a triple.
                     Call::Newer(..) | Call::InArea(..) | Call::InRange(..) => assert!(read.is_some()),
                     c => assert_eq!(read, Some(c)),

@@ -1,21 +1,40 @@
 //! The model, asked in the call language. Nothing is decided here.
 use crate::answer::{either, Answer};
-use crate::call::Call;
+use crate::call::{Call, Walk};
 use model::*;
+use std::collections::BTreeMap;
 
 pub struct Judge {
     pub store: Store,
+    /// The listings that are open, whatever store stands there by now.
+    pub walks: BTreeMap<u8, Walk>,
 }
 
 impl Judge {
+    fn of(store: Store) -> Judge {
+        Judge { store, walks: BTreeMap::new() }
+    }
     pub fn unlimited(bounds: Bounds) -> Judge {
-        Judge { store: Store::unlimited([0; 16], bounds) }
+        Judge::of(Store::unlimited([0; 16], bounds))
     }
     pub fn limited(limit: u64, bounds: Bounds) -> Judge {
-        Judge { store: Store::open([0; 16], limit, bounds).unwrap() }
+        Judge::of(Store::open([0; 16], limit, bounds).unwrap())
     }
-    fn list(&self, places: Vec<u64>) -> Answer {
-        Answer::List(places.into_iter().map(|i| self.store.entries()[i as usize].clone().into()).collect())
+    pub fn closed() -> Judge {
+        Judge::of(Store::closed(FIELD))
+    }
+    fn list(&self, query: &Query, ignore: Ignore) -> Answer {
+        either(self.store.list(query, ignore), |l| Answer::List(l.into_iter().map(Into::into).collect()))
+    }
+    fn next(&self, query: &Query, ignore: Ignore, last: &[u8]) -> Answer {
+        either(self.store.step(query, ignore, last), |x| Answer::Next(x.map(|x| (x.clone().into(), key(&x.entry, false)))))
+    }
+    /// A step of an open listing as a step from the key that it remembers; every other call as it is.
+    pub fn asked(&self, c: &Call) -> Call {
+        match c {
+            Call::More(w) => self.walks.get(w).map_or(c.clone(), |w| Call::Next(w.query.clone(), w.ignore, w.last.clone())),
+            c => c.clone(),
+        }
     }
     /// Of calls that need no store: 4 if one of the paths is illegal.
     fn legal(&self, paths: &[&Path], f: impl Fn() -> Answer) -> Answer {
@@ -37,15 +56,21 @@ impl Judge {
             Call::Unrecord(s, p, d) => either(self.store.forget_payload(s, p, d.as_ref()), |_| Answer::Done),
             Call::ForgetArea(a, protected) => either(self.store.forget_area(a, protected.as_ref()), Answer::Forgot),
             Call::Entry(s, p, ignore) => either(self.store.entry(s, p, *ignore), |x| Answer::Found(x.map(Into::into))),
-            Call::QueryArea(a, ignore) | Call::IncludedIn(a, ignore) => {
-                either(self.store.query_area(a, *ignore), |l| self.list(l))
+            Call::QueryArea(a, ignore) | Call::IncludedIn(a, ignore) => self.list(&Query::Area(a.clone()), *ignore),
+            Call::QueryRange(r, ignore) => self.list(&Query::Range(r.clone()), *ignore),
+            Call::Next(query, ignore, last) => self.next(query, *ignore, last),
+            Call::Walk(w, query, ignore) => {
+                self.walks.insert(*w, Walk { query: query.clone(), ignore: *ignore, last: vec![] });
+                Answer::Begun
             }
-            Call::QueryRange(r, ignore) => either(self.store.query_range(r, *ignore), |l| self.list(l)),
-            Call::NextInArea(a, ignore, from) => {
-                either(self.store.query_area(a, *ignore), |l| Answer::Next(l.into_iter().find(|i| i >= from)))
-            }
-            Call::NextInRange(r, ignore, from) => {
-                either(self.store.query_range(r, *ignore), |l| Answer::Next(l.into_iter().find(|i| i >= from)))
+            // Finished or refused, it remembers the same key as before.
+            Call::More(w) => {
+                let Call::Next(query, ignore, last) = self.asked(c) else { return Answer::Absent };
+                let answer = self.next(&query, ignore, &last);
+                if let (Answer::Next(Some((_, key))), Some(open)) = (&answer, self.walks.get_mut(w)) {
+                    open.last = key.clone();
+                }
+                answer
             }
             Call::Count(a) => either(self.store.count_area(a), Answer::Count),
             Call::Size(r) => either(self.store.summarise(r), Answer::Size),

@@ -10,6 +10,7 @@ pub mod gen_any;
 pub mod gen_arrivals;
 pub mod gen_faults;
 pub mod gen_keys;
+pub mod gen_listings;
 pub mod gen_origins;
 pub mod gen_steps;
 pub mod gen_values;

@@ -7,7 +7,7 @@
 //! oracle model [hall]       the call language, answered by the model of the papers; not the Rust
 //! oracle list model         the listing program over the model; not the Rust
 //! oracle like [hall]        the calls themselves, without those that the Rust answers `unlike` (for vectors/)
-//! oracle gen SEED N KIND    N random calls; KIND: in, shared, hall, wide, refusals, calls, keys, raw, untied, tied, held, full, values, arrivals, origins
+//! oracle gen SEED N KIND    N random calls; KIND: in, shared, hall, wide, refusals, calls, keys, raw, untied, tied, held, full, values, arrivals, origins, listings
 //! oracle bench              the Rust's speed
 //! oracle exhaust            all short sequences of a small set of ingests, the Rust beside the model
 //! oracle paths              successor and greater_but_not_prefixed against a walk over all short paths

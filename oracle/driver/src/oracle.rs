@@ -1,6 +1,6 @@
 //! ORACLE: the customer's Rust, called. Every answer below comes out of the unchanged files, but for what this driver
 //! does itself: the limit (refusal 8: the call is made, and taken back if the count then exceeds the limit), the names
-//! of the outcomes, `unlike` (README.md), `spt01` and `tsp01`, which are the model's and say so in their names, and
+//! of the outcomes, `unlike` (README.md), `spt01` and `tsp01`, which are the model's and say so in their names, `above`, which picks from a listing, and
 //! `resend` and `beside_ties`, which put back what 02's U2 and U3 want unchanged, and `compared`, which reckons pairs with the
 //! nine bytes of 02's U6.
 use crate::answer::{Answer, Shown};
@@ -9,7 +9,7 @@ use crate::convert::*;
 use crate::cuts;
 use crate::params::*;
 use crate::tally::counted;
-use model::{Bounds, Ignore, Pair, Recency, Token};
+use model::{Bounds, Ignore, Pair, Query, Recency, Token};
 use std::panic::{catch_unwind, AssertUnwindSafe};
 use std::rc::Rc;
 use ufotofu_codec::block_on;
@@ -106,11 +106,12 @@ impl<const MCL: usize, const MCC: usize, const MPL: usize> Oracle<MCL, MCC, MPL>
         l.retain(|x| a.includes_triplet(&Sub(x.entry.subspace), &path(&x.entry.path).unwrap(), x.entry.timestamp));
         l
     }
-    /// The place in the whole listing of the first of these entries at or after a place.
-    fn next(&self, listed: Vec<Shown>, from: u64) -> Answer {
-        let all = self.list();
-        let place = |x: &Shown| all.iter().position(|y| x == y).unwrap() as u64;
-        Answer::Next(listed.iter().map(place).find(|n| *n >= from))
+    /// The first of these entries, of a listing of the Rust's own, whose key in the Rust's own tree is above some bytes. The Rust has no step that begins at a key: this
+    /// driver picks it, and whether the bytes are a key is not asked.
+    fn above(&self, listed: Vec<Shown>, last: &[u8]) -> Answer {
+        let (all, records) = (self.list(), self.raw(false));
+        let key = |x: &Shown| records[all.iter().position(|y| x == y).unwrap()].0.to_vec();
+        Answer::Next(listed.into_iter().map(|x| { let k = key(&x); (x, k) }).find(|(_, k)| k[..] > *last))
     }
 
     /// Offset and length of each record of the subspace-first tree.
@@ -298,8 +299,9 @@ impl<const MCL: usize, const MCC: usize, const MPL: usize> Oracle<MCL, MCC, MPL>
             }
             Call::IncludedIn(a, i) => Answer::List(self.area_list(&area(a)?, *i)),
             Call::QueryRange(r, i) => Answer::List(self.range_list(&range(r)?, *i)),
-            Call::NextInArea(a, i, from) => self.next(self.area_list(&area(a)?, *i), *from),
-            Call::NextInRange(r, i, from) => self.next(self.range_list(&range(r)?, *i), *from),
+            Call::Next(Query::Area(a), i, last) => self.above(self.area_list(&area(a)?, *i), last),
+            Call::Next(Query::Range(r), i, last) => self.above(self.range_list(&range(r)?, *i), last),
+            Call::Walk(..) | Call::More(_) => Answer::Said("the Rust has no such call".into()),
             Call::Count(a) => Answer::Count(block_on(st.count_area(&area(a)?)).unwrap() as u64),
             Call::Size(r) => {
                 let r = range(r)?;

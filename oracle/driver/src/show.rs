@@ -86,7 +86,9 @@ pub fn show(a: &Answer) -> String {
             let lines: String = l.iter().map(|x| format!("\n{}", full(x))).collect();
             format!("list {}{lines}", l.len())
         }
-        Answer::Next(place) => place.map_or("finished".into(), |n| format!("next {n}")),
+        Answer::Begun => "begun".into(),
+        // The key is that of the subspace, path and time shown.
+        Answer::Next(x) => x.as_ref().map_or("finished".into(), |(x, _)| format!("found {}", full(x))),
         Answer::Count(n) => format!("count {n}"),
         Answer::Size(n) => format!("size {n}"),
         Answer::Range(r) => format!("range {}", range3d(r)),
@@ -129,8 +131,11 @@ pub fn show_call(c: &Call) -> String {
         Call::QueryArea(a, i) => format!("qarea {} {}", area(a), flags(i)),
         Call::IncludedIn(a, i) => format!("iarea {} {}", area(a), flags(i)),
         Call::QueryRange(r, i) => format!("qrange {} {}", range3d(r), flags(i)),
-        Call::NextInArea(a, i, n) => format!("narea {} {} {n}", area(a), flags(i)),
-        Call::NextInRange(r, i, n) => format!("nrange {} {} {n}", range3d(r), flags(i)),
+        Call::Walk(w, Query::Area(a), i) => format!("walka {w} {} {}", area(a), flags(i)),
+        Call::Walk(w, Query::Range(r), i) => format!("walk {w} {} {}", range3d(r), flags(i)),
+        Call::More(w) => format!("more {w}"),
+        Call::Next(Query::Area(a), i, k) => format!("nexta {} {} {}", area(a), flags(i), raw(k)),
+        Call::Next(Query::Range(r), i, k) => format!("next {} {} {}", range3d(r), flags(i), raw(k)),
         Call::Count(a) => format!("count {}", area(a)),
         Call::Size(r) => format!("size {}", range3d(r)),
         Call::Aoi(a, c, z) => format!("aoi {} {c} {z}", area(a)),

@@ -55,13 +55,19 @@ pub fn records(c: &Call) -> bool {
     matches!(c, Call::Record(..) | Call::Unrecord(..))
 }
 
+/// Whether the call is a step of a listing (02, U7), which the Rust has not.
+pub fn steps(c: &Call) -> bool {
+    matches!(c, Call::More(_) | Call::Next(..))
+}
+
 /// Whether the call is made on a store that is handed in.
 pub fn on_store(c: &Call) -> bool {
     match c {
         Call::Bent(c) => on_store(c),
         c if changes(c) || records(c) => true,
         Call::Entry(..) | Call::QueryArea(..) | Call::IncludedIn(..) => true,
-        Call::QueryRange(..) | Call::NextInArea(..) | Call::NextInRange(..) | Call::Count(..) | Call::Size(..) | Call::Aoi(..) => true,
+        Call::QueryRange(..) | Call::Count(..) | Call::Size(..) | Call::Aoi(..) => true,
+        c if steps(c) => true,
         _ => false,
     }
 }

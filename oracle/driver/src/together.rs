@@ -1,6 +1,6 @@
 //! together KIND FROM TO N ..: for each seed from FROM to TO, N random calls of that KIND go through the customer's Rust, the
 //! model and the port in one process (three/mod.rs). KIND: keys, raw, shared, wide, refusals (the call language's), untied,
-//! tied, held, full, values (gen_steps.rs), and arrivals (gen_arrivals.rs) and origins (gen_origins.rs), in which the Rust is not asked: it has not the calls. The kind `short` is not random: FROM and TO are of 1 to 32, and for each of these all
+//! tied, held, full, values (gen_steps.rs), and arrivals (gen_arrivals.rs), origins (gen_origins.rs) and listings (gen_listings.rs), in which the Rust is not asked: it has not the calls. The kind `short` is not random: FROM and TO are of 1 to 32, and for each of these all
 //! sequences of up to three of 32 ingests (walks.rs) that begin with it are made, each after an opening of limit N. Prints for each run
 //! how many calls were judged by whom, what was skipped and how many entries tie with one before, and then how often each thing occurred in
 //! all of them. Ends with 1 at the first difference, with the fewest steps that show one.
@@ -17,7 +17,7 @@ use std::collections::BTreeMap;
 
 const LINES: [&str; 5] = ["keys", "raw", "shared", "wide", "refusals"];
 /// Judged by the model alone, each with rows of its own.
-const ALONE: [&str; 2] = ["arrivals", "origins"];
+const ALONE: [&str; 3] = ["arrivals", "origins", "listings"];
 
 /// The steps of a seed, and how many lines were no call.
 fn steps(seed: u64, n: u64, kind: &str) -> (Vec<Step>, u64) {
@@ -88,7 +88,7 @@ fn main() {
     }
     let mut low = 0;
     let kinds: Vec<&str> = args.iter().step_by(4).copied().collect();
-    for (row, n) in table.all(kinds.contains(&ALONE[0]), kinds.contains(&ALONE[1]), kinds.iter().any(|k| !ALONE.contains(k))) {
+    for (row, n) in table.all(kinds.contains(&ALONE[0]), kinds.contains(&ALONE[1]), kinds.contains(&ALONE[2]), kinds.iter().any(|k| !ALONE.contains(k))) {
         let rare = n < least;
         low += rare as u64;
         println!("{n:>9}  {row}{}", if rare { "    HARDLY REACHED" } else { "" });

@@ -6,6 +6,7 @@ use crate::cuts::cut;
 use crate::judge::Judge;
 use crate::oracle::{Oracle, Way};
 use crate::show::show;
+use crate::step::steps;
 use model::Bounds;
 
 pub struct WithModel<const MCL: usize, const MCC: usize, const MPL: usize> {
@@ -39,8 +40,13 @@ impl<const MCL: usize, const MCC: usize, const MPL: usize> WithModel<MCL, MCC, M
         WithModel { rust: Oracle::compared(Default::default(), limit), judge }
     }
     pub fn exec(&mut self, call: &Call) -> Answers {
+        let asked = self.judge.asked(call);
         let model = self.judge.exec(call);
-        let (rust, way) = self.rust.beside(call, &model).unwrap_or_else(|words| panic!("{words}"));
+        // A listing that begins, a step of one that is not open and 5 are the model's alone.
+        if matches!(asked, Call::Walk(..) | Call::More(_)) || steps(&asked) && model == Answer::Refused(5) {
+            return Answers { rust: cut(&model), model, way: Way::Plain };
+        }
+        let (rust, way) = self.rust.beside(&asked, &model).unwrap_or_else(|words| panic!("{words}"));
         Answers { rust, model, way }
     }
     /// The Rust's answer, with the origins that it lacks where all else is the model's (cuts.rs); of a resend `held`, then ` back` if its trees were put back, then the Rust's own answer; beside ties, if they alter the answer, `tied`,

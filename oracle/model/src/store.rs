@@ -1,4 +1,4 @@
-//! A store as a list of entries in order of subspace, path and time, and document 01's calls on it, with 02's U1 to U4 and U6. A call that is
+//! A store as a list of entries in order of subspace, path and time, and document 01's calls on it, with 02's U1 to U4, U6 and U7. A call that is
 //! refused answers its number.
 use crate::*;
 
@@ -150,27 +150,29 @@ impl Store {
         self.refusal(&[p])?;
         Ok(self.place_of(s, p).map(|i| self.list[i].clone()).filter(|x| !ignore.passes_over(x)))
     }
-    fn matches(&self, ignore: Ignore, includes: impl Fn(&Entry) -> bool) -> Vec<u64> {
-        let shown = |i: &usize| includes(&self.list[*i].entry) && !ignore.passes_over(&self.list[*i]);
-        (0..self.list.len()).filter(shown).map(|i| i as u64).collect()
+    /// A whole listing: the matches in key order.
+    pub fn list(&self, query: &Query, ignore: Ignore) -> Result<Vec<Stored>, Refusal> {
+        self.refusal(&query.paths())?;
+        Ok(self.list.iter().filter(|x| query.includes(&x.entry) && !ignore.passes_over(x)).cloned().collect())
     }
-    /// The places of an area's matches, in key order.
-    pub fn query_area(&self, area: &Area, ignore: Ignore) -> Result<Vec<u64>, Refusal> {
-        self.refusal(&[&area.path])?;
-        Ok(self.matches(ignore, |e| area.includes(e)))
-    }
-    /// The places of a 3d range's matches, in key order.
-    pub fn query_range(&self, r: &Range3d, ignore: Ignore) -> Result<Vec<u64>, Refusal> {
-        self.refusal(&[Some(&r.paths.start), r.paths.end.as_ref()].into_iter().flatten().collect::<Vec<_>>())?;
-        Ok(self.matches(ignore, |e| r.includes(e)))
+    /// A step of a listing that remembers this key, at its start the empty one (02, U7): of the matches in the store as it is, the one of the least
+    /// subspace-first key above that one, by the keys' bytes; at the start the least of all. None: the listing is finished. 5 if what is remembered is
+    /// neither empty nor a key that the subspace-first encoder writes; its record need not be stored, nor match.
+    pub fn step(&self, query: &Query, ignore: Ignore, last: &[u8]) -> Result<Option<Stored>, Refusal> {
+        self.refusal(&query.paths())?;
+        if !last.is_empty() && self.bounds.decode(false, last).is_none() {
+            return Err(5);
+        }
+        let matches = self.list.iter().filter(|x| query.includes(&x.entry) && !ignore.passes_over(x));
+        Ok(matches.filter(|x| key(&x.entry, false)[..] > *last).min_by_key(|x| key(&x.entry, false)).cloned())
     }
     pub fn count_area(&self, area: &Area) -> Result<u64, Refusal> {
         let all = Ignore { incomplete: false, empty: false };
-        Ok(self.query_area(area, all)?.len() as u64)
+        Ok(self.list(&Query::Area(area.clone()), all)?.len() as u64)
     }
     pub fn summarise(&self, r: &Range3d) -> Result<u64, Refusal> {
         let all = Ignore { incomplete: false, empty: false };
-        Ok(self.query_range(r, all)?.len() as u64)
+        Ok(self.list(&Query::Range(r.clone()), all)?.len() as u64)
     }
     /// The matches in time-first order from the last: the times start at that of the first entry met that breaks a
     /// limit, else of the least match, else as given. A limit of 2^64 - 1 means none; a sum past it counts as over.

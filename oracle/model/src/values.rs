@@ -57,6 +57,13 @@ pub struct Range3d {
     pub times: Range<u64>,
 }
 
+/// What a listing is asked for: the entries of an area, or of a 3d range.
+#[derive(Clone, Debug, PartialEq, Eq)]
+pub enum Query {
+    Area(Area),
+    Range(Range3d),
+}
+
 /// The two flags of a query.
 #[derive(Clone, Copy, Debug, PartialEq, Eq)]
 pub struct Ignore {
@@ -79,6 +86,22 @@ impl Area {
 impl Range3d {
     pub fn includes(&self, e: &Entry) -> bool {
         self.subspaces.includes(&e.subspace) && self.paths.includes(&e.path) && self.times.includes(&e.timestamp)
+    }
+}
+
+impl Query {
+    pub fn includes(&self, e: &Entry) -> bool {
+        match self {
+            Query::Area(a) => a.includes(e),
+            Query::Range(r) => r.includes(e),
+        }
+    }
+    /// Its paths that are looked at.
+    pub fn paths(&self) -> Vec<&Path> {
+        match self {
+            Query::Area(a) => vec![&a.path],
+            Query::Range(r) => [Some(&r.paths.start), r.paths.end.as_ref()].into_iter().flatten().collect(),
+        }
     }
 }
 

@@ -186,10 +186,11 @@ fn listing() {
     assert!(matches!(s.ingest(&entry(p(&[&[0x62], &[0]]), 4, 3, 10), &TOKEN, false, LOCAL), Ok(Verdict::Obsolete(..))));
     assert_eq!(s.ingest(&deep, &TOKEN, false, LOCAL), Ok(Verdict::Taken(vec![])));
     assert!(matches!(s.ingest(&root, &TOKEN, false, LOCAL), Ok(Verdict::Taken(pruned)) if pruned.len() == 1));
-    assert_eq!(s.entries().iter().map(|x| x.entry.clone()).collect::<Vec<_>>(), [root, deep]);
+    assert_eq!(s.entries().iter().map(|x| x.entry.clone()).collect::<Vec<_>>(), [root.clone(), deep.clone()]);
     let all = Area { subspace: None, path: p(&[]), times: Range { start: 0, end: None } };
-    assert_eq!(s.query_area(&all, ALL), Ok(vec![0, 1]));
-    assert_eq!(s.query_area(&all, Ignore { empty: true, ..ALL }), Ok(vec![1]));
+    let listed = |ignore| s.list(&Query::Area(all.clone()), ignore).unwrap().into_iter().map(|x| x.entry).collect::<Vec<_>>();
+    assert_eq!(listed(ALL), [root, deep.clone()]);
+    assert_eq!(listed(Ignore { empty: true, ..ALL }), [deep]);
     assert_eq!(s.area_of_interest_to_range(&all, u64::MAX, 0).unwrap().times.start, 7);
     assert_eq!(s.area_of_interest_to_range(&all, u64::MAX, 1).unwrap().times.start, 6);
     assert_eq!(s.forget_area(&all, Some(&Area { path: p(&[&[0x61]]), ..all.clone() })), Ok(1));

@@ -197,7 +197,7 @@ fn lookups_and_listings() {
     assert_eq!([shown(&s, &[0x61], INCOMPLETE), shown(&s, &[0x62], INCOMPLETE)], [Some(Remote(7)), None]);
     assert_eq!(s.entry(&sub(1), &p(&[0x61; 9]), ALL), Err(4));
     assert_eq!(Store::closed(FIELD).entry(&sub(1), &p(&[0x61]), ALL), Err(1));
-    let all = Area { subspace: None, path: vec![], times: Range { start: 0, end: None } };
-    let ends: Vec<_> = s.query_area(&all, ALL).unwrap().into_iter().map(|i| record(&s.entries()[i as usize], false)).map(|r| r[r.len() - 9..].to_vec()).collect();
+    let all = Query::Area(Area { subspace: None, path: vec![], times: Range { start: 0, end: None } });
+    let ends: Vec<_> = s.list(&all, ALL).unwrap().into_iter().map(|x| record(&x, false)).map(|r| r[r.len() - 9..].to_vec()).collect();
     assert_eq!(ends, [[1, 0, 0, 0, 0, 0, 0, 0, 7], [1, 0, 0, 0, 0, 0, 0, 0, 8], [0; 9]]);
 }

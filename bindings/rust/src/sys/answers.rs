@@ -101,25 +101,23 @@ pub struct EntryFound {
     pub lengthy: LengthyEntry,
 }
 
-/// The place of a listing's next match.
+/// What a step of a listing says: refused; or a record was found; or, if both are 0, the listing is finished.
 #[repr(C)]
 #[derive(Clone, Copy, Debug, PartialEq, Eq)]
 pub struct Listed {
-    /// 0, or 1, 2, 3, 4.
+    /// 0, or 1, 2, 3, 4, 5.
     pub refusal: u8,
-    /// 1: there is a match.
+    /// 1: there is a record.
     pub found: u8,
-    /// Its place: a record's number from 0.
-    pub place: usize,
 }
 
-/// A part of the subspace-first tree: `spt[offset..offset + length]`.
+/// A part of what was lent: `lent[offset..offset + length]`, where `lent` is the subspace-first tree or, of [`record_key`](super::record_key), the record.
 #[repr(C)]
 #[derive(Clone, Copy, Debug, PartialEq, Eq)]
 pub struct Part {
     /// Where it begins.
     pub offset: usize,
-    /// How many bytes it has; 0: there is no match, or the call was refused.
+    /// How many bytes it has; 0: the listing is finished, or the call was refused, or the record has no key.
     pub length: usize,
 }
 
@@ -252,7 +250,7 @@ layout! {
     AvailableRecorded: 40, refusal 0, state 8;
     LengthyEntry: 368, entry 0, token 280, available 344, origin 352;
     EntryFound: 376, refusal 0, found 1, lengthy 8;
-    Listed: 16, refusal 0, found 1, place 8;
+    Listed: 2, refusal 0, found 1;
     Part: 16, offset 0, length 8;
     Counted: 16, refusal 0, count 8;
     AreaRange: 480, refusal 0, range 8;

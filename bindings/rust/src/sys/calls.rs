@@ -11,12 +11,12 @@ macro_rules! over_values {
     };
 }
 
-/// Calls over a key's bytes: pointer and count, then values.
-macro_rules! over_key {
-    ($($(#[$doc:meta])* $name:ident = $symbol:ident($($arg:ident: $type:ty),*) -> $answer:ty;)*) => {
-        extern "C" { $(fn $symbol(key: *const u8, key_len: usize, $($arg: $type),*) -> $answer;)* }
-        $($(#[$doc])* pub fn $name(key: &[u8], $($arg: $type),*) -> $answer {
-            unsafe { $symbol(key.as_ptr(), key.len(), $($arg),*) }
+/// Calls over the bytes of a key or of a record: pointer and count, then values.
+macro_rules! over_bytes {
+    ($bytes:ident; $($(#[$doc:meta])* $name:ident = $symbol:ident($($arg:ident: $type:ty),*) -> $answer:ty;)*) => {
+        extern "C" { $(fn $symbol($bytes: *const u8, len: usize, $($arg: $type),*) -> $answer;)* }
+        $($(#[$doc])* pub fn $name($bytes: &[u8], $($arg: $type),*) -> $answer {
+            unsafe { $symbol($bytes.as_ptr(), $bytes.len(), $($arg),*) }
         })*
     };
 }
@@ -31,17 +31,19 @@ macro_rules! into_key {
     };
 }
 
-/// Calls that read a store: `VB_CONST_BUFFERS`.
+/// Calls that read a store: `VB_CONST_BUFFERS`, values, then a lent slice if there is one.
 macro_rules! over_store {
-    ($($(#[$doc:meta])* $name:ident = $symbol:ident($($arg:ident: $type:ty),*) -> $answer:ty;)*) => {
+    ($($(#[$doc:meta])* $name:ident = $symbol:ident($($arg:ident: $type:ty),* $(; $lent:ident: [$element:ty])?) -> $answer:ty;)*) => {
         extern "C" {
             $(fn $symbol(state: State, spt: *const u8, spt_len: usize, spt_dir: *const u32, spt_dir_len: usize,
-                tsp: *const u8, tsp_len: usize, tsp_dir: *const u32, tsp_dir_len: usize, $($arg: $type),*) -> $answer;)*
+                tsp: *const u8, tsp_len: usize, tsp_dir: *const u32, tsp_dir_len: usize,
+                $($arg: $type,)* $($lent: *const $element, lent_len: usize)?) -> $answer;)*
         }
-        $($(#[$doc])* pub fn $name(state: State, store: Buffers<'_>, $($arg: $type),*) -> $answer {
+        $($(#[$doc])* pub fn $name(state: State, store: Buffers<'_>, $($arg: $type,)* $($lent: &[$element])?) -> $answer {
             let Buffers { spt, spt_dir, tsp, tsp_dir } = store;
             unsafe {
-                $symbol(state, spt.as_ptr(), spt.len(), spt_dir.as_ptr(), spt_dir.len(), tsp.as_ptr(), tsp.len(), tsp_dir.as_ptr(), tsp_dir.len(), $($arg),*)
+                $symbol(state, spt.as_ptr(), spt.len(), spt_dir.as_ptr(), spt_dir.len(), tsp.as_ptr(), tsp.len(), tsp_dir.as_ptr(), tsp_dir.len(),
+                    $($arg,)* $($lent.as_ptr(), $lent.len())?)
             }
         })*
     };
@@ -132,19 +134,26 @@ over_store! {
     /// The entry at a subspace and path, unless `ignore` passes over it. Refused: 1, 2, 3, 4.
     find_entry = vb_find_entry(subspace: Subspace, path: Path, ignore: Ignore) -> EntryFound;
 
-    /// The place of an area's first match at or after a place, in key order. A place is a record's number from 0, and any number is allowed: start at 0
-    /// and go on at the place found plus 1 until nothing is found. Refused: 1, 2, 3, 4.
-    query_area_place = vb_query_area_place(area: Area, ignore: Ignore, place: usize) -> Listed;
+    /// A step of an area's listing. A listing remembers the last key that it gave, at its start the empty one. A step answers the record of the least matching key
+    /// above `last`, as bytes, in the store as it then is: a part of the subspace-first tree, key then value; the last [`VALUE`] bytes are the value, where the
+    /// available length and the origin stand at [`VALUE_AVAILABLE`] and [`VALUE_ORIGIN`]. Then remember its key, which [`record_key`] gives, and go on until the
+    /// length is 0: the listing is finished, or the step was refused, and [`query_area_found`] says which.
+    ///
+    /// Entries may be filed and forgotten, and lengths recorded, between two steps. What is stored and matches all the while is given once; what first arrives at
+    /// or below the remembered key is not given; what is gone before its turn, and not filed again, is not given; no key is given twice. The key lies in the tree
+    /// that a filing writes, so it is copied before one files; [`crate::Listing`] does so.
+    ///
+    /// Refused: 1, 2, 3, 4, then 5 if `last` is neither empty nor a key that [`encode_spt_entry_key`] writes; no record of that key need be stored, or match.
+    query_area = vb_query_area(area: Area, ignore: Ignore; last: [u8]) -> Part;
 
-    /// The record of the match that [`query_area_place`] answers, key then value: its last [`VALUE`] bytes are the value, where the available length and the
-    /// origin stand at [`VALUE_AVAILABLE`] and [`VALUE_ORIGIN`]. No match, or refused as there: length 0.
-    query_area = vb_query_area(area: Area, ignore: Ignore, place: usize) -> Part;
+    /// Whether [`query_area`] finds a record; or refused as there; or, if both are 0, the listing is finished.
+    query_area_found = vb_query_area_found(area: Area, ignore: Ignore; last: [u8]) -> Listed;
 
-    /// The place of a 3d range's first match at or after a place, in key order, as [`query_area_place`] does for an area. Refused: 1, 2, 3, 4.
-    query_range_place = vb_query_range_place(range: Range, ignore: Ignore, place: usize) -> Listed;
+    /// A step of a 3d range's listing, as [`query_area`] is of an area's. Refused as there.
+    query_range = vb_query_range(range: Range, ignore: Ignore; last: [u8]) -> Part;
 
-    /// The record of the match that [`query_range_place`] answers, as [`query_area`] does for an area.
-    query_range = vb_query_range(range: Range, ignore: Ignore, place: usize) -> Part;
+    /// Whether [`query_range`] finds a record; or refused as there; or, if both are 0, the listing is finished.
+    query_range_found = vb_query_range_found(range: Range, ignore: Ignore; last: [u8]) -> Listed;
 
     /// How many entries an area includes. Refused: 1, 2, 3, 4.
     count_area = vb_count_area(area: Area) -> Counted;
@@ -203,7 +212,16 @@ into_key! {
     encode_tsp_entry_key = vb_encode_tsp_entry_key(subspace: Subspace, path: Path, timestamp: u64) -> Encoded;
 }
 
-over_key! {
+over_bytes! {
+    record;
+
+    /// The key of a record, which is all before its value: `record[..length]`, and the offset is 0. Of fewer bytes than a value has, nothing.
+    record_key = vb_record_key() -> Part;
+}
+
+over_bytes! {
+    key;
+
     /// The triple that a subspace-first key stands for. Refused: 5.
     decode_spt_entry_key = vb_decode_spt_entry_key() -> Decoded;
 

@@ -2,7 +2,7 @@
 use super::layout;
 
 /// The edition of `virebony.h` that this crate is written for; compare [`edition`](super::edition).
-pub const EDITION: u32 = 6;
+pub const EDITION: u32 = 7;
 /// Entries that a store may be opened for.
 pub const LIMIT_MOST: usize = 1024;
 /// Bytes of a record: a tree has so many for each entry of the limit.

@@ -105,14 +105,26 @@ pub fn refused_by_all(state: raw::State, lent: &mut raw::BuffersMut<'_>, at: raw
     assert_eq!(raw::forget_payload(state, &mut lent.as_trees(), subspace(1), at, 1, &[0; 32]), recorded);
     let lent = lent.as_buffers();
     assert_eq!(raw::find_entry(state, lent, subspace(1), at, ignore(0, 0)), shows_nothing(want));
-    let listed = raw::Listed { refusal: want, found: 0, place: 0 };
-    assert_eq!(raw::query_area_place(state, lent, all, ignore(0, 0), 0), listed);
-    assert_eq!(raw::query_range_place(state, lent, whole, ignore(0, 0), usize::MAX), listed);
-    assert_eq!(raw::query_area(state, lent, all, ignore(0, 0), 0), raw::Part { offset: 0, length: 0 });
-    assert_eq!(raw::query_range(state, lent, whole, ignore(0, 0), 0), raw::Part { offset: 0, length: 0 });
+    let listed = raw::Listed { refusal: want, found: 0 };
+    for last in [&[][..], &[0; 25], &[0; 26]] {
+        // From the start, from bytes that are no key, and from a key.
+        assert_eq!(raw::query_area_found(state, lent, all, ignore(0, 0), last), listed);
+        assert_eq!(raw::query_range_found(state, lent, whole, ignore(0, 0), last), listed);
+        assert_eq!(raw::query_area(state, lent, all, ignore(0, 0), last), raw::Part { offset: 0, length: 0 });
+        assert_eq!(raw::query_range(state, lent, whole, ignore(0, 0), last), raw::Part { offset: 0, length: 0 });
+    }
     assert_eq!(raw::count_area(state, lent, all), raw::Counted { refusal: want, count: 0 });
     assert_eq!(raw::summarise(state, lent, whole), raw::Counted { refusal: want, count: 0 });
     assert_eq!(raw::area_of_interest_to_range(state, lent, interest), raw::AreaRange { refusal: want, range: raw::Range::default() });
+}
+
+/// A subspace-first key.
+pub fn key(low: u64, text: &str, timestamp: u64) -> Vec<u8> {
+    let mut out = vec![0xee; raw::KEY_MOST];
+    let written = raw::encode_spt_entry_key(subspace(low), path(text), timestamp, &mut out);
+    assert_eq!(written.refusal, 0);
+    out.truncate(written.length);
+    out
 }
 
 /// A store's state and its buffers.
@@ -161,6 +173,16 @@ impl Kept {
     pub fn trees(&mut self) -> raw::Trees<'_> {
         let Kept { spt, spt_dir, tsp, tsp_dir, .. } = self;
         raw::Trees { spt, spt_dir, tsp, tsp_dir }
+    }
+
+    /// Where the record in a place of the subspace-first tree lies.
+    pub fn part(&self, place: usize) -> raw::Part {
+        raw::Part { offset: self.spt_dir[2 * place] as usize, length: self.spt_dir[2 * place + 1] as usize }
+    }
+
+    /// The bytes of a part of the subspace-first tree.
+    pub fn record(&self, part: raw::Part) -> &[u8] {
+        &self.spt[part.offset..part.offset + part.length]
     }
 
     /// Files an entry as local.

@@ -2,9 +2,10 @@
 pub mod spell;
 pub mod values;
 use crate::answer::{Answer, Shown};
-use crate::call::Call;
+use crate::call::{Call, Walk};
 use model::*;
 use spell::*;
+use std::collections::BTreeMap;
 use values::{area_range, strict};
 use virebony::raw;
 
@@ -76,6 +77,15 @@ impl Buffers {
 pub struct Port {
     pub state: raw::State,
     pub buffers: Buffers,
+    /// The listings that are open, each with a copy of the last key that it gave.
+    pub walks: BTreeMap<u8, Walk>,
+}
+
+/// What a listing is asked for, as the door takes it.
+#[derive(Clone, Copy)]
+enum Asked {
+    Area(raw::Area),
+    Range(raw::Range),
 }
 
 impl Port {
@@ -147,20 +157,30 @@ impl Port {
             }
             Call::Entry(sub, p, i) => self.found(raw::find_entry(h.state, self.buffers.shared(h.lengths), subspace(sub), s.path(p), s.ignore(*i))),
             Call::QueryArea(a, i) | Call::IncludedIn(a, i) => {
-                let (a, i) = (s.area(a), s.ignore(*i));
-                self.list(h, |b, n| (raw::query_area_place(h.state, b, a, i, n), raw::query_area(h.state, b, a, i, n)))
+                let (a, i) = (Asked::Area(s.area(a)), s.ignore(*i));
+                Answer::List(self.list(h, a, i, salt)?)
             }
             Call::QueryRange(r, i) => {
-                let (r, i) = (s.range(r), s.ignore(*i));
-                self.list(h, |b, n| (raw::query_range_place(h.state, b, r, i, n), raw::query_range(h.state, b, r, i, n)))
+                let (r, i) = (Asked::Range(s.range(r)), s.ignore(*i));
+                Answer::List(self.list(h, r, i, salt)?)
             }
-            Call::NextInArea(a, i, n) => {
-                let (a, i, n, b) = (s.area(a), s.ignore(*i), *n as usize, self.buffers.shared(h.lengths));
-                Answer::Next(self.next(raw::query_area_place(h.state, b, a, i, n), raw::query_area(h.state, b, a, i, n), n)?)
+            Call::Next(q, i, last) => {
+                let (q, i) = (s.query(q), s.ignore(*i));
+                Answer::Next(self.next(h, q, i, last)?.map(|(x, key)| (x, key.to_vec())))
             }
-            Call::NextInRange(r, i, n) => {
-                let (r, i, n, b) = (s.range(r), s.ignore(*i), *n as usize, self.buffers.shared(h.lengths));
-                Answer::Next(self.next(raw::query_range_place(h.state, b, r, i, n), raw::query_range(h.state, b, r, i, n), n)?)
+            Call::Walk(w, query, ignore) => {
+                self.walks.insert(*w, Walk { query: query.clone(), ignore: *ignore, last: vec![] });
+                Answer::Begun
+            }
+            // What is remembered is the key that the port says the record has, copied before anything else is filed.
+            Call::More(w) => {
+                let Some(open) = self.walks.get(w) else { return Ok(Answer::Absent) };
+                let (q, i) = (s.query(&open.query), s.ignore(open.ignore));
+                let given = self.next(h, q, i, &open.last)?.map(|(x, key)| (x, key.to_vec()));
+                if let (Some((_, key)), Some(open)) = (&given, self.walks.get_mut(w)) {
+                    open.last = key.clone();
+                }
+                Answer::Next(given)
             }
             Call::Count(a) => counted(raw::count_area(h.state, self.buffers.shared(h.lengths), s.area(a)), Answer::Count),
             Call::Size(r) => counted(raw::summarise(h.state, self.buffers.shared(h.lengths), s.range(r)), Answer::Size),
@@ -215,40 +235,52 @@ impl Port {
             (n, _, _, _) => strict(got, raw::EntryFound { refusal: n, found: 0, lengthy: none }, Answer::Refused(n)),
         }
     }
-    /// The place of a match, if there is one; its part must be the record of that place, and empty if there is none.
-    fn next(&self, got: raw::Listed, part: raw::Part, from: usize) -> Result<Option<u64>, Answer> {
+    /// Both calls of a step: whether there is a record, and where it lies.
+    fn step(&self, h: Handed, q: Asked, i: raw::Ignore, last: &[u8]) -> (raw::Listed, raw::Part) {
+        let b = self.buffers.shared(h.lengths);
+        match q {
+            Asked::Area(a) => (raw::query_area_found(h.state, b, a, i, last), raw::query_area(h.state, b, a, i, last)),
+            Asked::Range(r) => (raw::query_range_found(h.state, b, r, i, last), raw::query_range(h.state, b, r, i, last)),
+        }
+    }
+    /// What a step gives, by the model's reading of the record, and the record's key, which lies in the tree. The part must be a record of the directory, and empty if there is none.
+    fn next(&self, h: Handed, q: Asked, i: raw::Ignore, last: &[u8]) -> Result<Option<(Shown, &[u8])>, Answer> {
+        let (got, part) = self.step(h, q, i, last);
         let stray = Err(Answer::Said(format!("stray: {got:?} {part:?}")));
         let empty = part == raw::Part { offset: 0, length: 0 };
         match got {
-            raw::Listed { refusal: 0, found: 1, place } if place >= from && place < self.state.count => {
-                let pair = [part.offset, part.length];
-                if self.buffers.spt_dir[2 * place..2 * place + 2].iter().zip(pair).all(|(a, b)| *a as usize == b) { Ok(Some(place as u64)) } else { stray }
+            raw::Listed { refusal: 0, found: 1 } => {
+                if !self.buffers.spt_dir[..2 * self.state.count].chunks(2).any(|p| [p[0] as usize, p[1] as usize] == [part.offset, part.length]) {
+                    return stray;
+                }
+                let record = &self.buffers.spt[part.offset..part.offset + part.length];
+                let key = raw::record_key(record);
+                match read_record(self.state.namespace_id, record, false) {
+                    Some(x) if key.offset + key.length <= record.len() => Ok(Some((x.into(), &record[key.offset..key.offset + key.length]))),
+                    _ => Err(Answer::Said(format!("no record in {part:?}, or no key in {key:?}"))),
+                }
             }
-            raw::Listed { refusal: 0, found: 0, place: 0 } if empty => Ok(None),
-            raw::Listed { refusal, found: 0, place: 0 } if refusal != 0 && empty => Err(Answer::Refused(refusal)),
+            raw::Listed { refusal: 0, found: 0 } if empty => Ok(None),
+            raw::Listed { refusal, found: 0 } if refusal != 0 && empty => Err(Answer::Refused(refusal)),
             _ => stray,
         }
     }
-    /// The entry of a record, by the model's reading.
-    fn record(&self, place: usize) -> Option<Stored> {
-        let (at, len) = (self.buffers.spt_dir[2 * place] as usize, self.buffers.spt_dir[2 * place + 1] as usize);
-        read_record(self.state.namespace_id, &self.buffers.spt[at..at + len], false)
-    }
-    /// A whole listing, from place 0 on.
-    fn list(&self, h: Handed, ask: impl Fn(raw::Buffers, usize) -> (raw::Listed, raw::Part)) -> Answer {
-        let (mut out, mut from) = (vec![], 0);
-        loop {
-            let (listed, part) = ask(self.buffers.shared(h.lengths), from);
-            match self.next(listed, part, from) {
-                Ok(Some(place)) => match self.record(place as usize) {
-                    Some(x) => out.push(x.into()),
-                    None => return Answer::Said(format!("no record at place {place}")),
-                },
-                Ok(None) => return Answer::List(out),
-                Err(a) => return a,
+    /// A whole listing, from the empty key on. Nothing writes the tree meanwhile, so what is remembered is often the key as it lies there, and else a copy.
+    fn list(&self, h: Handed, q: Asked, i: raw::Ignore, salt: u64) -> Result<Vec<Shown>, Answer> {
+        let (mut out, mut last, mut copy): (Vec<Shown>, &[u8], Vec<u8>);
+        (out, last) = (vec![], &[]);
+        while let Some((x, key)) = self.next(h, q, i, last)? {
+            out.push(x);
+            if out.len() > self.state.count {
+                return Err(Answer::Said("a listing of more than there is".into()));
             }
-            from = listed.place + 1;
+            last = key;
+            if salt % 3 == 0 {
+                copy = key.to_vec();
+                last = &copy;
+            }
         }
+        Ok(out)
     }
 }
 

@@ -133,6 +133,12 @@ impl Spell {
         let paths = raw::Paths { start, end, open: self.yes(r.paths.end.is_none()) };
         raw::Range { subspaces, paths, times: self.times(&r.times) }
     }
+    pub(super) fn query(&mut self, q: &Query) -> super::Asked {
+        match q {
+            Query::Area(a) => super::Asked::Area(self.area(a)),
+            Query::Range(r) => super::Asked::Range(self.range(r)),
+        }
+    }
     pub fn ignore(&mut self, i: Ignore) -> raw::Ignore {
         raw::Ignore { incomplete_payloads: self.yes(i.incomplete), empty_payloads: self.yes(i.empty) }
     }

@@ -1,8 +1,11 @@
 //! The customer's Rust, the model and the port in one process, call by call. Answers are compared as values; after every
 //! call the port's state, both trees, both directories, the tally, the prune list and what lies beyond the bounds are compared
 //! byte for byte with what the model says, and the Rust's trees record by record, but for the origins that it has not (cuts.rs), with the tally that is
-//! counted in them. In a run that makes a call of 02's U4, which the Rust has not, the Rust is not asked, and the model judges alone.
+//! counted in them. In a run that makes a call of 02's U4, which the Rust has not, the Rust is not asked, and the model judges alone; so it does where a listing's
+//! step begins at a key (02, U7), and there the Rust's own listing of that moment, if it is asked at all, must have the same entry first above that key. What a
+//! listing that is held open gives is held against 02's four sentences about it too (listings.rs).
 pub mod arrivals;
+pub mod listings;
 pub mod origins;
 pub mod reading;
 pub mod run;
@@ -15,8 +18,9 @@ use crate::oracle::{Oracle, Way};
 use crate::params::Ns;
 use crate::port::{Buffers, Handed, Port};
 use crate::rng::Rng;
-use crate::step::{changes, on_store, Front, Step};
+use crate::step::{changes, on_store, steps, Front, Step};
 use crate::tally::counted;
+use listings::Listings;
 use model::*;
 use virebony::raw;
 
@@ -24,7 +28,7 @@ use virebony::raw;
 #[derive(Clone, Copy, Debug, PartialEq, Eq, PartialOrd, Ord)]
 pub enum Judged {
     ByBoth,
-    /// The Rust has not this: refusals 1, 2, 3, 10; a store that was not opened; decoding by 01; a run that makes a call of 02's U4.
+    /// The Rust has not this: refusals 1, 2, 3, 10; a store that was not opened; decoding by 01; a step of a listing; a run that makes a call of 02's U4.
     ByModel,
     /// The Rust's answer differs and is meant to: docs/DIFFERENCES.md 1.2 (`successor` carries) or 5 (the sum).
     SkippedArea,
@@ -56,6 +60,10 @@ pub struct Three {
     closed: bool,
     /// The run makes a call of 02's U4: the Rust is not asked.
     alone: bool,
+    /// What the listings that are open have seen.
+    listings: Listings,
+    /// The rows of `listings` that the last call is.
+    pub told: Vec<&'static str>,
 }
 
 /// A byte or a number of the port's that was changed, and what it was.
@@ -95,13 +103,15 @@ impl Three {
         let shadow = buffers(&mut Rng(0), 2);
         Three {
             rust: Oracle::compared(Ns::default(), Some(0)),
-            judge: Judge { store: Store::closed(FIELD) },
-            port: Port { state: raw::State::default(), buffers: shadow.clone() },
+            judge: Judge::closed(),
+            port: Port { state: raw::State::default(), buffers: shadow.clone(), walks: Default::default() },
             shadow,
             records: Default::default(),
             items: vec![],
             closed: true,
             alone,
+            listings: Listings::default(),
+            told: vec![],
         }
     }
     fn state(&self) -> raw::State {
@@ -229,6 +239,12 @@ impl Three {
         if let (Call::Open(_, Some(l @ 1..=1024)), Front::Plain) = (call, step.front) {
             self.lend(step, *l);
         }
+        self.told.clear();
+        let asked = self.judge.asked(call);
+        // A step of no listing is no call.
+        if let Call::More(w) = asked {
+            return if self.port.walks.contains_key(&w) { Err(format!("listing {w} is open in the port alone")) } else { Ok((Answer::Absent, Judged::ByModel)) };
+        }
         let plain = Handed { state: self.port.state, lengths: self.port.buffers.lengths(), key: 298 + step.salt as usize % 9 };
         let (h, refusal, undo) = self.front(step, plain)?;
         let model = refusal.map_or_else(|| self.judge.exec(call), Answer::Refused);
@@ -249,7 +265,8 @@ impl Three {
         if port != model {
             return Err(format!("answers:\n  model {model:?}\n  port  {port:?}"));
         }
-        let judged = self.by_the_rust(call, refusal, &model)?;
+        self.told = self.listings.after(call, &port, &self.judge.store)?;
+        let judged = if steps(&asked) { self.step_by_the_rust(&asked, refusal, &model)? } else { self.by_the_rust(call, refusal, &model)? };
         if refusal.is_none() && matches!(call, Call::Open(..)) {
             self.closed = model != Answer::Opened;
             if self.closed {
@@ -279,13 +296,24 @@ impl Three {
         }
         if model == Answer::Done {
             self.draw();
+            self.told = self.listings.after(&step.call, &port, &self.judge.store)?;
         }
         self.same()?;
         Ok((model, if self.alone { Judged::ByModel } else { Judged::ByBoth }))
     }
+    /// A step of a listing is the model's to judge: the Rust has none that begins at a key. Where it is asked at all, the first of its own listing whose key is above must be the same.
+    fn step_by_the_rust(&mut self, asked: &Call, refusal: Option<u8>, model: &Answer) -> Result<Judged, String> {
+        if !self.alone && !self.closed && refusal.is_none() && !matches!(model, Answer::Refused(5) | Answer::Absent) {
+            let rust = self.rust.exec(asked);
+            if rust != cuts::cut(model) {
+                return Err(format!("steps:\n  Rust  {rust:?}\n  model {model:?} (and the port)"));
+            }
+        }
+        Ok(Judged::ByModel)
+    }
     fn by_the_rust(&mut self, call: &Call, refusal: Option<u8>, model: &Answer) -> Result<Judged, String> {
         let opens = matches!(call, Call::Open(..)) && *model == Answer::Opened;
-        let alone = self.alone || refusal.is_some() || matches!(call, Call::Decode01(..)) || (!opens && (matches!(call, Call::Open(..)) || self.closed && on_store(call)));
+        let alone = self.alone || refusal.is_some() || matches!(call, Call::Decode01(..) | Call::Walk(..)) || (!opens && (matches!(call, Call::Open(..)) || self.closed && on_store(call)));
         if alone {
             return Ok(Judged::ByModel);
         }

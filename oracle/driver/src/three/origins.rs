@@ -22,7 +22,7 @@ const ROWS: [&str; 65] = [
     "refused 3, local with a number in both trees", "refused 3, kind 2 in both trees", "refused 3, kind 255 in both trees", "refused 3, another kind without a number in both trees",
 ];
 /// Every call on a store.
-const CALLS: [&str; 13] = ["ingest", "forget", "farea", "record", "unrecord", "entry", "qarea", "qrange", "narea", "nrange", "count", "size", "aoi"];
+const CALLS: [&str; 13] = ["ingest", "forget", "farea", "record", "unrecord", "entry", "qarea", "qrange", "nexta", "next", "count", "size", "aoi"];
 
 pub fn rows() -> Vec<String> {
     let faults = CALLS.iter().flat_map(|c| [format!("refused 2, no room for origins, in {c}"), format!("refused 3, no origin in both trees, in {c}")]);
@@ -101,7 +101,7 @@ impl Table {
                 self.add("listing of session 0", of.contains(&Remote(0)));
                 self.add("listing of several sessions", of.iter().any(|a| of.iter().any(|b| remote(*a) && remote(*b) && a != b)));
             }
-            Answer::Next(Some(place)) => self.add("next match is remote", remote(store.entries()[*place as usize].origin)),
+            Answer::Next(Some((x, _))) => self.add("next match is remote", x.origin.is_some_and(remote)),
             _ => {}
         }
     }

@@ -14,6 +14,7 @@ pub fn run(steps: &[Step], table: &mut Table, judged: &mut BTreeMap<Judged, u64>
         let (answer, by) = three.step(step).map_err(|words| (i, words))?;
         *judged.entry(by).or_default() += 1;
         table.count(before.as_ref().unwrap_or(&three.judge.store), step, &answer);
+        three.told.iter().for_each(|row| table.add(row, true));
     }
     Ok(())
 }

@@ -2,7 +2,7 @@
 use crate::answer::Answer;
 use crate::call::Call;
 use crate::step::{on_store, Front, Step};
-use super::{arrivals, origins, reading};
+use super::{arrivals, listings, origins, reading};
 use model::*;
 
 #[derive(Default)]
@@ -15,10 +15,10 @@ pub struct Table {
 }
 
 const CALLS: [&str; 19] = [
-    "open", "ingest", "forget", "farea", "entry", "qarea", "qrange", "narea", "nrange", "count", "size", "aoi", "arange",
+    "open", "ingest", "forget", "farea", "entry", "qarea", "qrange", "nexta", "next", "count", "size", "aoi", "arange",
     "above", "order", "newer", "inarea", "inrange", "key",
 ];
-const ROWS: [&str; 92] = [
+const ROWS: [&str; 93] = [
     "taken", "taken, nothing pruned", "taken, one pruned", "taken, several pruned", "obsolete", "obsolete by its own path",
     "obsolete by a prefix", "done", "done, an entry forgotten", "done, nothing there", "refused 1", "refused 2", "refused 3",
     "refused 4", "refused 5", "refused 6", "refused 7", "refused 8", "refused 9", "refused 10", "tie: the longer is stored",
@@ -30,8 +30,8 @@ const ROWS: [&str; 92] = [
     "stored but for its length", "stored but for its path, a tie", "prevented, nothing to prune", "ingestion into a full store",
     "ingestion into a full store of 1,024", "taken by a full store", "protected area", "protected area that saves",
     "both flags", "incomplete alone hides", "empty alone hides", "available length strictly between, in a query",
-    "lookup that finds", "lookup hidden by a flag", "listing of several", "next from a record that does not match",
-    "next from behind the last record", "area of interest that matches", "its count breaks", "its size breaks",
+    "lookup that finds", "lookup hidden by a flag", "listing of several", "next over a record that does not match",
+    "next from a key above all", "next from a key that is none", "area of interest that matches", "its count breaks", "its size breaks",
     "its size breaks at the third or later", "it has no limit and matches", "its sum passes 2^64 - 1", "times that descend",
     "range of paths that descends", "8 components", "128 bytes", "component of 64 bytes", "byte 00 in a path",
     "9 components alone are wrong", "129 bytes alone are wrong", "65 bytes alone are wrong", "empty path",
@@ -51,8 +51,11 @@ pub fn name(c: &Call) -> &'static str {
         Call::Entry(..) => "entry",
         Call::QueryArea(..) | Call::IncludedIn(..) => "qarea",
         Call::QueryRange(..) => "qrange",
-        Call::NextInArea(..) => "narea",
-        Call::NextInRange(..) => "nrange",
+        Call::Next(Query::Area(_), ..) => "nexta",
+        Call::Next(Query::Range(_), ..) => "next",
+        Call::Walk(_, Query::Area(_), _) => "walka",
+        Call::Walk(_, Query::Range(_), _) => "walk",
+        Call::More(_) => "more",
         Call::Count(..) => "count",
         Call::Size(..) => "size",
         Call::Aoi(..) => "aoi",
@@ -77,9 +80,10 @@ fn paths(c: &Call) -> Vec<&Path> {
         Call::Ingest(e, ..) => vec![&e.path],
         Call::Forget(_, p, _) | Call::Record(_, p, ..) | Call::Unrecord(_, p, _) | Call::Entry(_, p, _) | Call::Avail(_, p, _) | Call::Above(p) | Call::Key(_, p, _) => vec![p],
         Call::ForgetArea(a, b) => [Some(&a.path), b.as_ref().map(|b| &b.path)].into_iter().flatten().collect(),
-        Call::QueryArea(a, _) | Call::IncludedIn(a, _) | Call::NextInArea(a, ..) | Call::Count(a) => vec![&a.path],
+        Call::QueryArea(a, _) | Call::IncludedIn(a, _) | Call::Count(a) => vec![&a.path],
+        Call::Next(q, ..) | Call::Walk(_, q, _) => q.paths(),
         Call::Aoi(a, ..) | Call::AreaRange(a) => vec![&a.path],
-        Call::QueryRange(r, _) | Call::NextInRange(r, ..) | Call::Size(r) => [Some(&r.paths.start), r.paths.end.as_ref()].into_iter().flatten().collect(),
+        Call::QueryRange(r, _) | Call::Size(r) => [Some(&r.paths.start), r.paths.end.as_ref()].into_iter().flatten().collect(),
         Call::Order(p, q) => vec![p, q],
         Call::Newer(a, b) => vec![&a.path, &b.path],
         Call::InArea(a, e) => vec![&a.path, &e.path],
@@ -115,12 +119,13 @@ impl Table {
     fn get(&self, row: &str) -> u64 {
         self.rows.iter().find(|r| r.0 == row).map_or(0, |r| r.1)
     }
-    /// Every row, with those that never occurred: those of the kinds `arrivals` and `origins`, those of the others.
-    pub fn all(&self, arrivals: bool, origins: bool, others: bool) -> Vec<(String, u64)> {
+    /// Every row, with those that never occurred: those of the kinds `arrivals`, `origins` and `listings`, those of the others.
+    pub fn all(&self, arrivals: bool, origins: bool, listings: bool, others: bool) -> Vec<(String, u64)> {
         let calls = CALLS.iter().map(|c| format!("call {c}"));
         let fours = CALLS.iter().filter(|c| **c != "open").map(|c| format!("refused 4 in {c}"));
         let rows: Vec<String> = calls.chain(fours).chain(ROWS.iter().chain(&reading::ROWS).map(|r| r.to_string())).filter(|_| others).collect();
         let more = arrivals::ROWS.iter().filter(|_| arrivals).map(|r| r.to_string()).chain(origins::rows().into_iter().filter(|_| origins));
+        let more = more.chain(listings::ROWS.iter().filter(|_| listings).map(|r| r.to_string()));
         rows.into_iter().chain(more).map(|r| { let n = self.get(&r); (r, n) }).collect()
     }
     /// Counts one call: the store before it, the call, the model's answer.
@@ -137,6 +142,7 @@ impl Table {
         self.values(c);
         self.arrivals(store, step, c, answer);
         self.origins(store, step, c, answer);
+        self.steps(store, step, c, answer);
         if let Call::Ingest(e, ..) = c {
             let stored = |e: &Entry| store.entries().iter().any(|x| x.entry == *e);
             self.add("resend with a wrong tally", *answer == Answer::Refused(10) && stored(e));
@@ -167,10 +173,11 @@ impl Table {
                 self.add("lookup hidden by a flag", hit.is_some() && *answer == Answer::Found(None));
                 self.flags(*i, hit);
             }
-            Call::QueryArea(a, i) | Call::IncludedIn(a, i) | Call::NextInArea(a, i, _) => {
+            Call::Next(q, i, _) => self.listing(store, *i, c, answer, |e| q.includes(e)),
+            Call::QueryArea(a, i) | Call::IncludedIn(a, i) => {
                 self.listing(store, *i, c, answer, |e| a.includes(e));
             }
-            Call::QueryRange(r, i) | Call::NextInRange(r, i, _) => self.listing(store, *i, c, answer, |e| r.includes(e)),
+            Call::QueryRange(r, i) => self.listing(store, *i, c, answer, |e| r.includes(e)),
             Call::Aoi(a, count, size) => self.interest(store, a, *count, *size),
             Call::Newer(..) => {
                 if let Answer::Newer(order, _) = answer {
@@ -294,9 +301,11 @@ impl Table {
     fn listing(&mut self, store: &Store, i: Ignore, c: &Call, answer: &Answer, includes: impl Fn(&Entry) -> bool) {
         self.flags(i, store.entries().iter().filter(|x| includes(&x.entry)));
         self.add("listing of several", matches!(answer, Answer::List(l) if l.len() > 1));
-        if let (Call::NextInArea(_, _, from) | Call::NextInRange(_, _, from), Answer::Next(next)) = (c, answer) {
-            self.add("next from a record that does not match", next.is_some_and(|n| n != *from));
-            self.add("next from behind the last record", *from >= store.entries().len() as u64);
+        if let Call::Next(_, _, last) = c {
+            let above: Vec<Vec<u8>> = store.entries().iter().map(|x| key(&x.entry, false)).filter(|k| k > last).collect();
+            self.add("next over a record that does not match", matches!(answer, Answer::Next(Some((_, k))) if above[0] != *k));
+            self.add("next from a key above all", *answer == Answer::Next(None) && above.is_empty());
+            self.add("next from a key that is none", *answer == Answer::Refused(5));
         }
     }
     fn interest(&mut self, store: &Store, a: &Area, max_count: u64, max_size: u64) {

@@ -1,48 +1,32 @@
--- `write_list` meets its contract: the first line, then a line each turn, as many as were counted. The invariant: the records left, walked from the place, are to be written. Assumes nothing.
+-- `write_list` meets its contract: the first line, then a line each turn, as many as were counted. The invariant: the records left, walked from the remembered key, are to be written. Assumes nothing.
 use native.Mathlib.Omega.{arith}
 use native.Mathlib.Nat.{le-refl}
 use Prim.Native.Nat.{ℕ, _+_, _*_, _≤_}
 use mathlib.Core.Path.{_≡_, refl, sym, ap, _∙_}
-use mathlib.Core.List.{List, [], _∷_}
-use mathlib.Core.Logic.{⊎-elim}
-use mathlib.Core.Option.{some}
-use types.Run.{OneOf}
-use denote.Enum.Declared.{tagOf}
-use lib.ListN.{length}
-use Rattle.data_model.specs.Said.{says}
-use Rattle.data_model.specs.Path.{field, legal}
+use lib.ListN.{length, take, length-replicate}
+use lib.Seq.{length-take-le}
+use Rattle.data_model.specs.Path.{field}
 use Rattle.data_model.proofs.Values.{length-piece}
-use Rattle.tree.specs.Matching.{listedInArea}
+use Rattle.keys.specs.Encode.{keyMost}
+use Rattle.key_laws.specs.Bytes.{Bytes}
 use Rattle.tree.specs.declared.stored.KeyOrder.the-variants.{Spt}
+use Rattle.tree.proofs.WithinLaws.{written-front}
 use Rattle.store.specs.Store.{Store, storeOf, limitMost, held}
-use Rattle.query.specs.Listing.{listedSays, areaListed, areaPart}
-use Rattle.query.specs.declared.answer.Listed.{Listed}
-use Rattle.query.specs.declared.answer.Listed.the-variants.{Match, Finished, Refused}
-use Rattle.query.proofs.answer.Listed.{the-type}
-use Rattle.query.proofs.FoundLaws.{match-below}
-use Rattle.query.proofs.Walked.{match-long}
 use Rattle.listing.specs.List.{entryLineMost, listText, listTextMost}
-use Rattle.listing.proofs.ListLaws.{Listing, few-counted, listing-start, listing-next, listing-turn, listing-end, listing-whole}
+use Rattle.listing.proofs.ListLaws.{Listing, few-counted, listing-start, listing-given, listing-turn, listing-end, listing-whole}
 use borrow.Author.Needs.{needs}
 use Rattle.listing.proofs.list.write_list.Statement.{statement}
 use Rattle.listing.proofs.list.write_list.Tie as tie
 
 abbrev Inv-loop : tie.InvT-loop
-Inv-loop state spt spt-dir tsp tsp-dir out₀ area ignore left₀ at₀ place₀ out left at place =
-    (at + entryLineMost * left ≤ length out) × (at + entryLineMost * left ≤ listTextMost limitMost) × (length out ≡ length out₀) × Listing (areaListed field (storeOf state spt spt-dir tsp tsp-dir) area ignore) (areaPart field (storeOf state spt spt-dir tsp tsp-dir) area ignore) (listText (held field Spt (storeOf state spt spt-dir tsp tsp-dir))) out₀ out place at left
+Inv-loop state spt spt-dir tsp tsp-dir out₀ area ignore left₀ at₀ last₀ n₀ out left at last n =
+    (at + entryLineMost * left ≤ length out) × (at + entryLineMost * left ≤ listTextMost limitMost) × (length out ≡ length out₀) × (n ≤ keyMost field) × (length last ≡ keyMost field) × Listing (storeOf state spt spt-dir tsp tsp-dir) area ignore (listText (held field Spt (storeOf state spt spt-dir tsp tsp-dir))) out₀ out (take n last) at left
 
 abbrev μ-loop : tie.MeasureT-loop
-μ-loop state spt spt-dir tsp tsp-dir out₀ area ignore left₀ at₀ place₀ out left at place = left
+μ-loop state spt spt-dir tsp tsp-dir out₀ area ignore left₀ at₀ last₀ n₀ out left at last n = left
 
 abbrev lent : tie.Start Inv-loop μ-loop → Store
 lent p = storeOf (p .args .state) (p .args .spt .now) (p .args .«spt-dir» .now) (p .args .tsp .now) (p .args .«tsp-dir» .now)
-
--- An answer whose tag is 1 or 2 is no match.
-unmatched : (l : Listed) (k : ℕ) → OneOf (1 ∷ 2 ∷ []) (tagOf the-type l) → listedSays l ≡ says (some k) → ⊥
-unfolding listedSays
-unmatched (Match j) k h e = ⊎-elim (λ e. omega arith) (λ e. omega arith) h
-unmatched Finished k h e = let z : _≡_ {A = ℕ} 0 1 = cc in omega arith
-unmatched (Refused n) k h e = let z : _≡_ {A = ℕ} 0 1 = cc in omega arith
 
 everything-requires : tie.Need-everything-requires Inv-loop μ-loop
 everything-requires c κs = search needs
@@ -70,39 +54,13 @@ loop-holds c =
     let old = p .args .out .now in
     let one : length (f .last .1 .1 .0) ≡ length old = search needs in
     let few = few-counted (lent p) (area .result) (ignore .result) (area .ensures) (ignore .ensures) (w .result) (w .ensures) z in
-    (omega (arith, one, few .0, f .ensures .1, p .pre .1), omega (arith, few .1, f .ensures .1), refl, listing-start (lent p) (area .result) (ignore .result) (area .ensures) (ignore .ensures) (w .result) (w .ensures) z old (f .last .1 .1 .0) (f .result) (omega (arith, f .ensures .1, p .pre .1)) (f .ensures .0) (f .ensures .2))
+    (omega (arith, one, few .0, f .ensures .1, p .pre .1), omega (arith, few .1, f .ensures .1), refl, omega arith, length-replicate {A = ℕ} 298 0, listing-start (lent p) (area .result) (ignore .result) (area .ensures) (ignore .ensures) (w .result) (w .ensures) z old (f .last .1 .1 .0) (f .result) (omega (arith, f .ensures .1, p .pre .1)) (f .ensures .0) (f .ensures .2))
 
-query-area-place-requires : tie.Need-query-area-place-requires Inv-loop μ-loop
-query-area-place-requires c κs = search needs
+array-share-prefix-last : tie.Need-array-share-prefix-last Inv-loop μ-loop
+array-share-prefix-last c = search needs
 
-enum-known-l : tie.Need-enum-known-l Inv-loop μ-loop
-enum-known-l c = search needs
-
-same-length : tie.Need-same-length Inv-loop μ-loop
-same-length c =
-    let p = (c .before .before .before .before .before .before .before .before .before .before .before .before .before .before .before .before .before) in
-    let area = c .before .before .before .before .before .before .before .before .before .before .before .everything in
-    let ignore = c .before .before .before .before .before .before .before .before .before .before .default in
-    let w = c .before .before .before .before .before .before .before .before .before .count-area in
-    let f = c .before .before .before .before .before .before .write-numbered in
-    let old = p .args .out .now in
-    let one : length (f .last .1 .1 .0) ≡ length old = search needs in
-    let l = c .before .before .before .loop in l .inv .2 ∙ one
-
-returns : tie.Need-returns Inv-loop μ-loop
-returns c =
-    let p = (c .before .before .before .before .before .before .before .before .before .before .before .before .before .before .before .before .before) in
-    let area = c .before .before .before .before .before .before .before .before .before .before .before .everything in
-    let ignore = c .before .before .before .before .before .before .before .before .before .before .default in
-    let w = c .before .before .before .before .before .before .before .before .before .count-area in
-    let f = c .before .before .before .before .before .before .write-numbered in
-    let old = p .args .out .now in
-    let one : length (f .last .1 .1 .0) ≡ length old = search needs in
-    let l = c .before .before .before .loop in
-    let t = c .before .before .loop-test .taken in
-    let m = c .before .query-area-place in
-    let n = listing-next (areaListed field (lent p) (area .result) (ignore .result)) (areaPart field (lent p) (area .result) (ignore .result)) (listText (held field Spt (lent p))) (f .last .1 .1 .0) (l .out) (l .place) (l .at) (l .left) (l .inv .3) t in
-    absurd (unmatched (m .result) (n .0) (c .match .keys2) (m .ensures ∙ n .1))
+slice-aggregate-query-area : tie.Need-slice-aggregate-query-area Inv-loop μ-loop
+slice-aggregate-query-area c = let l = c .before .before .loop in sym (length-take-le (l .n) (l .last) (omega (arith, l .inv .3, l .inv .4)))
 
 query-area-requires : tie.Need-query-area-requires Inv-loop μ-loop
 query-area-requires c κs = search needs
@@ -117,40 +75,50 @@ part-write-line-end : tie.Need-part-write-line-end Inv-loop μ-loop
 part-write-line-end c = search needs
 
 write-line-requires : tie.Need-write-line-requires Inv-loop μ-loop
-unfolding listedSays
 write-line-requires c κs =
-    let p = (c .before .before .before .before .before .before .before .before .before .before .before .before .before .before .before .before .before .before .before .before .before) in
-    let area = c .before .before .before .before .before .before .before .before .before .before .before .before .before .before .before .everything in
-    let ignore = c .before .before .before .before .before .before .before .before .before .before .before .before .before .before .default in
-    let w = c .before .before .before .before .before .before .before .before .before .before .before .before .before .count-area in
-    let l = c .before .before .before .before .before .before .before .loop in
-    let t = c .before .before .before .before .before .before .loop-test .taken in
-    let m = c .before .before .before .before .before .query-area-place in
-    let k = c .before .before .before .l in
-    let e : areaListed field (lent p) (area .result) (ignore .result) (l .place) ≡ says (some (k .given .0 .0)) = sym (m .ensures) ∙ ap listedSays (k .given .1) in
+    let p = (c .before .before .before .before .before .before .before .before .before .before .before .before .before .before .before .before .before .before) in
+    let area = c .before .before .before .before .before .before .before .before .before .before .before .before .everything in
+    let ignore = c .before .before .before .before .before .before .before .before .before .before .before .default in
+    let w = c .before .before .before .before .before .before .before .before .before .before .count-area in
+    let f = c .before .before .before .before .before .before .before .write-numbered in
+    let old = p .args .out .now in
+    let one : length (f .last .1 .1 .0) ≡ length old = search needs in
+    let l = c .before .before .before .before .loop in
+    let t = c .before .before .before .loop-test .taken in
+    let bytes : Bytes (p .args .spt .now) = λ i. c .before .before .before .before .before .before .before .before .before .before .before .before .before .before .before .before .before .shared-slice-known .given i .fits in
     let r = c .before .query-area in
-    (omega (arith, ap (λ (x : List ℕ). length x) (r .ensures .0), match-long (lent p) (legal field (area .result .path)) (listedInArea (area .result) (ignore .result)) (l .place) (k .given .0 .0) e), omega (arith, t, l .inv .0, length-piece (l .at) (length (l .out)) (l .out) (le-refl (length (l .out)))))
+    let h = listing-given (lent p) (area .result) (ignore .result) (listText (held field Spt (lent p))) (f .last .1 .1 .0) (l .out) (take (l .n) (l .last)) (l .at) (l .left) (l .inv .5) t bytes _ (r .ensures .0) in
+    (h .0, omega (arith, t, l .inv .0, length-piece (l .at) (length (l .out)) (l .out) (le-refl (length (l .out)))))
 
 add-at : tie.Need-add-at Inv-loop μ-loop
 add-at c =
-    let l = c .before .before .before .before .before .before .before .before .before .before .loop in
-    let t = c .before .before .before .before .before .before .before .before .before .loop-test .taken in
+    let l = c .before .before .before .before .before .before .before .loop in
+    let t = c .before .before .before .before .before .before .loop-test .taken in
     let g = c .before .before .write-line in
     omega (arith, l .inv .1, t, g .ensures .1)
 
-add-place : tie.Need-add-place Inv-loop μ-loop
-unfolding listedSays
-add-place c =
-    let p = (c .before .before .before .before .before .before .before .before .before .before .before .before .before .before .before .before .before .before .before .before .before .before .before .before) in
-    let area = c .before .before .before .before .before .before .before .before .before .before .before .before .before .before .before .before .before .before .everything in
-    let ignore = c .before .before .before .before .before .before .before .before .before .before .before .before .before .before .before .before .before .default in
-    let w = c .before .before .before .before .before .before .before .before .before .before .before .before .before .before .before .before .count-area in
-    let l = c .before .before .before .before .before .before .before .before .before .before .loop in
-    let t = c .before .before .before .before .before .before .before .before .before .loop-test .taken in
-    let m = c .before .before .before .before .before .before .before .before .query-area-place in
-    let k = c .before .before .before .before .before .before .l in
-    let e : areaListed field (lent p) (area .result) (ignore .result) (l .place) ≡ says (some (k .given .0 .0)) = sym (m .ensures) ∙ ap listedSays (k .given .1) in
-    let b = match-below (lent p) (legal field (area .result .path)) (listedInArea (area .result) (ignore .result)) (l .place) (k .given .0 .0) e in omega (arith, b .1, b .0 .few, b .0 .most)
+record-key-requires : tie.Need-record-key-requires Inv-loop μ-loop
+record-key-requires c κs = search needs
+
+slice-aggregate-write-bytes : tie.Need-slice-aggregate-write-bytes Inv-loop μ-loop
+slice-aggregate-write-bytes c = search needs
+
+write-bytes-requires : tie.Need-write-bytes-requires Inv-loop μ-loop
+write-bytes-requires c κs =
+    let p = (c .before .before .before .before .before .before .before .before .before .before .before .before .before .before .before .before .before .before .before .before .before .before .before) in
+    let area = c .before .before .before .before .before .before .before .before .before .before .before .before .before .before .before .before .before .everything in
+    let ignore = c .before .before .before .before .before .before .before .before .before .before .before .before .before .before .before .before .default in
+    let w = c .before .before .before .before .before .before .before .before .before .before .before .before .before .before .before .count-area in
+    let f = c .before .before .before .before .before .before .before .before .before .before .before .before .write-numbered in
+    let old = p .args .out .now in
+    let one : length (f .last .1 .1 .0) ≡ length old = search needs in
+    let l = c .before .before .before .before .before .before .before .before .before .loop in
+    let t = c .before .before .before .before .before .before .before .before .loop-test .taken in
+    let bytes : Bytes (p .args .spt .now) = λ i. c .before .before .before .before .before .before .before .before .before .before .before .before .before .before .before .before .before .before .before .before .before .before .shared-slice-known .given i .fits in
+    let r = c .before .before .before .before .before .before .query-area in
+    let h = listing-given (lent p) (area .result) (ignore .result) (listText (held field Spt (lent p))) (f .last .1 .1 .0) (l .out) (take (l .n) (l .last)) (l .at) (l .left) (l .inv .5) t bytes _ (r .ensures .0) in
+    let k = c .before .record-key in
+    omega (arith, ap length (k .ensures .0), h .1, l .inv .4)
 
 sub-left : tie.Need-sub-left Inv-loop μ-loop
 sub-left c = search needs
@@ -159,27 +127,27 @@ loop-less : tie.Need-loop-less Inv-loop μ-loop
 loop-less c = search needs
 
 loop-again : tie.Need-loop-again Inv-loop μ-loop
-unfolding listedSays
 loop-again c =
-    let p = (c .before .before .before .before .before .before .before .before .before .before .before .before .before .before .before .before .before .before .before .before .before .before .before .before) in
-    let area = c .before .before .before .before .before .before .before .before .before .before .before .before .before .before .before .before .before .before .everything in
-    let ignore = c .before .before .before .before .before .before .before .before .before .before .before .before .before .before .before .before .before .default in
-    let w = c .before .before .before .before .before .before .before .before .before .before .before .before .before .before .before .before .count-area in
-    let f = c .before .before .before .before .before .before .before .before .before .before .before .before .before .write-numbered in
+    let p = (c .before .before .before .before .before .before .before .before .before .before .before .before .before .before .before .before .before .before .before .before .before .before .before .before .before) in
+    let area = c .before .before .before .before .before .before .before .before .before .before .before .before .before .before .before .before .before .before .before .everything in
+    let ignore = c .before .before .before .before .before .before .before .before .before .before .before .before .before .before .before .before .before .before .default in
+    let w = c .before .before .before .before .before .before .before .before .before .before .before .before .before .before .before .before .before .count-area in
+    let f = c .before .before .before .before .before .before .before .before .before .before .before .before .before .before .write-numbered in
     let old = p .args .out .now in
     let one : length (f .last .1 .1 .0) ≡ length old = search needs in
-    let l = c .before .before .before .before .before .before .before .before .before .before .loop in
-    let t = c .before .before .before .before .before .before .before .before .before .loop-test .taken in
-    let m = c .before .before .before .before .before .before .before .before .query-area-place in
-    let k = c .before .before .before .before .before .before .l in
-    let e : areaListed field (lent p) (area .result) (ignore .result) (l .place) ≡ says (some (k .given .0 .0)) = sym (m .ensures) ∙ ap listedSays (k .given .1) in
-    let r = c .before .before .before .before .query-area in
-    let g = c .before .before .write-line in
-    let n = listing-turn (areaListed field (lent p) (area .result) (ignore .result)) (areaPart field (lent p) (area .result) (ignore .result)) (listText (held field Spt (lent p))) (f .last .1 .1 .0) (l .out) (l .place) (l .at) (l .left) (l .inv .3) (l .inv .0) t (k .given .0 .0) e _ (r .ensures .0) (g .result) (g .last .1 .0) (g .ensures .0) (g .ensures .1) (g .ensures .2) in
-    (omega (arith, n .wrote .size, l .inv .2, l .inv .0, g .ensures .1, t), omega (arith, l .inv .1, g .ensures .1, t), n .wrote .size, n)
+    let l = c .before .before .before .before .before .before .before .before .before .before .before .loop in
+    let t = c .before .before .before .before .before .before .before .before .before .before .loop-test .taken in
+    let bytes : Bytes (p .args .spt .now) = λ i. c .before .before .before .before .before .before .before .before .before .before .before .before .before .before .before .before .before .before .before .before .before .before .before .before .shared-slice-known .given i .fits in
+    let r = c .before .before .before .before .before .before .before .before .query-area in
+    let h = listing-given (lent p) (area .result) (ignore .result) (listText (held field Spt (lent p))) (f .last .1 .1 .0) (l .out) (take (l .n) (l .last)) (l .at) (l .left) (l .inv .5) t bytes _ (r .ensures .0) in
+    let g = c .before .before .before .before .before .before .write-line in
+    let k = c .before .before .before .record-key in
+    let b = c .before .write-bytes in
+    let n = listing-turn (lent p) (area .result) (ignore .result) (listText (held field Spt (lent p))) (f .last .1 .1 .0) (l .out) (take (l .n) (l .last)) (l .at) (l .left) (l .inv .5) (l .inv .0) t _ (r .ensures .0) (g .result) (g .last .1 .0) (g .ensures .0) (g .ensures .1) (g .ensures .2) _ (written-front _ _ (l .last) (b .result) (b .ensures .0) (b .ensures .1) ∙ k .ensures .0) in
+    (omega (arith, n .wrote .size, l .inv .2, l .inv .0, g .ensures .1, t), omega (arith, l .inv .1, g .ensures .1, t), n .wrote .size, omega (arith, b .ensures .0, ap length (k .ensures .0), h .1), (search needs), n)
 
-same-length-2 : tie.Need-same-length-2 Inv-loop μ-loop
-same-length-2 c =
+same-length : tie.Need-same-length Inv-loop μ-loop
+same-length c =
     let p = (c .before .before .before .before .before .before .before .before .before .before .before .before .before .before .before) in
     let area = c .before .before .before .before .before .before .before .before .before .everything in
     let ignore = c .before .before .before .before .before .before .before .before .default in
@@ -189,8 +157,8 @@ same-length-2 c =
     let one : length (f .last .1 .1 .0) ≡ length old = search needs in
     let l = c .before .loop in l .inv .2 ∙ one
 
-returns-2 : tie.Need-returns-2 Inv-loop μ-loop
-returns-2 c =
+returns : tie.Need-returns Inv-loop μ-loop
+returns c =
     let p = (c .before .before .before .before .before .before .before .before .before .before .before .before .before .before .before) in
     let area = c .before .before .before .before .before .before .before .before .before .everything in
     let ignore = c .before .before .before .before .before .before .before .before .default in
@@ -200,7 +168,7 @@ returns-2 c =
     let old = p .args .out .now in
     let one : length (f .last .1 .1 .0) ≡ length old = search needs in
     let l = c .before .loop in
-    let e = listing-end (areaListed field (lent p) (area .result) (ignore .result)) (areaPart field (lent p) (area .result) (ignore .result)) (listText (held field Spt (lent p))) (f .last .1 .1 .0) (l .out) (l .place) (l .at) (l .left) (l .inv .3) (omega (arith, c .loop-test .left)) in
+    let e = listing-end (lent p) (area .result) (ignore .result) (listText (held field Spt (lent p))) (f .last .1 .1 .0) (l .out) (take (l .n) (l .last)) (l .at) (l .left) (l .inv .5) (omega (arith, c .loop-test .left)) in
     (e .0, omega (arith, e .1, one), listing-whole (lent p) (area .result) (ignore .result) (area .ensures) (ignore .ensures) (w .result) (w .ensures) z old (f .last .1 .1 .0) (f .result) (omega (arith, f .ensures .1, p .pre .1)) (f .ensures .0) (f .ensures .2) (l .out) (e .2))
 
 pub write-list-spec : {M : Type 1} → statement M
@@ -215,19 +183,19 @@ write-list-spec =
     slice-aggregate-write-numbered
     write-numbered-requires
     loop-holds
-    query-area-place-requires
-    enum-known-l
-    same-length
-    returns
+    array-share-prefix-last
+    slice-aggregate-query-area
     query-area-requires
     sub-write-line
     part-write-line-start
     part-write-line-end
     write-line-requires
     add-at
-    add-place
+    record-key-requires
+    slice-aggregate-write-bytes
+    write-bytes-requires
     sub-left
     loop-less
     loop-again
-    same-length-2
-    returns-2)
+    same-length
+    returns)

@@ -7,7 +7,7 @@ use lib.Seq.{length-take-le}
 use Rattle.tree.specs.Matching.{inArea, listedInArea}
 use Rattle.tree.proofs.FormedContents.{formed-many}
 use Rattle.tree.proofs.TestLaws.{unflagged-area}
-use Rattle.query.proofs.NextLaws.{count-marked}
+use Rattle.query.proofs.MarkedLaws.{count-marked}
 use borrow.Author.Needs.{needs}
 use Rattle.query.proofs.count.count_in_area.Statement.{statement}
 use Rattle.query.proofs.count.count_in_area.Tie as tie

@@ -1,9 +1,10 @@
--- `query_area` meets its contract: the part of the place that was answered. Assumes nothing.
+-- `query_area` meets its contract: the part lies where the step says. Assumes nothing.
+use mathlib.Core.Path.{_∙_}
 use Rattle.data_model.specs.Path.{field, legal}
 use Rattle.tree.specs.Matching.{listedInArea}
 use Rattle.store.specs.Store.{Store, storeOf}
 use Rattle.query.specs.Listing.{areaListed}
-use Rattle.query.proofs.FoundLaws.{has-part, part-listed, begins-listed}
+use Rattle.query.proofs.GivenLaws.{part-inside, part-bytes, begins-told}
 use borrow.Author.Needs.{needs}
 use Rattle.query.proofs.listing.query_area.Statement.{statement}
 use Rattle.query.proofs.listing.query_area.Tie as tie
@@ -12,17 +13,21 @@ use Rattle.query.proofs.listing.query_area.Tie as tie
 abbrev lent : tie.Start → Store
 lent p = storeOf (p .args .state) (p .args .spt .now) (p .args .«spt-dir» .now) (p .args .tsp .now) (p .args .«tsp-dir» .now)
 
-query-area-place-requires : tie.Need-query-area-place-requires
-query-area-place-requires c κs = search needs
+area-step-requires : tie.Need-area-step-requires
+area-step-requires c κs = search needs
 
 part-of-requires : tie.Need-part-of-requires
-part-of-requires c κs = let p = (c .before .before .before .before .before) in has-part (lent p) (legal field (p .args .area .path)) (listedInArea (p .args .area) (p .args .ignore)) (p .args .place) _ (c .query-area-place .ensures)
+part-of-requires c κs =
+    let p = c .before .before .before .before .before .before in
+    part-inside (lent p) (legal field (p .args .area .path)) (listedInArea (p .args .area) (p .args .ignore)) (p .args .last .now) _ (c .area-step .ensures)
 
 returns : tie.Need-returns
-returns c = let p = (c .before .before .before .before .before .before) in (
-  part-listed (lent p) _ (areaListed field (lent p) (p .args .area) (p .args .ignore) (p .args .place)) (c .before .query-area-place .ensures) _ (c .part-of .ensures .0),
-  begins-listed (p .args .«spt-dir» .now) _ (areaListed field (lent p) (p .args .area) (p .args .ignore) (p .args .place)) (c .before .query-area-place .ensures) _ _ (c .part-of .ensures .1),
-)
+returns c =
+    let p = c .before .before .before .before .before .before .before in
+    let e = c .before .area-step .ensures in (
+      c .part-of .ensures .0 ∙ part-bytes (lent p) (legal field (p .args .area .path)) (listedInArea (p .args .area) (p .args .ignore)) (p .args .last .now) _ e,
+      begins-told (lent p) (areaListed field (lent p) (p .args .area) (p .args .ignore) (p .args .last .now)) _ e _ _ (c .part-of .ensures .1),
+    )
 
 pub query-area-spec : {M : Type 1} → statement M
-query-area-spec = tie.close (tie.spec query-area-place-requires part-of-requires returns)
+query-area-spec = tie.close (tie.spec area-step-requires part-of-requires returns)
