@@ -8,6 +8,7 @@ use plain::input::PlainArea;
 use plain::input::PlainOrigin;
 use plain::input::PlainRange;
 use plain::input::PlainTimes;
+use text::hex::is_hex;
 use text::hex::read_hex;
 use text::line::nth_field;
 ghost use Prim.Native.Nat.{_≤_, _<_};
@@ -91,11 +92,14 @@ pub fn origin(q: &[u8]) -> PlainOrigin {
 // How many bytes of a remembered key are read: two more than any key has.
 pub const LAST_MOST: usize = 300;
 
-// The key that a listing remembers, field 35, into a buffer; answers how many bytes it has.
+// The key that a listing remembers, field 35, into a buffer; answers how many bytes it has, 0 for what is not of the form.
 pub fn last(q: &[u8], out: &mut [u8]) -> usize
     ensures { λ r. ⌜ r ≤ 300 ⌝ }
 {
     let s = nth_field(q, 32, 35);
+    if !is_hex(s) {
+        return 0;
+    }
     read_hex(s, out);
     let n = s.len() / 2;
     if LAST_MOST < n {
