@@ -48,9 +48,11 @@ step f s test last = stepIn f (s .state .«namespace_id») test last (sptRecords
 unfoldable pub listed : Figures → Store → (refusal : ℕ) → (test : Stored → Bool) → (last : List ℕ) → Said (Option (List ℕ))
 listed f s refusal test last = cond (eqb refusal 0) (says (step f s test last)) (refuses refusal)
 
+-- The answer of a step of an area's listing.
 abbrev pub areaListed : Figures → Store → Area → QueryIgnoreParams → (last : List ℕ) → Said (Option (List ℕ))
 areaListed f s area ignore last = listed f s (areaListRefusal f s area last) (listedInArea area ignore) last
 
+-- The answer of a step of a 3d range's listing.
 abbrev pub rangeListed : Figures → Store → Range3d → QueryIgnoreParams → (last : List ℕ) → Said (Option (List ℕ))
 rangeListed f s range ignore last = listed f s (rangeListRefusal f s range last) (listedInRange range ignore) last
 
@@ -91,12 +93,13 @@ areaOffset f s area ignore last = offsetOf f s (areaListed f s area ignore last)
 abbrev pub rangeOffset : Figures → Store → Range3d → QueryIgnoreParams → (last : List ℕ) → ℕ
 rangeOffset f s range ignore last = offsetOf f s (rangeListed f s range ignore last)
 
--- The same answer as numbers: the refusal, 0 for none; whether there is a record; and where it lies, as offset and length.
+-- Whether an answer gives a record.
 abbrev pub gives : Said (Option (List ℕ)) → Bool
 gives (says (some r)) = true
 gives (says none) = false
 gives (refuses n) = false
 
+-- An answer told in numbers: the refusal, 0 for none; whether there is a record; and where it lies, as offset and length.
 abbrev pub stepTold : Figures → Store → Said (Option (List ℕ)) → ListingStep
 stepTold f s a = record { refusal = numberOf a; found = gives a; offset = offsetOf f s a; length = length (partOf a) }
 

@@ -28,6 +28,7 @@ unfoldable pub isRemembered : Figures → List ℕ → Bool
 isRemembered f [] = true
 isRemembered f (b ∷ k) = isKey Spt f (b ∷ k)
 
+-- What a step of a listing begins with: 1, 2, 3, 4, and then 5 for the key that it remembers. `paths`: the paths that are looked at are legal.
 unfoldable pub listRefusal : Figures → Store → (paths : Bool) → (last : List ℕ) → ℕ
 listRefusal f s paths last = readRefusal f s paths orElse unless (isRemembered f last) noKey
 

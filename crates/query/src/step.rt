@@ -110,7 +110,7 @@ fn step_at(count: usize, spt_dir: &[u32], place: usize) -> ListingStep
     }
 }
 
-// A step of an area's listing: for the calls below, and for a caller that cannot be handed a part.
+// A step of an area's listing, told in numbers: for the calls of `listing`, and for a caller that cannot be handed a part.
 pub fn area_step(
     state: State,
     spt: &[u8],
@@ -139,7 +139,7 @@ pub fn area_step(
     step_at(state.count, &spt_dir[..d], place)
 }
 
-// A step of a 3d range's listing: for the calls below, and for a caller that cannot be handed a part.
+// A step of a 3d range's listing, told in numbers: for the calls of `listing`, and for a caller that cannot be handed a part.
 pub fn range_step(
     state: State,
     spt: &[u8],
