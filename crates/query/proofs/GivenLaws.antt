@@ -26,7 +26,7 @@ use Rattle.tree.proofs.SearchLaws.{key-place}
 use Rattle.store.specs.Store.{Store, treeRoom, dirRoom, treeOf, dirOf}
 use Rattle.store.proofs.CheckLaws.{Passed}
 use Rattle.query.specs.Reading.{listRefusal}
-use Rattle.query.specs.Listing.{sptRecords, qualifies, stepIn, step, listed, isFound, partOf, offsetOf, gives, stepTold, stepSays, placeAmong, stepAt}
+use Rattle.query.specs.Listing.{sptRecords, qualifies, stepIn, step, listed, isFound, partOf, offsetOf, isGiven, stepTold, stepSays, placeAmong, stepAt}
 use Rattle.query.specs.declared.answer.ListingStep.{ListingStep}
 use Rattle.query.proofs.Tested.{list-tested}
 use Rattle.query.proofs.StepLaws.{key-weak}

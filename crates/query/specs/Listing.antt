@@ -94,14 +94,14 @@ abbrev pub rangeOffset : Figures → Store → Range3d → QueryIgnoreParams →
 rangeOffset f s range ignore last = offsetOf f s (rangeListed f s range ignore last)
 
 -- Whether an answer gives a record.
-abbrev pub gives : Said (Option (List ℕ)) → Bool
-gives (says (some r)) = true
-gives (says none) = false
-gives (refuses n) = false
+abbrev pub isGiven : Said (Option (List ℕ)) → Bool
+isGiven (says (some r)) = true
+isGiven (says none) = false
+isGiven (refuses n) = false
 
 -- An answer told in numbers: the refusal, 0 for none; whether there is a record; and where it lies, as offset and length.
 abbrev pub stepTold : Figures → Store → Said (Option (List ℕ)) → ListingStep
-stepTold f s a = record { refusal = numberOf a; found = gives a; offset = offsetOf f s a; length = length (partOf a) }
+stepTold f s a = record { refusal = numberOf a; found = isGiven a; offset = offsetOf f s a; length = length (partOf a) }
 
 -- For the inner functions. What such numbers say of a step.
 unfoldable pub stepSays : ListingStep → Said Bool
