@@ -1,13 +1,13 @@
--- Stored entries with another available length: their records, the lists of a store, and one tree that is written over. Assumes nothing.
+-- Stored entries with another available length: their records, and the lists of a store. Assumes nothing.
 use Prim.Native.Nat.{ℕ, zero, suc, ◌+◌, ◌-◌, ◌≤◌, ◌<◌}
 use mathlib.Core.Path.{◌≡◌, refl, sym, ap, ap₂, subst, ◌∙◌}
 use mathlib.Core.Bool.{Bool, true, false, ◌&&◌}
 use mathlib.Core.List.Memᴰ.{head as here}
 use mathlib.Core.List.Memᴰ.{tail as there}
-use mathlib.Core.List.{List, [], ◌∷◌, ◌++◌, map, append_assoc, append-nil}
+use mathlib.Core.List.{List, [], ◌∷◌, ◌++◌, map, append_assoc}
 use native.Mathlib.Omega.{arith}
-use lib.ListN.{length, take, drop, get_or, set, length-append, length-map, drop_of_length-le}
-use lib.Seq.{take_at, drop_at, drop-drop, drop-cons}
+use lib.ListN.{length, take, drop, get_or, set, length-append, length-map}
+use lib.Seq.{take_at, drop_at, drop-drop}
 use lib.Dec.{ltb}
 use borrow.Author.Tests.{ltb-false}
 use Rattle.laws.specs.Lists.{put}
@@ -15,39 +15,32 @@ use Rattle.laws.specs.Order.{Order, is_less, below, on}
 use Rattle.laws.specs.Sorted.{◌∈◌, any, keep, Ascends}
 use Rattle.laws.proofs.Truth.{split, clash, refute}
 use Rattle.laws.proofs.Sorted.{any_none}
-use Rattle.layout.specs.Buffers.{filled, written}
-use Rattle.layout.specs.Layout.{records, record_at, offset_at, joined, pairs, tree_bytes, dir_numbers}
+use Rattle.layout.specs.Buffers.{written}
+use Rattle.layout.specs.Layout.{joined, pairs}
 use Rattle.layout.specs.Marks.{marks_of, first_mark}
-use Rattle.layout.proofs.LaidLaws.{laid}
 use Rattle.layout.proofs.PlaceLaws.{keep-none}
 use Rattle.data_model.specs.Origin.{origin_kind, origin_session}
-use Rattle.data_model.specs.Path.{Figures, Components, field}
+use Rattle.data_model.specs.Path.{Figures, Components}
 use Rattle.data_model.specs.Entry.{Entry, prunes}
 use Rattle.data_model.specs.declared.parameters.Subspace.{Subspace}
 use Rattle.keys.specs.Encode.{Triple, be}
 use Rattle.keys.proofs.Encoding.{be-length}
-use Rattle.key_laws.specs.Bytes.{Bytes}
 use Rattle.key_laws.specs.KeyOrder.{spt_order, tsp_order}
 use Rattle.tree.specs.Value.{available_at, value_length, origin_bytes, value_bytes}
-use Rattle.tree.specs.Stored.{Stored, stored, key_in, triple_of, value_for, record_of, available_in, Lawful}
-use Rattle.tree.specs.Tree.{Formed, Whole}
+use Rattle.tree.specs.Stored.{Stored, key_in, triple_of, value_for, record_of, available_in, Lawful}
+use Rattle.tree.specs.Tree.{Formed}
 use Rattle.tree.specs.Matching.{stands_at}
 use Rattle.tree.specs.declared.stored.KeyOrder.{KeyOrder}
 use Rattle.tree.specs.declared.stored.KeyOrder.TheVariants.{Spt, Tsp}
-use Rattle.tree.proofs.RecordLaws.{record-forth}
-use Rattle.tree.proofs.FormedLaws.{formed-record}
-use Rattle.tree.proofs.FormedContents.{formed-many, formed-next}
-use Rattle.tree.proofs.WithinLaws.{at-bytes, formed-recorded}
+use Rattle.tree.proofs.FormedContents.{formed-many}
 use Rattle.store.specs.Store.{Held}
 use Rattle.store.specs.Ingest.{spt_less, tsp_less}
-use Rattle.store.specs.Change.{in_tree, Changed}
+use Rattle.store.specs.Change.{in_tree}
 use Rattle.store.proofs.Meaning.{SoundHeld, spt-linear, tsp-linear, before-irrefl, places-once}
 use Rattle.store.proofs.Recorded.{Proper, map-view, map-make}
 use Rattle.store.proofs.Lifted.{Fit, list_of}
-use Rattle.store.proofs.ChangeLaws.{records-again}
-use Rattle.store.proofs.ForgetLaws.{only_one, at_first, none_first}
-use Rattle.available.specs.Available.{arrive, arrive_at, arrived_at, exceeded, StandsFirst, Arrived}
-use Rattle.available.proofs.Overwritten.{overwritten}
+use Rattle.store.proofs.ForgetLaws.{only_one, at_first}
+use Rattle.available.specs.Available.{arrive, arrive_at, arrived_at, exceeded, StandsFirst}
 
 -- The record of an entry with this available length: 8 bytes of its record are others.
 pub arrive-record : (f : Figures) (o : KeyOrder) (n : ℕ) (x : Stored) → Lawful f x → record_of o (arrive n x) ≡ written (available_in (record_of o x)) (be 8 n) (record_of o x)
@@ -93,7 +86,7 @@ module _ (s : Subspace) (p : Components) (n : ℕ) where
   arrive-origin x = split (stands_at s p x) (λ q. ap (λ (y : Stored). y.origin) (arrive-there x q)) (λ q. ap (λ (y : Stored). y.origin) (arrive-elsewhere x q))
 
   -- None stands there: nothing changes.
-  arrive_none : (l : List Stored) → any (stands_at s p) l ≡ false → map (arrive_at s p n) l ≡ l
+  pub arrive_none : (l : List Stored) → any (stands_at s p) l ≡ false → map (arrive_at s p n) l ≡ l
   unfolding any
   arrive_none [] h = refl
   arrive_none (a ∷ l) h = split (stands_at s p a)
@@ -106,7 +99,7 @@ module _ (s : Subspace) (p : Components) (n : ℕ) where
   none_kept (a ∷ l) h = split (stands_at s p a) (λ q. absurd (let k : suc (length (keep (stands_at s p) l)) ≤ 0 = rw q at h in omega arith)) (λ q. rw q (none_kept l (rw q at h)))
 
   -- One does: the first that does is changed.
-  arrive-first : (l : List Stored) (d : Stored) → length (keep (stands_at s p) l) ≤ 1 → first_mark (marks_of (stands_at s p) l) < length l
+  pub arrive-first : (l : List Stored) (d : Stored) → length (keep (stands_at s p) l) ≤ 1 → first_mark (marks_of (stands_at s p) l) < length l
       → map (arrive_at s p n) l ≡ set l (first_mark (marks_of (stands_at s p) l)) (arrive n (get_or l (first_mark (marks_of (stands_at s p) l)) d))
   unfolding keep
   arrive-first [] d h w = absurd (omega arith)
@@ -121,7 +114,7 @@ pub length-arrive : (o : KeyOrder) (n : ℕ) (x : Stored) → length (record_of 
 unfolding record_of value_bytes value_for
 length-arrive o n x = simp (length-append, be-length)
 
-length-arrive-at : (s : Subspace) (p : Components) (n : ℕ) (o : KeyOrder) (x : Stored) → length (record_of o (arrive_at s p n x)) ≡ length (record_of o x)
+pub length-arrive-at : (s : Subspace) (p : Components) (n : ℕ) (o : KeyOrder) (x : Stored) → length (record_of o (arrive_at s p n x)) ≡ length (record_of o x)
 length-arrive-at s p n o x = split (stands_at s p x)
     (λ q. ap (λ (y : Stored). length (record_of o y)) (arrive-there s p n x q) ∙ length-arrive o n x)
     (λ q. ap (λ (y : Stored). length (record_of o y)) (arrive-elsewhere s p n x q))
@@ -159,7 +152,7 @@ at_most_one less irrefl q (x ∷ l) a h = split (q x)
     rw (e, none) (omega arith))
     (λ e. rw e (at_most_one less irrefl q l a.1 λ y z m n. h y z (there m) (there n)))
 
-map-set : {A B : Type 0} (g : A → B) (l : List A) (i : ℕ) (a : A) → map g (set l i a) ≡ set (map g l) i (g a)
+pub map-set : {A B : Type 0} (g : A → B) (l : List A) (i : ℕ) (a : A) → map g (set l i a) ≡ set (map g l) i (g a)
 map-set g [] i a = refl
 map-set g (x ∷ l) zero a = refl
 map-set g (x ∷ l) (suc i) a = ap (g x ∷◌) (map-set g l i a)
@@ -168,63 +161,6 @@ map-set g (x ∷ l) (suc i) a = ap (g x ∷◌) (map-set g l i a)
 pub stands-marked : {o : KeyOrder} {count : ℕ} {dir tree : List ℕ} (v : Formed o count dir tree) (ns : List ℕ) (s : Subspace) (p : Components) (marks old : List ℕ)
     → marks ≡ put (marks_of (stands_at s p) (in_tree o ns count dir tree)) old → (k : ℕ) → k ≡ 0 + first_mark (drop 0 (take count marks)) → k < count → StandsFirst s p k (in_tree o ns count dir tree)
 stands-marked v ns s p marks old em k ek h = record { inside = omega (arith, formed-many v ns); first = at_first v ns s p marks old em k ek }
-
--- One tree.
-module _ {o : KeyOrder} {count : ℕ} {dir tree : List ℕ} (v : Whole o count dir tree) (bytes : Bytes tree) (ns : List ℕ) (s : Subspace) (p : Components) (n : ℕ) where
-  abbrev l : List Stored
-  l = in_tree o ns count dir tree
-
-  abbrev After : List ℕ → Type 0
-  After = Arrived o ns count s p n dir tree
-
-  again : map (record_of o) l ≡ records count dir tree
-  again = records-again o field ns (records count dir tree) λ r m. formed-recorded v.formed bytes r m
-
-  -- The directory stays, as every record is as long as before.
-  pub set-changed : (after : List ℕ) → After after → Changed o (map (arrive_at s p n) l) dir tree dir after count
-  unfolding dir_numbers
-  set-changed after e = record {
-    bytes = e;
-    numbers = (laid count dir tree v.laid).numbers ∙ ap (filled (length dir)) (ap (pairs 0) (sym again) ∙ sym (pairs-kept o (arrive_at s p n) (length-arrive-at s p n o) l 0));
-    count = sym (length-map l (arrive_at s p n) ∙ formed-many v.formed ns);
-  }
-
-  -- Nothing stands there, or what stands there is written over.
-  pub set-none : any (stands_at s p) l ≡ false → After tree
-  set-none h =
-      (laid count dir tree v.laid).bytes
-      ∙ ap (tree_bytes (length tree)) (sym again ∙ ap (map (record_of o)) (sym (arrive_none s p n l h)))
-
-  pub set-one : (k : ℕ) → StandsFirst s p k l → length (keep (stands_at s p) l) ≤ 1 → (after : List ℕ) → after ≡ written (offset_at k dir + available_in (record_at k dir tree)) (be 8 n) tree → After after
-  set-one k at once after e =
-      let r = record_at k dir tree in
-      let x = stored o field ns r in
-      let few = formed-many v.formed ns in
-      let first = at.first in
-      let inside = at.inside in
-      let h : k < count = omega arith in
-      let says = record-forth o field ns r (at-bytes k dir tree bytes) (formed-record v.formed k h) in
-      let least = says.least in
-      let own : get_or l k x ≡ x = let q : get_or l k x ∷ drop (suc k) l ≡ x ∷ drop (k + 1) l = sym (drop-cons l k x inside) ∙ formed-next v.formed ns k h in cc in
-      let changed : map (arrive_at s p n) l ≡ set l k (arrive n x)
-      = arrive-first s p n l x once (omega arith)
-      ∙ ap (λ (j : ℕ). set l j (arrive n (get_or l j x))) (sym first)
-      ∙ ap (λ (y : Stored). set l k (arrive n y)) own in
-      let written_over : record_of o (arrive n x) ≡ written (available_in r) (be 8 n) r
-      = arrive-record field o n x says.lawful ∙ ap (λ (q : List ℕ). written (available_in q) (be 8 n) q) says.again in
-      let recs : map (record_of o) (map (arrive_at s p n) l) ≡ set (records count dir tree) k (written (available_in r) (be 8 n) r)
-      = ap (map (record_of o)) changed ∙ map-set (record_of o) l k (arrive n x) ∙ ap₂ (λ (a : List (List ℕ)) (b : List ℕ). set a k b) again written_over in
-      e
-      ∙ overwritten (laid count dir tree v.laid) k h (available_in r) (be 8 n) (omega (arith, least, be-length 8 n))
-      ∙ ap (tree_bytes (length tree)) (sym recs)
-
-  -- Which of the two it is, by the marks of the place.
-  module _ (marks old : List ℕ) (em : marks ≡ put (marks_of (stands_at s p) l) old) (k : ℕ) (ek : k ≡ 0 + first_mark (drop 0 (take count marks))) where
-    pub marked-none : count ≤ k → any (stands_at s p) l ≡ false
-    marked-none h = none_first v.formed ns s p marks old em k ek h
-
-    pub marked-first : k < count → StandsFirst s p k l
-    marked-first h = stands-marked v.formed ns s p marks old em k ek h
 
 -- Lists that a store may hold stay so, where no available length is above the payload length.
 module _ (f : Figures) {namespace : List ℕ} {limit : ℕ} {h : Held} (v : Fit f namespace limit h) (s : Subspace) (p : Components) where

@@ -1,3 +1,4 @@
 pub mod Overwritten
 pub mod Arrived
+pub mod OneTree
 pub mod RefusalLaws

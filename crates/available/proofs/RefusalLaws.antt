@@ -40,7 +40,8 @@ use Rattle.store.proofs.HoldingLaws.{store-holds}
 use Rattle.store.proofs.Lifted.{held_in}
 use Rattle.store.proofs.ForgetLaws.{one-such, none_first, stands-first, in-first}
 use Rattle.available.specs.Available.{arrived_at, exceeded, StandsFirst, Arrived, entry_refusal, available_refusal, available_outcome, available_set}
-use Rattle.available.proofs.Arrived.{set-changed, set-one, single}
+use Rattle.available.proofs.Arrived.{single}
+use Rattle.available.proofs.OneTree.{set-changed, set-one}
 
 -- What is looked for among the stored entries, by the first mark of the place.
 module _ {count : ℕ} {dir tree : List ℕ} (v : Formed Spt count dir tree) (ns : List ℕ) (s : Subspace) (p : Components) (expects : Bool) (digest : List ℕ) (n : ℕ) (marks old : List ℕ)

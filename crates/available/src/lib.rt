@@ -1,5 +1,7 @@
 // How much of the payload of a stored entry has arrived: it is recorded, or forgotten, in both trees, and nothing else of the store changes. The public
 // entries are `record_available_length` and `forget_payload`: they have no `requires`, and are lent neither a tally nor a prune list.
+#![tactic(auto)]
+
 ghost use Rattle.std.specs.Prelude.{◌≡◌, true, not, ◌&&◌, List, ℕ, ◌≤◌, length};
 ghost use Rattle.laws.specs.Prefix.{same_number, same_list};
 ghost use Rattle.laws.specs.Sorted.{keep};
@@ -27,7 +29,7 @@ use tree::stored::{KeyOrder, stored_at};
 
 // The refusal, 0 for none, and the state that was handed in.
 #[repr(C)]
-#[derive(Drop)]
+#[derive(Clone, Copy)]
 pub struct AvailableRecorded {
     pub refusal: u8,
     pub state: State,
@@ -44,7 +46,7 @@ fn is_other(expects: bool, own_digest: [u8; 32], expected_digest: [u8; 32]) -> b
 }
 
 // A refusal, 0 for none; and where the entry stands in the subspace-first tree, if nothing is refused.
-#[derive(Drop)]
+#[derive(Clone, Copy)]
 struct Placed {
     refusal: u8,
     place: usize,

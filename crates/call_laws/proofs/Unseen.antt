@@ -1,6 +1,6 @@
 -- No call looks behind a path's total and count, at the path of an open end or at an absent protected area. Each answer depends on whether the paths are legal,
 -- and on their components where they are. Assumes nothing.
-use Prim.Native.Nat.{ℕ, ◌-◌}
+use Prim.Native.Nat.{ℕ}
 use mathlib.Core.Path.{◌≡◌, refl, ap, ap₂, ◌∙◌}
 use mathlib.Core.List.{List, []}
 use mathlib.Core.Bool.{Bool, true, false, cond, ◌&&◌}

@@ -164,7 +164,7 @@ module _ (f : Figures) (w : Tallied) where
       blind x y = unfold unless ◌or_else◌ in rw (illegal-first (tallied_refusal f w true)) refl
 
   pub area-forgotten-same : (protects : Bool) → SameForBoth AreasAgree (ProtectedAgree protects) (λ a protected. area_forgotten f w a protects protected)
-  unfolding area_forgotten forget_area_refusal
+  unfolding area_forgotten forget_area_refusal is_forgotten
   area-forgotten-same protects a b x y h k = guarded answer blind _ _ _ _ (ap₂ ◌&&◌ (behind-legal f a.path b.path h.path) (lawful protects k))
       (λ l. let z = and-true (legal f a.path) (cond protects (legal f x.path) true) l in fun_ext (forgotten protects k z.0 z.1))
     where
@@ -173,8 +173,8 @@ module _ (f : Figures) (w : Tallied) where
       lawful false k = refl
 
       forgotten : (o : Bool) → ProtectedAgree o x y → legal f a.path ≡ true → cond o (legal f x.path) true ≡ true → (z : Stored) → is_forgotten a o x z ≡ is_forgotten b o y z
-      forgotten true k l m z = unfold is_forgotten in ap₂ (λ (c d : Bool). c && not d) (area-test f a b h l z) (area-test f x y k m z)
-      forgotten false k l m z = unfold is_forgotten in ap (◌&& not false) (area-test f a b h l z)
+      forgotten true k l m z = ap₂ (λ (c d : Bool). c && not d) (area-test f a b h l z) (area-test f x y k m z)
+      forgotten false k l m z = ap (◌&& not false) (area-test f a b h l z)
 
       number : Bool → ℕ
       number lawful = tallied_refusal f w true or_else unless lawful illegal_path

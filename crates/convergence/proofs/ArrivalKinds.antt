@@ -21,7 +21,7 @@ use Rattle.call_laws.proofs.Checked.{right-opening}
 use Rattle.call_laws.proofs.Right.{not-records}
 use Rattle.convergence.specs.Demand.{after_all, throughout, Demand3}
 use Rattle.convergence.specs.Examples.{at_limit, record_for, one}
-use Rattle.convergence.specs.WrongStores.{AStore, OpensRight, RecordsNothing, RecordsOneTree, on_recording, deaf, half-deaf, Refuted}
+use Rattle.convergence.specs.WrongStores.{AStore, OpensRight, RecordsNothing, RecordsOneTree, on_recording, deaf, half_deaf, Refuted}
 use Rattle.convergence.proofs.OnlyOne.{one_store}
 use Rattle.convergence.proofs.Computing.{computing, reading}
 use Rattle.convergence.proofs.Mixed.{holds_all, fine_call, mixed-values, mixed, mixed-bytes}
@@ -99,10 +99,10 @@ one_records_nothing = (right-opening field, λ s _ c. same s c)
     same s (record_available x) r e = unfold on_recording in refl
     same s (forget_payload p) r e = unfold on_recording in refl
 
-pub one_records_one_tree : OpensRight half-deaf × RecordsOneTree half-deaf
+pub one_records_one_tree : OpensRight half_deaf × RecordsOneTree half_deaf
 one_records_one_tree = (right-opening field, λ s _ c. same s c)
   where
-    same : (s : Tallied) (c : Call) (r : Recording) → recording_of c ≡ some r → tree_of field Tsp (half-deaf.call s c).left.store ≡ tree_of field Tsp s.store
+    same : (s : Tallied) (c : Call) (r : Recording) → recording_of c ≡ some r → tree_of field Tsp (half_deaf.call s c).left.store ≡ tree_of field Tsp s.store
     same s (ingest i) r e = not-records i r e
     same s (forget_entry q) r e = unfold recording_of in absurd (let n : ◌≡◌ {A = ℕ} 0 1 = cc in omega arith)
     same s (forget_area a) r e = unfold recording_of in absurd (let n : ◌≡◌ {A = ℕ} 0 1 = cc in omega arith)

@@ -1,7 +1,7 @@
 -- What is kept with each stored entry along a list of calls, its available length and its origin; and lists without these. Assumes nothing.
 use Prim.Native.Nat.{ℕ, suc, ◌+◌, ◌-◌}
 use mathlib.Core.Path.{◌≡◌, refl, sym, ap, ap₂, subst, ◌∙◌}
-use mathlib.Core.Logic.{⊎_elim, ◌↔◌}
+use mathlib.Core.Logic.{⊎_elim}
 use mathlib.Core.Bool.{Bool, true, false, not, cond}
 use mathlib.Core.List.Memᴰ.{head as here}
 use mathlib.Core.List.Memᴰ.{tail as there}
@@ -10,8 +10,7 @@ use mathlib.Core.Option.{some}
 use native.Mathlib.Omega.{arith}
 use lib.ListN.{length, take, replicate, length-append}
 use lib.Seq.{take_at}
-use Rattle.laws.specs.Order.{Order, below, on}
-use Rattle.laws.specs.Sorted.{◌∈◌, any, keep, Ascends}
+use Rattle.laws.specs.Sorted.{◌∈◌, any, keep}
 use Rattle.laws.proofs.Truth.{split}
 use Rattle.laws.proofs.Sorted.{any_none, keep-view, insert-view}
 use Rattle.layout.specs.Layout.{records}
@@ -20,7 +19,7 @@ use Rattle.data_model.specs.Entry.{Entry, entry_of}
 use Rattle.data_model.specs.Origin.{origin_kind, origin_session}
 use Rattle.data_model.specs.declared.entry_origin.EntryOrigin.{EntryOrigin}
 use Rattle.data_model.specs.declared.entry_origin.EntryOrigin.TheVariants.{Local}
-use Rattle.keys.specs.Encode.{Triple, be}
+use Rattle.keys.specs.Encode.{be}
 use Rattle.keys.proofs.Encoding.{be-length}
 use Rattle.tree.specs.Value.{origin_bytes, value_bytes}
 use Rattle.tree.specs.Stored.{Stored, key_in, triple_of, value_for, record_of, Lawful, same_entry}

@@ -34,8 +34,8 @@ use Rattle.call_laws.proofs.Did.{so, recorded, Did, was_refused, was_obsolete, w
 use Rattle.call_laws.proofs.Stands.{opened-store, verdict-done}
 use Rattle.call_laws.proofs.Right.{refused-done, obsolete-done, held-done, not-forgets, not-records}
 use Rattle.convergence.specs.Demand.{ours, history, after_all, Receipt, receipt_of, not_refused, receipts, received, arrives, originates, is_done, left_from, available, inserted_with, Run, throughout, events, OneToken, Current, receipt_in, Exactly, Contents, Demand3}
-use Rattle.convergence.specs.Examples.{from, at_limit, target_of, record_for, having, one, two, later, lower, other-token}
-use Rattle.convergence.specs.WrongStores.{if_done, instead, Flaw, counts_only, leaves_bytes, loses_token, files_local, available_1, keeps_length, prunes_nothing, prunes_ties, prunes_one_tree, in_order_of_arrival, makes, length_there, flawed, with-flaw, leaves_after, leaves, Broken, Refuted}
+use Rattle.convergence.specs.Examples.{from, at_limit, target_of, record_for, having, one, two, later, lower, other_token}
+use Rattle.convergence.specs.WrongStores.{if_done, instead, Flaw, counts_only, leaves_bytes, loses_token, files_local, available_1, keeps_length, prunes_nothing, prunes_ties, prunes_one_tree, in_order_of_arrival, makes, length_there, flawed, with_flaw, leaves_after, leaves, Broken, Refuted}
 use Rattle.convergence.proofs.Examined.{verdict_in, none-arrived}
 use Rattle.convergence.proofs.Computing.{computing, reading}
 use Rattle.convergence.proofs.Lines.{fine, lines-values, lines-gather, opens-fine, computed}
@@ -84,9 +84,9 @@ done-lower : (outcome field t0 (ingest lower)).verdict ≡ done
 unfolding computing
 done-lower = first_done lower (computed 2 refl (lower ∷ []) refl).says_all
 
-done-token : (outcome field t0 (ingest other-token)).verdict ≡ done
+done-token : (outcome field t0 (ingest other_token)).verdict ≡ done
 unfolding computing
-done-token = first_done other-token (computed 2 refl (other-token ∷ []) refl).says_all
+done-token = first_done other_token (computed 2 refl (other_token ∷ []) refl).says_all
 
 done-from : (outcome field t0 (ingest (from (Remote 7) one))).verdict ≡ done
 unfolding computing
@@ -141,7 +141,7 @@ unfolding computing
 done-tied = next-verdict lower one (next-by lower done-lower makes-lower) (computed 2 refl (lower ∷ one ∷ []) refl).says_all
 
 -- What a store with a flaw leaves after one entry, and after two where the flaw does not show on the first.
-step : (w : Flaw) (s : Tallied) (i : IngestCall) → (outcome field s (ingest i)).verdict ≡ done → ((with-flaw w).call s (ingest i)).left ≡ flawed w i s
+step : (w : Flaw) (s : Tallied) (i : IngestCall) → (outcome field s (ingest i)).verdict ≡ done → ((with_flaw w).call s (ingest i)).left ≡ flawed w i s
 unfolding instead if_done
 step w s i d = rw d refl
 
@@ -150,18 +150,18 @@ unfolding after_all
 after_one w x d = ap (λ (s : Tallied). s.store) (step w t0 x d ∙ ap (flawed w x) begins)
 
 module _ (w : Flaw) (a x : IngestCall) (first : (outcome field t0 (ingest a)).verdict ≡ done) (q : flawed w a begun ≡ next a) (second : (outcome field (next a) (ingest x)).verdict ≡ done) where
-  unseen : ((with-flaw w).call t0 (ingest a)).left ≡ next a
+  unseen : ((with_flaw w).call t0 (ingest a)).left ≡ next a
   unseen = step w t0 a first ∙ ap (flawed w a) begins ∙ q
 
   after_two : leaves w (a ∷ x ∷ []) ≡ (flawed w x (next a)).store
   unfolding after_all
-  after_two = ap (λ (s : Tallied). ((with-flaw w).call s (ingest x)).left.store) unseen ∙ ap (λ (s : Tallied). s.store) (step w (next a) x second)
+  after_two = ap (λ (s : Tallied). ((with_flaw w).call s (ingest x)).left.store) unseen ∙ ap (λ (s : Tallied). s.store) (step w (next a) x second)
 
   -- Both are received.
-  got-two : received (history (with-flaw w) t0 (map ingest (a ∷ x ∷ []))) ≡ map receipt_of (a ∷ x ∷ [])
+  got-two : received (history (with_flaw w) t0 (map ingest (a ∷ x ∷ []))) ≡ map receipt_of (a ∷ x ∷ [])
   unfolding history received receipts not_refused input
   got-two =
-      let f : (outcome field ((with-flaw w).call t0 (ingest a)).left (ingest x)).verdict ≡ done = ap (λ (s : Tallied). (outcome field s (ingest x)).verdict) unseen ∙ second in
+      let f : (outcome field ((with_flaw w).call t0 (ingest a)).left (ingest x)).verdict ≡ done = ap (λ (s : Tallied). (outcome field s (ingest x)).verdict) unseen ∙ second in
       rw (f, first) refl
 
 -- The flaws.
@@ -182,10 +182,10 @@ bytes_left h =
     let z : ◌≡◌ {A = ℕ} 1 0 = ap (λ (l : List ℕ). get_or l 200 0) e in
     omega arith
 
-token-lost : Exactly (held field Spt (leaves loses_token (other-token ∷ []))) (map receipt_of (other-token ∷ [])) → ⊥
+token-lost : Exactly (held field Spt (leaves loses_token (other_token ∷ []))) (map receipt_of (other_token ∷ [])) → ⊥
 unfolding flawed computing reading held_by
 token-lost h =
-    let m : receipt_of other-token ∈ map receipt_in (held field Spt (flawed loses_token other-token begun).store) = rw (after_one loses_token other-token done-token) at ((h (receipt_of other-token)).1 (alone other-token)) in
+    let m : receipt_of other_token ∈ map receipt_in (held field Spt (flawed loses_token other_token begun).store) = rw (after_one loses_token other_token done-token) at ((h (receipt_of other_token)).1 (alone other_token)) in
     let z : ◌≡◌ {A = ℕ} 1 0 = ap (λ (r : Receipt). get_or r.token 0 0) (only m) in
     omega arith
 
@@ -194,7 +194,7 @@ unfolding flawed computing reading held_by
 local-filed = rw (after_one files_local (from (Remote 7) one) done-from) (here refl)
 
 -- By the calls, it came in session 7.
-came-in-7 : inserted_with (history (with-flaw files_local) t0 (ingest (from (Remote 7) one) ∷ [])) (filed_as one).entry ≡ Remote 7
+came-in-7 : inserted_with (history (with_flaw files_local) t0 (ingest (from (Remote 7) one) ∷ [])) (filed_as one).entry ≡ Remote 7
 unfolding history left_from originates is_done
 came-in-7 = rw (done-from, entry-equality.self (filed_as one).entry) refl
 
@@ -247,26 +247,26 @@ next-length : flawed keeps_length one begun ≡ next one
 unfolding flawed length_there computing reading held_by
 next-length = refl
 
-first-kept : ((with-flaw keeps_length).call t0 (ingest one)).left ≡ next one
+first-kept : ((with_flaw keeps_length).call t0 (ingest one)).left ≡ next one
 first-kept = step keeps_length t0 one done-one ∙ ap (flawed keeps_length one) begins ∙ next-length
 
-second-kept : ((with-flaw keeps_length).call ((with-flaw keeps_length).call t0 (ingest one)).left arrives-2).left ≡ recorded-2
+second-kept : ((with_flaw keeps_length).call ((with_flaw keeps_length).call t0 (ingest one)).left arrives-2).left ≡ recorded-2
 unfolding instead
 second-kept = ap (λ (s : Tallied). (outcome field s arrives-2).left) first-kept ∙ left-arrives
 
 after-three : leaves_after keeps_length calls-3 ≡ (flawed keeps_length later recorded-2).store
 unfolding after_all
-after-three = ap (λ (s : Tallied). ((with-flaw keeps_length).call s (ingest later)).left.store) second-kept ∙ ap (λ (s : Tallied). s.store) (step keeps_length recorded-2 later done-replaces)
+after-three = ap (λ (s : Tallied). ((with_flaw keeps_length).call s (ingest later)).left.store) second-kept ∙ ap (λ (s : Tallied). s.store) (step keeps_length recorded-2 later done-replaces)
 
 length-kept : having 2 later ∈ held field Spt (leaves_after keeps_length calls-3)
 unfolding flawed length_there computing reading held_by
 length-kept = rw after-three (here refl)
 
 -- By the calls, nothing has arrived of the later one.
-none-of-later : available (history (with-flaw keeps_length) t0 calls-3) (filed_as later).entry ≡ 0
+none-of-later : available (history (with_flaw keeps_length) t0 calls-3) (filed_as later).entry ≡ 0
 unfolding history left_from arrives is_done
 none-of-later =
-    let d : ((with-flaw keeps_length).call ((with-flaw keeps_length).call ((with-flaw keeps_length).call t0 (ingest one)).left arrives-2).left (ingest later)).verdict ≡ done
+    let d : ((with_flaw keeps_length).call ((with_flaw keeps_length).call ((with_flaw keeps_length).call t0 (ingest one)).left arrives-2).left (ingest later)).verdict ≡ done
     = ap (λ (s : Tallied). (outcome field s (ingest later)).verdict) second-kept ∙ done-replaces in
     rw (d, entry-equality.self (filed_as later).entry) refl
 
@@ -328,7 +328,7 @@ broken = record {
 }
 
 -- What is handed in is received, and the premise holds of it.
-got-one : (w : Flaw) (x : IngestCall) → (outcome field t0 (ingest x)).verdict ≡ done → received (history (with-flaw w) t0 (map ingest (x ∷ []))) ≡ map receipt_of (x ∷ [])
+got-one : (w : Flaw) (x : IngestCall) → (outcome field t0 (ingest x)).verdict ≡ done → received (history (with_flaw w) t0 (map ingest (x ∷ []))) ≡ map receipt_of (x ∷ [])
 unfolding history received receipts not_refused input
 got-one w x d = rw d refl
 
@@ -336,9 +336,9 @@ one-token-1 : (x : IngestCall) → OneToken (map receipt_of (x ∷ []))
 one-token-1 x a b n k e = ap (λ (r : Receipt). r.token) (only n ∙ sym (only k))
 
 -- So demand 3 says of these what each of them breaks.
-module _ (w : Flaw) (v : Demand3 (throughout field) (with-flaw w)) (xs : List IngestCall) (h : all (fine 2) xs ≡ true)
-    (got : received (history (with-flaw w) t0 (map ingest xs)) ≡ map receipt_of xs) (p : OneToken (map receipt_of xs)) where
-  abbrev run : Run (throughout field) (with-flaw w)
+module _ (w : Flaw) (v : Demand3 (throughout field) (with_flaw w)) (xs : List IngestCall) (h : all (fine 2) xs ≡ true)
+    (got : received (history (with_flaw w) t0 (map ingest xs)) ≡ map receipt_of xs) (p : OneToken (map receipt_of xs)) where
+  abbrev run : Run (throughout field) (with_flaw w)
   run = record { opening = at_limit 2; accepted = opens-fine 2 ok-2; calls = map ingest xs; values = lines-values 2 xs h }
 
   whole : (k : KeyOrder) → Contents field k (leaves w xs) (events run)
@@ -353,17 +353,17 @@ module _ (w : Flaw) (v : Demand3 (throughout field) (with-flaw w)) (xs : List In
   numbers : (k : KeyOrder) → dir_of k (leaves w xs) ≡ dir_numbers (dir_room 2) (map (record_of k) (held field k (leaves w xs)))
   numbers k = (whole k).laid.numbers ∙ ap (λ (n : ℕ). dir_numbers (dir_room n) (map (record_of k) (held field k (leaves w xs)))) (v.keeps run).limit
 
-pub having_a_flaw : (w : Flaw) → Refuted (with-flaw w)
+pub having_a_flaw : (w : Flaw) → Refuted (with_flaw w)
 unfolding computing
 having_a_flaw counts_only v = broken.counts_only (exactly counts_only v (one ∷ []) refl (got-one counts_only one done-one) (one-token-1 one) Spt)
 having_a_flaw leaves_bytes v = broken.leaves_bytes (bytes leaves_bytes v (one ∷ []) refl (got-one leaves_bytes one done-one) (one-token-1 one) Spt)
-having_a_flaw loses_token v = broken.loses_token (exactly loses_token v (other-token ∷ []) refl (got-one loses_token other-token done-token) (one-token-1 other-token) Spt)
+having_a_flaw loses_token v = broken.loses_token (exactly loses_token v (other_token ∷ []) refl (got-one loses_token other_token done-token) (one-token-1 other_token) Spt)
 having_a_flaw files_local v =
     let r = run files_local v (from (Remote 7) one ∷ []) refl (got-one files_local (from (Remote 7) one) done-from) (one-token-1 (from (Remote 7) one)) in
     not_local (v.inserted r Spt (filed_as one) broken.files_local ∙ came-in-7)
-having_a_flaw available_1 v = broken.available_1 λ x m. v.arrived (run available_1 v (one ∷ []) refl (got-one available_1 one done-one) (one-token-1 one)) Spt x m ∙ none-arrived (with-flaw available_1) t0 _ (one ∷ []) refl x.entry
+having_a_flaw available_1 v = broken.available_1 λ x m. v.arrived (run available_1 v (one ∷ []) refl (got-one available_1 one done-one) (one-token-1 one)) Spt x m ∙ none-arrived (with_flaw available_1) t0 _ (one ∷ []) refl x.entry
 having_a_flaw keeps_length v =
-    let r : Run (throughout field) (with-flaw keeps_length) = record { opening = at_limit 2; accepted = opens-fine 2 ok-2; calls = calls-3; values = mixed-values 2 refl calls-3 refl } in
+    let r : Run (throughout field) (with_flaw keeps_length) = record { opening = at_limit 2; accepted = opens-fine 2 ok-2; calls = calls-3; values = mixed-values 2 refl calls-3 refl } in
     let z : ◌≡◌ {A = ℕ} 2 0 = v.arrived r Spt (having 2 later) broken.keeps_length ∙ none-of-later in
     absurd (omega arith)
 having_a_flaw prunes_nothing v = broken.prunes_nothing (exactly prunes_nothing v (one ∷ later ∷ []) refl (got-two prunes_nothing one later done-one next-nothing done-later) (tokens-one (replicate 64 0) _ refl) Spt)

@@ -19,7 +19,7 @@ use Rattle.call_laws.specs.Calls.{IngestCall, ingest, already_held, done}
 use Rattle.call_laws.specs.Outcomes.{outcome}
 use Rattle.call_laws.proofs.Right.{held-done}
 use Rattle.convergence.specs.Demand.{ours, history, not_refused}
-use Rattle.convergence.specs.Examples.{at_limit, from, one, later, other-token}
+use Rattle.convergence.specs.Examples.{at_limit, from, one, later, other_token}
 use Rattle.convergence.specs.WrongStores.{AStore, OpensRight, is_occupied, HoldsByPlace, ChangesUndone, if_held, makes, leaving, renewed, relabelled, where_held, renewing, relabelling, Refuted}
 use Rattle.convergence.proofs.Examined.{verdict_in}
 use Rattle.convergence.proofs.Computing.{computing, reading}
@@ -41,9 +41,9 @@ holding_by_place m o w v =
     held-done (sym (w (m.call (s0 m o v) c1).left (reached-1 m o v) (ingest later) t n) ∙ second-verdict m o v later next-later)
 
 -- The first with another token is held by ours.
-says-token : map verdict_in (history (ours field) t0 (map ingest (one ∷ other-token ∷ []))) ≡ done ∷ already_held ∷ []
+says-token : map verdict_in (history (ours field) t0 (map ingest (one ∷ other_token ∷ []))) ≡ done ∷ already_held ∷ []
 unfolding computing
-says-token = (computed 2 refl (one ∷ other-token ∷ []) refl).says_all
+says-token = (computed 2 refl (one ∷ other_token ∷ []) refl).says_all
 
 -- So is the first from elsewhere.
 says-origin : map verdict_in (history (ours field) t0 (map ingest (one ∷ from (Remote 7) one ∷ []))) ≡ done ∷ already_held ∷ []
@@ -77,7 +77,7 @@ module _ (g : Stored → Held → Held) (x : IngestCall) (says-x : map verdict_i
       )
 
 -- What is held is filed again: the token changes.
-token-renewed : makes renewed other-token (next one) ≡ next one → ⊥
+token-renewed : makes renewed other_token (next one) ≡ next one → ⊥
 unfolding computing reading held_by
 token-renewed q =
     let z : ◌≡◌ {A = ℕ} 1 0 = ap (λ (t : Tallied). get_or (get_or (map (λ (x : Stored). x.token) (held field Spt t.store)) 0 []) 0 0) q in
@@ -85,7 +85,7 @@ token-renewed q =
 
 pub one_renews_held : ChangesUndone renewing
 unfolding computing
-one_renews_held = one-changes-held renewed other-token says-token refl token-renewed
+one_renews_held = one-changes-held renewed other_token says-token refl token-renewed
 
 -- Its origin changes.
 origin-relabelled : makes relabelled (from (Remote 7) one) (next one) ≡ next one → ⊥

@@ -7,7 +7,7 @@ use mathlib.Core.List.Memᴰ.{cases_cons as uncons}
 use mathlib.Core.List.Memᴰ.{head as here}
 use mathlib.Core.List.Memᴰ.{not-nil as none_in}
 use mathlib.Core.List.Memᴰ.{tail as there}
-use mathlib.Core.List.{List, [], ◌∷◌, map}
+use mathlib.Core.List.{List, [], ◌∷◌}
 use mathlib.Core.Bool.{Bool, true}
 use mathlib.Core.Option.{some}
 use Rattle.laws.specs.Sorted.{◌∈◌}
@@ -19,18 +19,17 @@ use Rattle.tree.specs.Stored.{Stored, stored, record_of, key_of}
 use Rattle.tree.specs.Matching.{listed_in_area, listed_in_range}
 use Rattle.tree.specs.declared.stored.KeyOrder.TheVariants.{Spt}
 use Rattle.tree.proofs.RecordLaws.{key-of-record, stored_back}
-use Rattle.store.specs.Store.{Store, held, held_by, Tallied}
+use Rattle.store.specs.Store.{held, held_by, Tallied}
 use Rattle.store.specs.Refusal.{unless, ◌or_else◌, store_refusal}
 use Rattle.store.proofs.CheckLaws.{refuses-none}
-use Rattle.store.proofs.Lifted.{list_of, held_in}
 use Rattle.store.proofs.Recorded.{map-view}
 use Rattle.query.specs.Reading.{read_refusal, is_remembered, list_refusal}
-use Rattle.query.specs.Listing.{spt_records, listed}
+use Rattle.query.specs.Listing.{listed}
 use Rattle.query.specs.Walk.{Turn, Stepped, remembered, entry_key}
 use Rattle.query.proofs.StartLaws.{record-remembered}
 use Rattle.query.proofs.GivenLaws.{answered}
 use Rattle.query.proofs.WalkShown.{Keyed, shows}
-use Rattle.call_laws.specs.Calls.{Call, IsValue}
+use Rattle.call_laws.specs.Calls.{Call}
 use Rattle.call_laws.proofs.Stands.{Stands, stands-well, opens-stands}
 use Rattle.convergence.specs.Demand.{ours, after_all, Run, throughout, end}
 use Rattle.convergence.specs.OpenListing.{Pause, turns_from, left_after, PausesAreValues, OpenListing}

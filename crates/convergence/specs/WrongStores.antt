@@ -21,7 +21,7 @@ use Rattle.call_laws.specs.Calls.{Opening, IngestCall, AreaForgetting, Recording
 use Rattle.call_laws.specs.Checks.{OpeningVerdictRight, NoneAt}
 use Rattle.call_laws.specs.Outcomes.{Outcome, outcome, opens}
 use Rattle.convergence.specs.Demand.{Machine, Event, after_all, receipt_of, not_refused, Run, throughout, events, end, receipt_in, Exactly, Demand3}
-use Rattle.convergence.specs.Examples.{at_limit, from, one, two, later, lower, other-token, record_for, having}
+use Rattle.convergence.specs.Examples.{at_limit, from, one, two, later, lower, other_token, record_for, having}
 
 -- A store, right or wrong: whatever it answers, and leaves of a state, four buffers and a tally.
 abbrev pub AStore : Type 0
@@ -112,8 +112,8 @@ TalliesBefore m = (s : Tallied) → Reached m s → (c : Call) → (m.call s c).
 abbrev pub always : Verdict → ℕ → AStore
 always v n = record { opening = opens field; call = λ s c. record { verdict = v; number = n; left = s } }
 
-abbrev pub until-one : AStore
-until-one = record { opening = opens field; call = λ s c. cond (eqb s.store.state.count 0) (outcome field s c) (record { verdict = obsolete; number = 0; left = s }) }
+abbrev pub until_one : AStore
+until_one = record { opening = opens field; call = λ s c. cond (eqb s.store.state.count 0) (outcome field s c) (record { verdict = obsolete; number = 0; left = s }) }
 
 -- As ours, but that whatever comes to a place where an entry is stored is held.
 abbrev pub by_place : AStore
@@ -152,14 +152,14 @@ haunted = leaving λ s c o. on_forgetting c (half_done s o.left) o.left
 abbrev pub deaf : AStore
 deaf = leaving λ s c o. on_recording c s o.left
 
-abbrev pub half-deaf : AStore
-half-deaf = leaving λ s c o. on_recording c (half_done s o.left) o.left
+abbrev pub half_deaf : AStore
+half_deaf = leaving λ s c o. on_recording c (half_done s o.left) o.left
 
 abbrev pub wiping : AStore
 wiping = leaving λ s c o. cond (not_refused o.verdict) o.left (tallied_holding field nothing s)
 
-abbrev pub opening-all : AStore
-opening-all = record { opening = λ o. record { verdict = done; number = 0; left = (opens field o).left }; call = outcome field }
+abbrev pub opening_all : AStore
+opening_all = record { opening = λ o. record { verdict = done; number = 0; left = (opens field o).left }; call = outcome field }
 
 -- As ours, but for the tally: it is never written; it is written before the change.
 abbrev pub silent : AStore
@@ -207,14 +207,14 @@ length_there e [] = 0
 length_there e (y ∷ l) = cond (stands_at e.subspace e.path y) y.available (length_there e l)
 
 -- What is stored, as if it came from here.
-abbrev pub from-here : Stored → Stored
-from-here x = record { entry = x.entry; token = x.token; available = x.available; origin = Local }
+abbrev pub from_here : Stored → Stored
+from_here x = record { entry = x.entry; token = x.token; available = x.available; origin = Local }
 
 unfoldable pub flawed : Flaw → IngestCall → Tallied → Tallied
 flawed counts_only i s = let t = s.store in record { store = store_of (state_with t.state (suc t.state.count)) t.spt t.spt_dir t.tsp t.tsp_dir; tally = (makes filed i s).tally }
 flawed leaves_bytes i s = let t = (makes filed i s).store in record { store = store_of t.state (take 200 t.spt ++ 1 ∷ drop 201 t.spt) t.spt_dir t.tsp t.tsp_dir; tally = (makes filed i s).tally }
 flawed loses_token i s = makes (λ x h. filed (record { entry = x.entry; token = replicate 64 0; available = 0; origin = x.origin }) h) i s
-flawed files_local i s = makes (λ x h. filed (from-here x) h) i s
+flawed files_local i s = makes (λ x h. filed (from_here x) h) i s
 flawed available_1 i s = makes (λ x h. filed (arrive 1 x) h) i s
 flawed keeps_length i s = makes (λ x h. filed (arrive (length_there x.entry h.spt) x) h) i s
 flawed prunes_nothing i s = makes (λ x h. record { spt = insert spt_less x h.spt; tsp = insert tsp_less x h.tsp }) i s
@@ -248,12 +248,12 @@ renewing = leaving (where_held renewed)
 abbrev pub relabelling : AStore
 relabelling = leaving (where_held relabelled)
 
-abbrev pub with-flaw : Flaw → AStore
-with-flaw w = leaving (instead (flawed w))
+abbrev pub with_flaw : Flaw → AStore
+with_flaw w = leaving (instead (flawed w))
 
 -- What it leaves of a store of limit 2 after these calls, and after these ingestions.
 abbrev pub leaves_after : Flaw → List Call → Store
-leaves_after w cs = (after_all (with-flaw w) (opens field (at_limit 2)).left cs).store
+leaves_after w cs = (after_all (with_flaw w) (opens field (at_limit 2)).left cs).store
 
 abbrev pub leaves : Flaw → List IngestCall → Store
 leaves w handed = leaves_after w (map ingest handed)
@@ -263,7 +263,7 @@ leaves w handed = leaves_after w (map ingest handed)
 pub record Broken : Type 0 where
   pub counts_only : Exactly (held field Spt (leaves counts_only (one ∷ []))) (map receipt_of (one ∷ [])) → ⊥
   pub leaves_bytes : let s = leaves leaves_bytes (one ∷ []) in tree_of field Spt s ≡ tree_bytes (tree_room field 2) (map (record_of Spt) (held field Spt s)) → ⊥
-  pub loses_token : Exactly (held field Spt (leaves loses_token (other-token ∷ []))) (map receipt_of (other-token ∷ [])) → ⊥
+  pub loses_token : Exactly (held field Spt (leaves loses_token (other_token ∷ []))) (map receipt_of (other_token ∷ [])) → ⊥
   pub files_local : filed_as one ∈ held field Spt (leaves files_local (from (Remote 7) one ∷ []))
   pub available_1 : ((x : Stored) → x ∈ held field Spt (leaves available_1 (one ∷ [])) → x.available ≡ 0) → ⊥
   pub keeps_length : having 2 later ∈ held field Spt (leaves_after keeps_length (ingest one ∷ record_for one 2 ∷ ingest later ∷ []))
@@ -296,7 +296,7 @@ pub record ShutOut : Type 0 where
   pub opening_nothing : (m : AStore) → ((o : Opening) → (m.opening o).verdict ≡ done → ⊥) → OpensRight m → ⊥
   -- There are such, and others that are as ours but for one thing.
   pub one_files_nothing : OpensRight (always done 0) × FilesNothing (always done 0)
-  pub one_files_the_first : OpensRight until-one × FirstOnly until-one
+  pub one_files_the_first : OpensRight until_one × FirstOnly until_one
   pub one_holds_by_place : OpensRight by_place × HoldsByPlace by_place
   pub one_is_full_below : FullBelow (always (refused 8) 0)
   pub one_refuses_everybody : (n : ℕ) → OpensRight (always (refused n) 0) × RefusesAll (always (refused n) 0)
@@ -304,14 +304,14 @@ pub record ShutOut : Type 0 where
   pub one_forgets_nothing : OpensRight idle × ForgetsNothing idle
   pub one_forgets_one_tree : OpensRight haunted × ForgetsOneTree haunted
   pub one_records_nothing : OpensRight deaf × RecordsNothing deaf
-  pub one_records_one_tree : OpensRight half-deaf × RecordsOneTree half-deaf
+  pub one_records_one_tree : OpensRight half_deaf × RecordsOneTree half_deaf
   pub one_records_elsewhere : RecordsElsewhere (always done 0)
   pub one_makes_it_up : MadeUpCount (always done 1)
   pub one_changes_refused : ChangesUndone wiping
   pub one_renews_held : ChangesUndone renewing
   pub one_relabels_held : ChangesUndone relabelling
-  pub one_opens_none : OpensNone opening-all
+  pub one_opens_none : OpensNone opening_all
   pub one_tallies_nothing : OpensRight silent × TalliesNothing silent
   pub one_tallies_before : OpensRight hasty × TalliesBefore hasty
   pub broken : Broken
-  pub having_a_flaw : (w : Flaw) → Refuted (with-flaw w)
+  pub having_a_flaw : (w : Flaw) → Refuted (with_flaw w)

@@ -1,11 +1,11 @@
 -- An origin, its kind and its session number: each says the other. Assumes nothing.
 use Prim.Native.Nat.{ℕ}
 use mathlib.Core.Path.{◌≡◌, refl, sym, ap, ◌∙◌}
-use mathlib.Core.Bool.{true, false, cond, ◌&&◌}
+use mathlib.Core.Bool.{true}
 use lib.Dec.{eqb}
 use borrow.Author.Tests.{eqb-true}
 use Rattle.laws.specs.Prefix.{Equality, same_number}
-use Rattle.laws.proofs.Truth.{split, clash, and-true}
+use Rattle.laws.proofs.Truth.{split, and-true}
 use Rattle.laws.proofs.Prefix.{number-equality}
 use Rattle.data_model.specs.Origin.{origin_kind, origin_session, is_origin, origin_of, same_origin}
 use Rattle.data_model.specs.declared.entry_origin.EntryOrigin.{EntryOrigin}

@@ -81,7 +81,7 @@ ordering_says ordering.Equal = same
 ordering_says ordering.Greater = greater
 
 -- The comparison of two entries by their ranks: the first is newer if its rank is the greater one, older if it is the lesser, the same if neither is
--- (`compared-newer`, `compared-older`, `Compared-same`: so it is by `newer`).
+-- (`compared-newer`, `compared-older`, `compared_same`: so it is by `newer`).
 unfoldable pub recency_says : Recency → Order
 recency_says recency.Newer = greater
 recency_says recency.Older = less

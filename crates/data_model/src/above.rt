@@ -9,14 +9,14 @@ use crate::path::{MCL, MPL, PATH_BYTES, PATH_ENDS, Path};
 
 // Refusal 0 and whether there is such a path, and it; or the refusal and all else 0.
 #[repr(C)]
-#[derive(Drop)]
+#[derive(Clone, Copy)]
 pub struct Above {
     pub refusal: u8,
     pub found: bool,
     pub path: Path,
 }
 
-#[derive(Drop)]
+#[derive(Clone, Copy)]
 pub enum Found {
     At(usize),
     Nothing,

@@ -39,14 +39,14 @@ pub const ABSENT_ENTRY: u8 = 11;
 // An available length is above the payload length.
 pub const TOO_MUCH_AVAILABLE: u8 = 12;
 
-#[derive(Drop)]
+#[derive(Clone, Copy)]
 pub enum Answer {
     Yes,
     No,
     Refused(u8),
 }
 
-#[derive(Drop)]
+#[derive(Clone, Copy)]
 pub enum Compared {
     Less,
     Equal,
@@ -54,7 +54,7 @@ pub enum Compared {
     Refused(u8),
 }
 
-#[derive(Drop)]
+#[derive(Clone, Copy)]
 pub enum Ordering {
     Less,
     Equal,
@@ -62,7 +62,7 @@ pub enum Ordering {
 }
 
 // How the first of two entries stands to the second.
-#[derive(Drop)]
+#[derive(Clone, Copy)]
 pub enum Recency {
     Newer,
     Older,
@@ -70,7 +70,7 @@ pub enum Recency {
 }
 
 // How the first of two entries stands to the second; or the refusal.
-#[derive(Drop)]
+#[derive(Clone, Copy)]
 pub enum EntriesCompared {
     Newer,
     Older,

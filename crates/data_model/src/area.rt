@@ -7,13 +7,13 @@ use crate::path::Path;
 use crate::range::TimesRange;
 use crate::range_3d::Range3d;
 
-#[derive(Drop)]
+#[derive(Clone, Copy)]
 pub enum AreaSubspace {
     Any,
     Id(Subspace),
 }
 
-#[derive(Drop)]
+#[derive(Clone, Copy)]
 pub struct Area {
     pub subspace: AreaSubspace,
     pub path: Path,
@@ -21,7 +21,7 @@ pub struct Area {
 }
 
 // The answer for an area's 3d range: refusal 0 and the range, or the refusal and all else 0.
-#[derive(Drop)]
+#[derive(Clone, Copy)]
 pub struct AreaRange {
     pub refusal: u8,
     pub range: Range3d,

@@ -6,7 +6,7 @@ use crate::parameters::Subspace;
 use crate::path::Path;
 
 // What decides which of two entries is newer.
-#[derive(Drop)]
+#[derive(Clone, Copy)]
 pub struct Rank {
     pub timestamp: u64,
     pub payload_digest: [u8; 32],
@@ -14,7 +14,7 @@ pub struct Rank {
 }
 
 #[repr(C)]
-#[derive(Drop)]
+#[derive(Clone, Copy)]
 pub struct Entry {
     pub namespace_id: [u8; 16],
     pub subspace_id: Subspace,

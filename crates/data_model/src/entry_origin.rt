@@ -8,7 +8,7 @@ pub const LOCAL: u8 = 0;
 pub const REMOTE: u8 = 1;
 
 // An entry was filed here; or it came from another source, in the session with this number.
-#[derive(Drop)]
+#[derive(Clone, Copy)]
 pub enum EntryOrigin {
     Local,
     Remote(u64),

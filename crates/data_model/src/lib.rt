@@ -1,6 +1,8 @@
 // The data model: paths, entries, ranges and areas. The public entries have no `requires`. `checked` and `above` are for the layers above
 // and below these entries: their functions may ask what a caller has tested already, as that a path is legal.
 // The types' files use neither; `questions` and `area_range` have the methods of these types that do.
+#![tactic(auto)]
+
 pub mod above;
 pub mod answer;
 pub mod area;

@@ -6,7 +6,7 @@ ghost use Rattle.data_model.specs.Subspace.{same_subspace, by_subspace};
 use crate::answer::{Ordering, compare_numbers, is_equal};
 
 #[repr(C)]
-#[derive(Drop)]
+#[derive(Clone, Copy)]
 pub struct Subspace {
     pub high: u64,
     pub low: u64,

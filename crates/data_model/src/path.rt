@@ -19,7 +19,7 @@ pub const COMPONENT_BYTES: usize = 64;
 
 // The component ends, of which the first `count` count, cut the bytes; what lies behind is never looked at.
 #[repr(C)]
-#[derive(Drop)]
+#[derive(Clone, Copy)]
 pub struct Path {
     pub bytes: [u8; PATH_BYTES],
     pub ends: [usize; PATH_ENDS],

@@ -8,32 +8,32 @@ use crate::answer::is_less;
 use crate::parameters::Subspace;
 use crate::path::Path;
 
-#[derive(Drop)]
+#[derive(Clone, Copy)]
 pub enum RangeEnd {
     Closed(u64),
     Open,
 }
 
-#[derive(Drop)]
+#[derive(Clone, Copy)]
 pub enum SubspaceEnd {
     Closed(Subspace),
     Open,
 }
 
-#[derive(Drop)]
+#[derive(Clone, Copy)]
 pub struct TimesRange {
     pub start: u64,
     pub end: RangeEnd,
 }
 
-#[derive(Drop)]
+#[derive(Clone, Copy)]
 pub struct SubspaceRange {
     pub start: Subspace,
     pub end: SubspaceEnd,
 }
 
 // The end is a path, and not looked at where the range is open.
-#[derive(Drop)]
+#[derive(Clone, Copy)]
 pub struct PathRange {
     pub start: Path,
     pub end: Path,

@@ -6,7 +6,7 @@ use crate::parameters::Subspace;
 use crate::path::Path;
 use crate::range::{PathRange, RangeEnd, SubspaceEnd, SubspaceRange, TimesRange};
 
-#[derive(Drop)]
+#[derive(Clone, Copy)]
 pub struct Range3d {
     pub subspaces: SubspaceRange,
     pub paths: PathRange,

@@ -62,8 +62,8 @@ Reads path_bytes time_bytes answer step =
     × (component_read field 0 path_bytes ≡ step)
 
 -- The bytes of timestamp 0. A subspace-first key that is cut behind its path bytes has none.
-abbrev pub time-0 : List ℕ
-time-0 = replicate 8 0
+abbrev pub time_0 : List ℕ
+time_0 = replicate 8 0
 
 pub record Examples : Type 0 where
   pub empty-path : path_key [] ≡ 0x00 ∷ 0x00 ∷ []
@@ -83,17 +83,17 @@ pub record Examples : Type 0 where
   pub order_traps : ([61] ≺ (0x61 ∷ []) ∷ [] ∷ []) × ((0x61 ∷ []) ∷ [] ∷ [] ≺ (0x61 ∷ []) ∷ (0xff ∷ []) ∷ [])
       × ((0x61 ∷ []) ∷ (0xff ∷ []) ∷ [] ≺ [6100]) × ([6100] ≺ (0x62 ∷ []) ∷ [])
   -- The cases of the escape table (02, U5), then traps of reading.
-  pub ordinary : Reads (0x61 ∷ 0x00 ∷ 0x01 ∷ 0x00 ∷ 0x00 ∷ []) time-0 (decoded_to [61]) (read_to (0x61 ∷ []) 3)
-  pub zero_zero : Reads (0x00 ∷ 0x00 ∷ []) time-0 (decoded_to []) path_ends
-  pub zero_one : Reads (0x00 ∷ 0x01 ∷ 0x00 ∷ 0x00 ∷ []) time-0 (decoded_to ([] ∷ [])) (read_to [] 2)
-  pub zero_two : Reads (0x00 ∷ 0x02 ∷ 0x00 ∷ 0x01 ∷ 0x00 ∷ 0x00 ∷ []) time-0 (decoded_to ((0x00 ∷ []) ∷ [])) (read_to (0x00 ∷ []) 4)
-  pub zero_other : Reads (0x00 ∷ 0x03 ∷ 0x00 ∷ 0x01 ∷ 0x00 ∷ 0x00 ∷ []) time-0 not_decoded not_read
-      × Reads (0x00 ∷ 0xff ∷ 0x00 ∷ 0x01 ∷ 0x00 ∷ 0x00 ∷ []) time-0 not_decoded not_read
-      × Reads (0x61 ∷ 0x00 ∷ 0x03 ∷ 0x00 ∷ 0x01 ∷ 0x00 ∷ 0x00 ∷ []) time-0 not_decoded not_read
+  pub ordinary : Reads (0x61 ∷ 0x00 ∷ 0x01 ∷ 0x00 ∷ 0x00 ∷ []) time_0 (decoded_to [61]) (read_to (0x61 ∷ []) 3)
+  pub zero_zero : Reads (0x00 ∷ 0x00 ∷ []) time_0 (decoded_to []) path_ends
+  pub zero_one : Reads (0x00 ∷ 0x01 ∷ 0x00 ∷ 0x00 ∷ []) time_0 (decoded_to ([] ∷ [])) (read_to [] 2)
+  pub zero_two : Reads (0x00 ∷ 0x02 ∷ 0x00 ∷ 0x01 ∷ 0x00 ∷ 0x00 ∷ []) time_0 (decoded_to ((0x00 ∷ []) ∷ [])) (read_to (0x00 ∷ []) 4)
+  pub zero_other : Reads (0x00 ∷ 0x03 ∷ 0x00 ∷ 0x01 ∷ 0x00 ∷ 0x00 ∷ []) time_0 not_decoded not_read
+      × Reads (0x00 ∷ 0xff ∷ 0x00 ∷ 0x01 ∷ 0x00 ∷ 0x00 ∷ []) time_0 not_decoded not_read
+      × Reads (0x61 ∷ 0x00 ∷ 0x03 ∷ 0x00 ∷ 0x01 ∷ 0x00 ∷ 0x00 ∷ []) time_0 not_decoded not_read
   pub zero_last : Reads (0x00 ∷ []) [] not_decoded not_read
       × Reads (0x61 ∷ 0x00 ∷ []) [] not_decoded not_read
       × Reads (0x61 ∷ 0x62 ∷ 0x63 ∷ 0x64 ∷ 0x65 ∷ 0x66 ∷ 0x67 ∷ 0x00 ∷ []) [] not_decoded not_read
-  pub reading_traps : Reads (0x61 ∷ 0x00 ∷ 0x00 ∷ []) time-0 not_decoded not_read
-      × Reads (0x61 ∷ []) time-0 not_decoded not_read
-      × Reads (replicate 64 0x61 ++ (0x00 ∷ 0x02 ∷ 0x00 ∷ 0x01 ∷ 0x00 ∷ 0x00 ∷ [])) time-0 not_decoded not_read
+  pub reading_traps : Reads (0x61 ∷ 0x00 ∷ 0x00 ∷ []) time_0 not_decoded not_read
+      × Reads (0x61 ∷ []) time_0 not_decoded not_read
+      × Reads (replicate 64 0x61 ++ (0x00 ∷ 0x02 ∷ 0x00 ∷ 0x01 ∷ 0x00 ∷ 0x00 ∷ [])) time_0 not_decoded not_read
       × Reads [] [] not_decoded not_read

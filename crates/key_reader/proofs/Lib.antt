@@ -1,4 +1,1 @@
 pub mod TakingPath
-pub mod Lending
-pub mod TakenApart
-pub mod MadeNew

@@ -1,5 +1,6 @@
 // A reader that holds a key's bytes by reference, with its position. Its methods leave the work to the decoder on slice and number.
-// The borrow checker covers no function over such a struct: each is proved by a walk.
+#![tactic(auto)]
+
 ghost use Rattle.std.specs.Prelude.{◌≡◌, min, length, drop};
 ghost use Rattle.laws.specs.Parts.{PartBegins};
 ghost use Rattle.data_model.specs.Path.{field};
@@ -9,7 +10,7 @@ ghost use Rattle.key_reader.specs.Reader.{behind, stepped_says, stepped};
 use keys::decode::{ComponentRead, Decoded, Next, PathRead};
 
 // A key's bytes, and the position of the next byte to read.
-#[derive(Drop)]
+#[derive(Clone, Copy)]
 pub struct KeyReader<'a> {
     pub bytes: &'a [u8],
     pub at: usize,
@@ -54,7 +55,7 @@ impl<'a> KeyReader<'a> {
 
     // What is left to read, as a part of the key: its bytes, and where they lie. Past the end: nothing, at the key's end.
     pub fn rest(self) -> &'a [u8]
-        ensures { (result.now ≡ drop self.entry.at self.entry.bytes.now) × PartBegins self.entry.bytes.ptr result.ref_ptr (min self.entry.at (length self.entry.bytes.now)) }
+        ensures { (result.now ≡ drop self.entry.at self.entry.bytes.now) × PartBegins self.entry.bytes.ref_ptr result.ref_ptr (min self.entry.at (length self.entry.bytes.now)) }
     {
         from_position(self.bytes, self.at)
     }
@@ -93,7 +94,7 @@ impl<'a> KeyReader<'a> {
 }
 
 // What one step of a reader gives: the component or the path's end that it read, its position behind it, and how many bytes are left to read.
-#[derive(Drop)]
+#[derive(Clone, Copy)]
 pub struct Stepped {
     pub component: ComponentRead,
     pub position: usize,

@@ -11,21 +11,21 @@ use data_model::parameters::Subspace;
 use data_model::path::{COMPONENT_BYTES, MCL, PATH_BYTES, PATH_ENDS, Path};
 
 // How many elements were read, and how many bytes they took.
-#[derive(Drop)]
+#[derive(Clone, Copy)]
 pub enum Part {
     Took(usize, usize),
     Refused,
 }
 
 // The next component, its length and the position behind it; or the position behind the path's end.
-#[derive(Drop)]
+#[derive(Clone, Copy)]
 pub enum Next {
     Component(usize, usize),
     PathEnd(usize),
     Refused(u8),
 }
 
-#[derive(Drop)]
+#[derive(Clone, Copy)]
 pub struct ComponentRead {
     pub next: Next,
     pub bytes: [u8; COMPONENT_BYTES],
@@ -33,7 +33,7 @@ pub struct ComponentRead {
 
 // A path and the position behind it.
 #[repr(C)]
-#[derive(Drop)]
+#[derive(Clone, Copy)]
 pub struct PathRead {
     pub refusal: u8,
     pub path: Path,
@@ -42,7 +42,7 @@ pub struct PathRead {
 
 // What a key stands for: refusal 0 and it, or the refusal and all else 0.
 #[repr(C)]
-#[derive(Drop)]
+#[derive(Clone, Copy)]
 pub struct Decoded {
     pub refusal: u8,
     pub subspace: Subspace,

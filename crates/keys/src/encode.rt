@@ -19,7 +19,7 @@ pub const ESCAPED_ZERO: [u8; 2] = [0, 2];
 // The most bytes of a key: a subspace, each byte escaped, a mark for each component and one for the path, a timestamp.
 pub const KEY_MOST: usize = 16 + 2 * MPL + 2 * MCC + 2 + 8;
 
-#[derive(Drop)]
+#[derive(Clone, Copy)]
 pub enum Encoded {
     Written(usize),
     Refused(u8),

@@ -12,7 +12,7 @@ use data_model::path::{MCC, MCL, MPL};
 const STRETCH: usize = 32;
 
 // Of a stretch of bytes: whether each 00 stands before a 01 or a 02, how many bytes are not 00, and how many 00 stand before a 01.
-#[derive(Drop)]
+#[derive(Clone, Copy)]
 struct Counts {
     sound: bool,
     others: usize,
@@ -63,7 +63,7 @@ fn counts_up_to(k: &[u8], at: usize, w: usize) -> Counts
 }
 
 // The bytes before the end of a component, or all of a stretch in which none ends: how many, and what is counted of them.
-#[derive(Drop)]
+#[derive(Clone, Copy)]
 struct Front {
     w: usize,
     counts: Counts,

@@ -9,7 +9,7 @@ use crate::encode::{COMPONENT_END, ESCAPED_ZERO, PATH_END};
 use data_model::answer::NO_KEY;
 
 // What stands at a position of a path's bytes.
-#[derive(Drop)]
+#[derive(Clone, Copy)]
 pub enum Token {
     Byte(u8),
     ComponentEnd,
@@ -28,7 +28,7 @@ fn same_mark(a: [u8; 2], b: [u8; 2]) -> bool
 }
 
 // The cases of the escape table: an ordinary byte; 00 then 00, 01, 02 or anything else; 00 at the end.
-#[derive(Drop)]
+#[derive(Clone, Copy)]
 enum EscapeCase {
     Ordinary(u8),
     ZeroZero,

@@ -4,7 +4,7 @@ use mathlib.Core.Bool.{Bool, true, false, ◌&&◌}
 use mathlib.Core.List.{List, [], ◌∷◌, ◌++◌}
 use Prim.Native.Nat.{ℕ, suc}
 use borrow.Author.Tests.{eqb-true, eq-eqb}
-use Rattle.laws.specs.Order.{Order, less, ◌then◌, is_same, by_elements, Linear}
+use Rattle.laws.specs.Order.{Order, less, is_same, by_elements, Linear}
 use Rattle.laws.specs.Prefix.{Equality, same_number, same_list, prefix_of}
 use Rattle.laws.proofs.Truth.{clash, and-true, alike}
 use native.Mathlib.Omega.{arith}

@@ -3,7 +3,7 @@ use Prim.Native.Nat.{ℕ, ◌+◌, ◌-◌, ◌*◌, ◌≤◌, ◌<◌}
 use mathlib.Core.Path.{◌≡◌, refl, sym, ap, subst, ◌∙◌}
 use mathlib.Core.List.{List, [], ◌∷◌, ◌++◌, append_assoc}
 use mathlib.Core.Bool.{Bool, true}
-use mathlib.Core.Option.{Option, some}
+use mathlib.Core.Option.{some}
 use native.Mathlib.Omega.{arith}
 use lib.ListN.{length, drop, length-append}
 use lib.Seq.{drop_at, drop-drop, length-take-le}
@@ -17,7 +17,7 @@ use Rattle.laws.specs.Sorted.{all, keep}
 use Rattle.laws.proofs.Truth.{split}
 use Rattle.laws.proofs.Lists.{Wrote, wrote-first, wrote-lent, wrote-length, wrote-all}
 use Rattle.data_model.specs.Ignore.{no_flags}
-use Rattle.data_model.specs.Said.{Said, says}
+use Rattle.data_model.specs.Said.{says}
 use Rattle.data_model.specs.Path.{field, legal, joined, is_path, path_of}
 use Rattle.data_model.specs.Range.{times_include, includes, before_end, times_end}
 use Rattle.data_model.specs.Area.{area_subspace, area_includes}
@@ -37,7 +37,7 @@ use Rattle.store.specs.Store.{Store, limit_most, tree_room, tree_of, dir_of, hel
 use Rattle.store.specs.Refusal.{store_refusal, unless, ◌or_else◌}
 use Rattle.query.specs.Reading.{read_refusal, area_refusal}
 use Rattle.query.specs.Listing.{area_listed, part_of, area_part}
-use Rattle.query.specs.Count.{counted, area_counted}
+use Rattle.query.specs.Count.{area_counted}
 use Rattle.query.specs.Walk.{Walked, turns_on, matching}
 use Rattle.query.specs.declared.answer.Counted.{Counted}
 use Rattle.query.proofs.Tested.{read-tested, formed-spt}

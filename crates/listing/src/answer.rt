@@ -16,14 +16,14 @@ use store::state::State;
 use text::line::{field_end, write_bytes};
 
 // The state that lines leave, and how many bytes their answers have.
-#[derive(Drop)]
+#[derive(Clone, Copy)]
 pub struct Answered {
     pub state: State,
     pub written: usize,
 }
 
 // Of a part of the input: the state that its lines leave, how many bytes their answers have, and how many are kept of the next line.
-#[derive(Drop)]
+#[derive(Clone, Copy)]
 pub struct Part {
     pub state: State,
     pub written: usize,

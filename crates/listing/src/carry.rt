@@ -15,7 +15,7 @@ use store::state::State;
 use text::entry_line::{EntryLine, read_line};
 use text::path::Outcome;
 
-#[derive(Drop)]
+#[derive(Clone, Copy)]
 pub enum Answer {
     Ok,
     Obsolete,
@@ -24,7 +24,7 @@ pub enum Answer {
     Refused(u8),
 }
 
-#[derive(Drop)]
+#[derive(Clone, Copy)]
 pub struct Carried {
     pub answer: Answer,
     pub state: State,

@@ -1,18 +1,21 @@
 // The listing program: lines `in S P T L D` from standard input, each answered on a line; then what the store holds, in key order.
 // Here are the reads and the calls that print, of which no contract can say what they read or print. What is printed is written by
 // `answer_part` and `answer_end`, on slices.
-ghost use Rattle.std.specs.Prelude.{◌≡◌, cond, ◌*◌, ◌-◌, ◌≤◌, ◌<◌, ltb, length, take};
+#![tactic(auto)]
+
+ghost use Rattle.std.specs.Prelude.{◌≡◌, cond, ◌*◌, ◌-◌, ◌≤◌, ◌<◌, ltb, length, take, IfOk, OnErr};
 ghost use Rattle.data_model.specs.Path.{field};
 ghost use Rattle.tally.specs.Tally.{tally_room};
 ghost use Rattle.store.specs.Store.{tree_room, dir_room};
 ghost use Rattle.listing.specs.Carry.{leaving};
 ghost use Rattle.listing.specs.Say.{answer_text_most};
 ghost use Rattle.listing.specs.Answers.{kept_most};
-ghost use Rattle.listing.specs.Program.{program_limit, read_most, ByReads};
+ghost use Rattle.listing.specs.Program.{program_limit, read_most, ByReads, StoppedByReads};
 
 use crate::answer::{answer_end, answer_part};
 use crate::say::ANSWER;
-use libc::STDOUT_FILENO;
+use std::io;
+use std::io::Read;
 use store::open::open;
 use store::state::{RECORD_MOST, State};
 use tally::item::ITEM;
@@ -39,7 +42,7 @@ const ANSWERS: usize = ANSWER * READ;
 const KEPT: usize = LINE_MOST + 1;
 
 // The state that reads led to, and how many bytes are kept of the line that has begun.
-#[derive(Drop)]
+#[derive(Clone, Copy)]
 struct Begun {
     state: State,
     kept: usize,
@@ -82,7 +85,22 @@ fn line_bytes() -> [u8; KEPT]
     [0; KEPT]
 }
 
-// How many reads may still come. One that does not fill its buffer was the last: the input has ended, or could not be read.
+// Reads until the buffer is full or the input has ended; answers how many bytes were read.
+fn read_full<R: Read>(reader: &mut R, bytes: &mut [u8]) -> io::Result<usize>
+    ensures { IfOk result (λ n. n ≤ length bytes.new) }
+{
+    let mut done: usize = 0;
+    while done < bytes.len() {
+        let n = reader.read(&mut bytes[done..])?;
+        if n == 0 {
+            return Ok(done);
+        }
+        done += n;
+    }
+    Ok(done)
+}
+
+// How many reads may still come. One that does not fill its buffer was the last: the input has ended.
 fn reads_left(turns: u64, got: usize) -> u64
     requires { 0 < turns }
     ensures { (result ≡ cond (ltb got read_most) 0 (turns - 1)) × (result < turns) }
@@ -94,7 +112,8 @@ fn reads_left(turns: u64, got: usize) -> u64
 }
 
 // Reads the input, and prints the answers to the lines that end in each read.
-fn answer_reads(
+fn answer_reads<R: Input + Print>(
+    rt: &R,
     opened: State,
     spt: &mut [u8],
     spt_dir: &mut [u32],
@@ -104,16 +123,18 @@ fn answer_reads(
     prune: &mut [u32],
     line: &mut [u8],
     out: &mut [u8],
-) -> Begun
+) -> io::Result<Begun>
     requires { (length line.old ≡ kept_most) × (answer_text_most * read_most ≤ length out.old) }
-    ensures { (result.kept ≤ kept_most) × ByReads (leaving opened spt.old spt_dir.old tsp.old tsp_dir.old tally.old prune.old) (leaving result.state spt.new spt_dir.new tsp.new tsp_dir.new tally.new prune.new) (take result.kept line.new) }
+    ensures ok { IfOk result (λ begun. (begun.kept ≤ kept_most) × ByReads (leaving opened spt.old spt_dir.old tsp.old tsp_dir.old tally.old prune.old) (leaving begun.state spt.new spt_dir.new tsp.new tsp_dir.new tally.new prune.new) (take begun.kept line.new)) }
+    ensures err { OnErr result (StoppedByReads (leaving opened spt.old spt_dir.old tsp.old tsp_dir.old tally.old prune.old) spt.new spt_dir.new tsp.new tsp_dir.new tally.new prune.new line.new) }
 {
     let mut state = opened;
     let mut n: usize = 0;
     let mut input = read_bytes();
+    let mut reader = rt.reader();
     let mut turns: u64 = 0xffff_ffff_ffff_ffff;
     while 0 < turns {
-        let e = io::read_full(0, &mut input);
+        let e = read_full(&mut reader, &mut input)?;
         let p = answer_part(
             &input[..e],
             state,
@@ -128,17 +149,18 @@ fn answer_reads(
             out,
         );
         let w = p.written;
-        io::write_all(STDOUT_FILENO, &out[..w]);
+        rt.write_all(&out[..w])?;
         let after = p.state;
         state = after;
         n = p.kept;
         turns = reads_left(turns, e);
     }
-    Begun { state, kept: n }
+    Ok(Begun { state, kept: n })
 }
 
 // The program over its buffers: the store's, its tally and the prune list, with the limit's room, the line's, and the answers'.
-fn run(
+fn run<R: Input + Print>(
+    rt: &R,
     spt: &mut [u8],
     spt_dir: &mut [u32],
     tsp: &mut [u8],
@@ -147,12 +169,14 @@ fn run(
     prune: &mut [u32],
     line: &mut [u8],
     out: &mut [u8],
-)
+) -> io::Result<()>
     requires { (tree_room field program_limit ≤ length spt.old) × (dir_room program_limit ≤ length spt_dir.old) × (tree_room field program_limit ≤ length tsp.old) × (dir_room program_limit ≤ length tsp_dir.old) × (tally_room program_limit ≤ length tally.old) × (dir_room program_limit ≤ length prune.old) × (length line.old ≡ kept_most) × (answer_text_most * read_most ≤ length out.old) }
 {
     let o = open([0; 16], LIMIT, spt, spt_dir, tsp, tsp_dir, tally);
     let opened = o.state;
-    let b = answer_reads(opened, spt, spt_dir, tsp, tsp_dir, tally, prune, line, out);
+    let b = answer_reads(
+        rt, opened, spt, spt_dir, tsp, tsp_dir, tally, prune, line, out,
+    )?;
     let state = b.state;
     let kept = b.kept;
     let n = answer_end(
@@ -166,10 +190,10 @@ fn run(
         prune,
         out,
     );
-    io::write_all(STDOUT_FILENO, &out[..n]);
+    rt.write_all(&out[..n])
 }
 
-fn main() {
+fn main(rt: HostRuntime) -> io::Result<()> {
     let mut spt = tree_bytes();
     let mut spt_dir = numbers();
     let mut tsp = tree_bytes();
@@ -179,6 +203,7 @@ fn main() {
     let mut line = line_bytes();
     let mut out = answer_bytes();
     run(
+        &rt,
         &mut spt,
         &mut spt_dir,
         &mut tsp,
@@ -187,5 +212,5 @@ fn main() {
         &mut prune,
         &mut line,
         &mut out,
-    );
+    )
 }

@@ -1,4 +1,3 @@
 pub mod PairLaws
 pub mod OutcomeLaws
-pub mod LentArray
 pub mod Written

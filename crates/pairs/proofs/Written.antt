@@ -16,7 +16,7 @@ use Rattle.laws.specs.Sorted.{any, keep}
 use Rattle.laws.proofs.Truth.{split}
 use Rattle.data_model.specs.Said.{refuses, says, number_of}
 use Rattle.data_model.specs.Path.{field, legal}
-use Rattle.data_model.specs.Entry.{Entry, entry_of}
+use Rattle.data_model.specs.Entry.{entry_of}
 use Rattle.data_model.specs.Refusal.{short_buffer, illegal_path, bad_limit, not_well_formed, other_namespace, pruning_prevented, full, wrong_tally}
 use Rattle.tree.specs.Stored.{Stored}
 use Rattle.tree.specs.Matching.{outdates, removes, repeats}

@@ -1,5 +1,6 @@
 // The thin ingest layer: the pruned pairs go to a lent slice of pair records, over the store's core on numbers. Only the pairs are lent.
-// The borrow checker covers no function over a slice of structs: those that touch one are proved by a walk.
+#![tactic(auto)]
+
 ghost use Rattle.std.specs.Prelude.{◌≡◌, ◌*◌, ◌≤◌, length, take, replicate};
 ghost use Rattle.laws.specs.Lists.{put};
 ghost use Rattle.data_model.specs.Path.{field};
@@ -12,7 +13,7 @@ use store::state::{LIMIT_MOST, State};
 
 // Offset and length of a record.
 #[repr(C)]
-#[derive(Drop)]
+#[derive(Clone, Copy)]
 pub struct Pair {
     pub offset: u32,
     pub length: u32,
@@ -22,7 +23,7 @@ pub struct Pair {
 pub const NUMBERS_MOST: usize = 2 * LIMIT_MOST;
 
 // The core's answer, how many pairs it pruned, and their numbers.
-#[derive(Drop)]
+#[derive(Clone, Copy)]
 pub struct NumbersIngested {
     pub ingested: Ingested,
     pub count: usize,

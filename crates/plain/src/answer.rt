@@ -20,7 +20,7 @@ use store::state::State;
 
 // Refusal 0 and whether it holds; or the refusal.
 #[repr(C)]
-#[derive(Drop)]
+#[derive(Clone, Copy)]
 pub struct PlainAnswer {
     pub refusal: u8,
     pub yes: bool,
@@ -28,7 +28,7 @@ pub struct PlainAnswer {
 
 // Refusal 0 and how the first compares with the second, equal if neither is true; or the refusal.
 #[repr(C)]
-#[derive(Drop)]
+#[derive(Clone, Copy)]
 pub struct PlainCompared {
     pub refusal: u8,
     pub less: bool,
@@ -37,7 +37,7 @@ pub struct PlainCompared {
 
 // Refusal 0 and how the first entry stands to the second, the same if neither is true; or the refusal.
 #[repr(C)]
-#[derive(Drop)]
+#[derive(Clone, Copy)]
 pub struct PlainEntriesCompared {
     pub refusal: u8,
     pub newer: bool,
@@ -46,7 +46,7 @@ pub struct PlainEntriesCompared {
 
 // Refusal 0 and how many bytes were written; or the refusal.
 #[repr(C)]
-#[derive(Drop)]
+#[derive(Clone, Copy)]
 pub struct PlainEncoded {
     pub refusal: u8,
     pub length: usize,
@@ -54,7 +54,7 @@ pub struct PlainEncoded {
 
 // Refusal 0 and whether a step of a listing gave a record, being else finished; or the refusal.
 #[repr(C)]
-#[derive(Drop)]
+#[derive(Clone, Copy)]
 pub struct PlainListed {
     pub refusal: u8,
     pub found: bool,
@@ -62,7 +62,7 @@ pub struct PlainListed {
 
 // Refusal 0 and how many entries were pruned; or obsolete, with the newer entry and its token; or held, the very entry being stored already; or the refusal. In each case the state.
 #[repr(C)]
-#[derive(Drop)]
+#[derive(Clone, Copy)]
 pub struct PlainIngested {
     pub refusal: u8,
     pub obsolete: bool,
@@ -75,7 +75,7 @@ pub struct PlainIngested {
 
 // An ingestion's answer and the whole prune list by value, two numbers a pair.
 #[repr(C)]
-#[derive(Drop)]
+#[derive(Clone, Copy)]
 pub struct PlainNumbersIngested {
     pub ingested: PlainIngested,
     pub numbers: [u32; NUMBERS_MOST],
@@ -83,7 +83,7 @@ pub struct PlainNumbersIngested {
 
 // Refusal 0, whether a component was taken (else the path's end), its length and bytes, the reader's position then and how many bytes are left; or the refusal, and the position as it was.
 #[repr(C)]
-#[derive(Drop)]
+#[derive(Clone, Copy)]
 pub struct PlainStepped {
     pub refusal: u8,
     pub component: bool,

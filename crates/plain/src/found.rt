@@ -9,7 +9,7 @@ use query::answer::EntryFound;
 
 // An entry as it is stored: with its token, how much of its payload is available, and where it came from.
 #[repr(C)]
-#[derive(Drop)]
+#[derive(Clone, Copy)]
 pub struct PlainLengthyEntry {
     pub entry: Entry,
     pub token: [u8; 64],
@@ -19,7 +19,7 @@ pub struct PlainLengthyEntry {
 
 // Refusal 0, whether there is an entry, and it as it is stored; all else is 0 where there is none or the call is refused.
 #[repr(C)]
-#[derive(Drop)]
+#[derive(Clone, Copy)]
 pub struct PlainEntryFound {
     pub refusal: u8,
     pub found: bool,

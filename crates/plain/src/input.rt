@@ -17,7 +17,7 @@ use store::state::LIMIT_MOST;
 
 // From `start` up to `end`, which is outside; if `open` is yes there is no end and `end` is not looked at.
 #[repr(C)]
-#[derive(Drop)]
+#[derive(Clone, Copy)]
 pub struct PlainTimes {
     pub start: u64,
     pub end: u64,
@@ -26,7 +26,7 @@ pub struct PlainTimes {
 
 // From `start` up to `end`, which is outside; if `open` is yes there is no end and `end` is not looked at.
 #[repr(C)]
-#[derive(Drop)]
+#[derive(Clone, Copy)]
 pub struct PlainSubspaces {
     pub start: Subspace,
     pub end: Subspace,
@@ -35,7 +35,7 @@ pub struct PlainSubspaces {
 
 // From `start` up to `end`, which is outside; if `open` is yes there is no end and `end` is not looked at.
 #[repr(C)]
-#[derive(Drop)]
+#[derive(Clone, Copy)]
 pub struct PlainPaths {
     pub start: Path,
     pub end: Path,
@@ -44,7 +44,7 @@ pub struct PlainPaths {
 
 // If `any_subspace` is yes, every subspace is in the area and `subspace` is not looked at.
 #[repr(C)]
-#[derive(Drop)]
+#[derive(Clone, Copy)]
 pub struct PlainArea {
     pub any_subspace: u8,
     pub subspace: Subspace,
@@ -53,7 +53,7 @@ pub struct PlainArea {
 }
 
 #[repr(C)]
-#[derive(Drop)]
+#[derive(Clone, Copy)]
 pub struct PlainRange {
     pub subspaces: PlainSubspaces,
     pub paths: PlainPaths,
@@ -62,7 +62,7 @@ pub struct PlainRange {
 
 // At most so many entries of an area, and so many bytes of payload; the greatest number means no limit.
 #[repr(C)]
-#[derive(Drop)]
+#[derive(Clone, Copy)]
 pub struct PlainInterest {
     pub area: PlainArea,
     pub max_count: u64,
@@ -71,7 +71,7 @@ pub struct PlainInterest {
 
 // Which entries a query ignores: those whose payload is not all there, those of an empty payload.
 #[repr(C)]
-#[derive(Drop)]
+#[derive(Clone, Copy)]
 pub struct PlainIgnore {
     pub incomplete_payloads: u8,
     pub empty_payloads: u8,
@@ -79,7 +79,7 @@ pub struct PlainIgnore {
 
 // If `remote` is yes, the entry came from another source, in the session with this number; else it is local, and `session` is not looked at.
 #[repr(C)]
-#[derive(Drop)]
+#[derive(Clone, Copy)]
 pub struct PlainOrigin {
     pub remote: u8,
     pub session: u64,
@@ -87,7 +87,7 @@ pub struct PlainOrigin {
 
 // A prune list by value, of the most pairs that a store may need.
 #[repr(C)]
-#[derive(Drop)]
+#[derive(Clone, Copy)]
 pub struct PlainPairs {
     pub pairs: [Pair; LIMIT_MOST],
 }

@@ -1,5 +1,7 @@
 // What a C program can say, and what the store's calls are handed and answer: enums cross as plain numbers beside their values.
 // Every function here has an equation with a definition of specs/. A yes or no is a byte, and every byte but 0 means yes.
+#![tactic(auto)]
+
 pub mod answer;
 pub mod found;
 pub mod input;

@@ -6,7 +6,7 @@ use query::answer::ListingStep;
 
 // A part: so many bytes from an offset on.
 #[repr(C)]
-#[derive(Drop)]
+#[derive(Clone, Copy)]
 pub struct PlainPart {
     pub offset: usize,
     pub length: usize,

@@ -11,7 +11,7 @@ use query::answer::InterestRange;
 
 // Refusal 0 and the range; or the refusal and the range that includes nothing.
 #[repr(C)]
-#[derive(Drop)]
+#[derive(Clone, Copy)]
 pub struct PlainAreaRange {
     pub refusal: u8,
     pub range: PlainRange,

@@ -48,7 +48,6 @@ use Rattle.query.specs.Listing.{spt_records, key_above, qualifies, step, listed}
 use Rattle.query.specs.EarlyFinish.{Wanted, of_area, of_range, refusal_of, is_wanted, Comes, RightAnswer, EarlyFinish}
 use Rattle.query.proofs.Tested.{read-passes, list-passes, list-tested}
 use Rattle.query.proofs.StartLaws.{refused_keys, start-above}
-use Rattle.query.proofs.StepLaws.{key-weak}
 use Rattle.query.proofs.GivenLaws.{step_is}
 
 -- Of a store.

@@ -13,7 +13,7 @@ use Rattle.layout.specs.Marks.{marks_of, first_mark}
 use Rattle.layout.proofs.MarkLaws.{first-none}
 use Rattle.data_model.specs.Path.{Components, field}
 use Rattle.data_model.specs.declared.parameters.Subspace.{Subspace}
-use Rattle.tree.specs.Stored.{Stored, stored, lengthy, stored_of}
+use Rattle.tree.specs.Stored.{stored, lengthy, stored_of}
 use Rattle.tree.specs.Tree.{Formed}
 use Rattle.tree.specs.Matching.{stands_at, let_through}
 use Rattle.data_model.specs.declared.query_ignore_params.QueryIgnoreParams.{QueryIgnoreParams}

@@ -1,13 +1,13 @@
 -- The record that a step of a listing gives: that it is the least that qualifies, where it lies, and what the calls tell of it. Assumes nothing.
 use Prim.Native.Nat.{ℕ, zero, suc, ◌+◌, ◌-◌, ◌≤◌, ◌<◌}
-use mathlib.Core.Path.{◌≡◌, refl, sym, ap, ap₂, subst, ◌∙◌}
+use mathlib.Core.Path.{◌≡◌, refl, sym, ap, subst, ◌∙◌}
 use mathlib.Core.List.{List, [], ◌∷◌}
-use mathlib.Core.Bool.{Bool, true, false, cond}
+use mathlib.Core.Bool.{Bool, true, false}
 use mathlib.Core.Option.{Option, some, none}
 use native.Mathlib.Omega.{arith}
 use lib.ListN.{length, take, drop, length-drop}
 use lib.Seq.{take-take, length-take-le}
-use lib.Dec.{ltb, eqb}
+use lib.Dec.{eqb}
 use borrow.Author.Tests.{lt-ltb, le-ltb, eqb-true, eqb-false, eq-eqb, ne_eqb}
 use Rattle.laws.specs.Parts.{PartBegins}
 use Rattle.laws.specs.Sorted.{◌∈◌}
@@ -21,12 +21,12 @@ use Rattle.tree.specs.Stored.{Stored, key_of, key_below, is_record}
 use Rattle.tree.specs.Tree.{keys_below}
 use Rattle.tree.specs.Value.{value_length}
 use Rattle.tree.specs.declared.stored.KeyOrder.TheVariants.{Spt}
-use Rattle.tree.proofs.FormedLaws.{formed-count, formed-record, formed-bounds, record-long}
+use Rattle.tree.proofs.FormedLaws.{formed-count, formed-record, record-long}
 use Rattle.tree.proofs.SearchLaws.{key-place}
 use Rattle.store.specs.Store.{Store, tree_room, dir_room, tree_of, dir_of}
 use Rattle.store.proofs.CheckLaws.{Passed}
 use Rattle.query.specs.Reading.{list_refusal}
-use Rattle.query.specs.Listing.{spt_records, qualifies, step_in, step, listed, is_found, part_of, offset_of, is_given, step_told, step_says, place_among, step_at}
+use Rattle.query.specs.Listing.{spt_records, qualifies, step_in, step, listed, is_found, part_of, offset_of, step_told, step_says, place_among, step_at}
 use Rattle.query.specs.declared.answer.ListingStep.{ListingStep}
 use Rattle.query.proofs.Tested.{list-tested}
 use Rattle.query.proofs.StepLaws.{key-weak}
@@ -79,9 +79,9 @@ module _ (s : Store) (p : Passed s) (r : List ℕ) (m : r ∈ spt_records field 
 
 -- The step of a place, by its pair.
 module _ (count : ℕ) (dir : List ℕ) (k : ℕ) where
-  pub at-record : k < count → (o n : ℕ) → o ≡ offset_at k dir → n ≡ length_at k dir → record { refusal = 0; found = true; offset = o; length = n } ≡ step_at count dir k
+  pub at_record : k < count → (o n : ℕ) → o ≡ offset_at k dir → n ≡ length_at k dir → record { refusal = 0; found = true; offset = o; length = n } ≡ step_at count dir k
   unfolding step_at
-  at-record h o n eo en = rw (lt-ltb k count h, eo, en) refl
+  at_record h o n eo en = rw (lt-ltb k count h, eo, en) refl
 
   pub at_none : count ≤ k → record { refusal = 0; found = false; offset = 0; length = 0 } ≡ step_at count dir k
   unfolding step_at

@@ -1,5 +1,5 @@
 -- A step of a listing: by the marks of what matches, from the first key above the remembered one on; and the place of the record that it gives. Assumes nothing.
-use Prim.Native.Nat.{ℕ, zero, suc, ◌+◌, ◌≤◌, ◌<◌}
+use Prim.Native.Nat.{ℕ, suc, ◌+◌, ◌≤◌}
 use mathlib.Core.Path.{◌≡◌, refl, sym, ap, ap₂, subst, ◌∙◌}
 use mathlib.Core.Logic.{⊎_elim}
 use mathlib.Core.List.Memᴰ.{append_right as in_right}
@@ -13,9 +13,9 @@ use mathlib.Core.Option.{Option, some, none}
 use native.Mathlib.Omega.{arith}
 use lib.ListN.{length, take, drop}
 use Rattle.laws.specs.Lists.{put}
-use Rattle.laws.specs.Order.{less, same, greater, flip, is_less, is_same, below}
+use Rattle.laws.specs.Order.{flip, is_less, is_same, below}
 use Rattle.laws.specs.Sorted.{◌∈◌, any, keep, Ascends}
-use Rattle.laws.specs.First.{first_that, least_that}
+use Rattle.laws.specs.First.{first_that}
 use Rattle.laws.proofs.Truth.{split, clash, refute}
 use Rattle.laws.proofs.Order.{three, is-less}
 use Rattle.laws.proofs.Sorted.{keep-length}
@@ -27,7 +27,6 @@ use Rattle.data_model.proofs.Orders.{bytes-linear}
 use Rattle.tree.specs.Stored.{Stored, stored, contents, key_of, key_below}
 use Rattle.tree.specs.Tree.{keys_below, has_key}
 use Rattle.tree.specs.declared.stored.KeyOrder.TheVariants.{Spt}
-use Rattle.tree.proofs.RecordLaws.{contents-length}
 use Rattle.store.proofs.DecideLaws.{marks-front}
 use Rattle.query.specs.Listing.{key_above, qualifies, step_in, not_above, place_among}
 

@@ -4,7 +4,6 @@ use Prim.Native.Nat.{ℕ}
 use mathlib.Core.Path.{◌≡◌, refl, sym, ap, ap₂, subst, ◌∙◌}
 use mathlib.Core.Logic.{⊎_elim}
 use mathlib.Core.List.Memᴰ.{append_cases as unappend}
-use mathlib.Core.List.Memᴰ.{append_left as in_left}
 use mathlib.Core.List.Memᴰ.{append_right as in_right}
 use mathlib.Core.List.Memᴰ.{cases_cons as uncons}
 use mathlib.Core.List.Memᴰ.{head as here}
@@ -12,12 +11,12 @@ use mathlib.Core.List.Memᴰ.{not-nil as none_in}
 use mathlib.Core.List.Memᴰ.{tail as there}
 use mathlib.Core.List.{List, [], ◌∷◌, ◌++◌}
 use mathlib.Core.Bool.{Bool, true, false, ◌&&◌}
-use mathlib.Core.Option.{Option, some, none}
+use mathlib.Core.Option.{some, none}
 use Rattle.laws.specs.Order.{is_less, below}
 use Rattle.laws.specs.Sorted.{◌∈◌, Ascends}
 use Rattle.laws.proofs.Truth.{split, clash, and-true}
 use Rattle.laws.proofs.Order.{below_total}
-use Rattle.data_model.specs.Said.{Said, says}
+use Rattle.data_model.specs.Said.{says}
 use Rattle.data_model.specs.Path.{field, legal, by_bytes}
 use Rattle.data_model.specs.Range.{legal_range}
 use Rattle.data_model.specs.Entry.{Entry}
@@ -39,7 +38,7 @@ use Rattle.query.specs.Reading.{list_refusal}
 use Rattle.query.specs.Listing.{spt_records, key_above, listed, area_listed, range_listed}
 use Rattle.query.specs.Walk.{Steps, Turn, Stepped, remembered, Walked, shown, entry_key, StoredIn, MatchesIn, ShownOnce, ListingGives, ListingShows, OfBytes}
 use Rattle.query.proofs.StartLaws.{start-above}
-use Rattle.query.proofs.StepLaws.{key-weak, above-next, below-above, above-below, ascends-around}
+use Rattle.query.proofs.StepLaws.{key-weak, above-next, above-below, ascends-around}
 use Rattle.query.proofs.GivenLaws.{answered}
 
 -- Each record has the key of the entry that it says: so where the tree's bytes are bytes.

@@ -11,7 +11,7 @@ use mathlib.Core.List.Memᴰ.{not-nil as none_in}
 use mathlib.Core.List.Memᴰ.{tail as there}
 use mathlib.Core.List.{List, [], ◌∷◌, ◌++◌, append_assoc}
 use mathlib.Core.Bool.{Bool, true, false, cond, ◌&&◌}
-use mathlib.Core.Option.{Option, some, none}
+use mathlib.Core.Option.{some, none}
 use native.Mathlib.Omega.{arith}
 use lib.ListN.{length}
 use borrow.Author.Tests.{eq-eqb}
@@ -21,7 +21,7 @@ use Rattle.laws.proofs.First.{least_first}
 use Rattle.laws.proofs.Truth.{split, clash}
 use Rattle.laws.proofs.Sorted.{keep-ascends, any-make}
 use Rattle.data_model.specs.Ignore.{no_flags}
-use Rattle.data_model.specs.Said.{Said, says}
+use Rattle.data_model.specs.Said.{says}
 use Rattle.data_model.specs.Path.{field, legal, components}
 use Rattle.data_model.specs.Range.{legal_range}
 use Rattle.data_model.specs.declared.path.Path.{Path}

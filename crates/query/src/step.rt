@@ -79,6 +79,7 @@ fn next_in_range(
 }
 
 // The step that gives the record of a place; the count's place has none.
+#[tactic(auto, using(crate::proofs::GivenLaws::at_record, crate::proofs::GivenLaws::at_none))]
 fn step_at(count: usize, spt_dir: &[u32], place: usize) -> ListingStep
     requires { 2 * count ≤ length spt_dir.now }
     ensures { result ≡ step_at count spt_dir.now place }

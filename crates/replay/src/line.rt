@@ -2,37 +2,38 @@
 ghost use Rattle.std.specs.Prelude.{◌≤◌, length};
 
 use keys::number::wide;
+use std::io;
+use std::io::Read;
 
 // The next byte of the input; 256 at its end.
-fn next_char() -> u64 {
+fn next_char<R: Read>(reader: &mut R) -> io::Result<u64> {
     let mut b = [0u8; 1];
-    if io::read_full(0, &mut b) == 0 {
-        return 256;
+    if reader.read(&mut b)? == 0 {
+        return Ok(256);
     }
-    wide(b[0])
+    Ok(wide(b[0]))
 }
 
 // Reads a line and a space behind it, as far as the buffer goes; false at the input's end.
-pub fn read_line(q: &mut [u8]) -> bool {
+pub fn read_line<R: Read>(reader: &mut R, q: &mut [u8]) -> io::Result<bool> {
     let mut n: usize = 0;
     while n < q.len() {
-        let c = next_char();
+        let c = next_char(reader)?;
         if 255 < c {
-            return false;
+            return Ok(false);
         }
         if c == 10 {
             q[n] = 32;
-            return true;
+            return Ok(true);
         }
         q[n] = (c % 256) as u8;
         n += 1;
     }
-    true
+    Ok(true)
 }
 
-pub fn tell(x: u64) {
-    io::write_all(1, b" ");
-    io::print_hex(1, x, 1);
+pub fn tell(rt: &impl Print, x: u64) -> io::Result<()> {
+    print!(rt; " {x:x}")
 }
 
 // How many bytes there are up to the last that is not 0.
@@ -49,17 +50,19 @@ fn used(s: &[u8]) -> usize
     n
 }
 
-pub fn tell_bytes(s: &[u8]) {
-    io::write_all(1, b" ");
+pub fn tell_bytes(rt: &impl Print, s: &[u8]) -> io::Result<()> {
+    print!(rt; " ")?;
     let n = used(s);
     if n == 0 {
-        io::write_all(1, b"-");
+        print!(rt; "-")?;
     }
     let mut i: usize = 0;
     while i < n {
-        io::print_hex(1, wide(s[i]), 2);
+        let x = s[i];
+        print!(rt; "{x:02x}")?;
         i += 1;
     }
+    Ok(())
 }
 
 fn wide_number(x: u32) -> u64 {
@@ -67,21 +70,23 @@ fn wide_number(x: u32) -> u64 {
 }
 
 // The numbers that are not 0, each behind its place.
-pub fn tell_numbers(s: &[u32]) {
+pub fn tell_numbers(rt: &impl Print, s: &[u32]) -> io::Result<()> {
     let mut i: usize = 0;
     while i < s.len() {
         if s[i] != 0 {
-            tell(i as u64);
-            tell(wide_number(s[i]));
+            tell(rt, i as u64)?;
+            tell(rt, wide_number(s[i]))?;
         }
         i += 1;
     }
+    Ok(())
 }
 
-pub fn tell_sizes(s: &[usize; 8]) {
+pub fn tell_sizes(rt: &impl Print, s: &[usize; 8]) -> io::Result<()> {
     let mut i: usize = 0;
     while i < 8 {
-        tell(s[i] as u64);
+        tell(rt, s[i] as u64)?;
         i += 1;
     }
+    Ok(())
 }

@@ -1,9 +1,12 @@
 // The store's calls through the door, one a line: its number and values (src/field.rt) in hex; the answer is its values and, last, the state.
+#![tactic(auto)]
+
 ghost use Rattle.std.specs.Prelude.{◌≡◌, length};
 ghost use Rattle.data_model.specs.Path.{field};
 ghost use Rattle.tally.specs.Tally.{tally_room};
 ghost use Rattle.store.specs.Store.{limit_most, tree_room, dir_room};
 
+use std::io;
 use store::state::{LIMIT_MOST, RECORD_MOST, State};
 use tally::item::ITEM;
 
@@ -29,7 +32,8 @@ fn tally_buffer() -> [u8; ITEM * LIMIT_MOST]
     [0; ITEM * LIMIT_MOST]
 }
 
-fn main() {
+fn main(rt: HostRuntime) -> io::Result<()> {
+    let mut reader = rt.reader();
     let mut a = tree_buffer();
     let mut b = pair_buffer();
     let mut c = tree_buffer();
@@ -43,13 +47,14 @@ fn main() {
     let mut turns: u64 = 0xffff_ffff_ffff_ffff;
     while 0 < turns {
         let mut q = [0u8; 2048];
-        if !line::read_line(&mut q) {
-            return;
+        if !line::read_line(&mut reader, &mut q)? {
+            return Ok(());
         }
-        state = call::act(&q, state, &mut a, &mut b, &mut c, &mut d, &mut e);
-        call::look(&q, state, &a, &b, &c, &d, &e);
-        call::tell_state(state);
-        io::write_all(1, b"\n");
+        state = call::act(&rt, &q, state, &mut a, &mut b, &mut c, &mut d, &mut e)?;
+        call::look(&rt, &q, state, &a, &b, &c, &d, &e)?;
+        call::tell_state(&rt, state)?;
+        println!(rt; "")?;
         turns -= 1;
     }
+    Ok(())
 }

@@ -1,5 +1,7 @@
 // Each public call that opens or changes a store is a step of demand 3's lists, and whatever a program can hand to it is a value there. The functions here call
 // the real ones, or are handed what these are handed; they have no `requires`, and ensure it. Nothing calls them.
+#![tactic(auto)]
+
 ghost use Rattle.std.specs.Prelude.{ℕ, ◌<◌, ◌^◌, List, ◌≡◌};
 ghost use Rattle.data_model.specs.Path.{field};
 ghost use Rattle.data_model.specs.Origin.{origin_session};

@@ -1,5 +1,5 @@
 -- Ingestion: 1, 2, 3, 10, 4, 6; obsolete or held; 7, 8; or the entry is filed in both trees and what it removes goes from both.
-use Rattle.std.specs.Prelude.{ℕ, ◌-◌, ◌*◌, ◌<◌, ◌≡◌, List, [], ◌∷◌, Bool, true, false, not, cond, ◌&&◌, length, replicate, leb, ltb, eqb}
+use Rattle.std.specs.Prelude.{ℕ, ◌-◌, ◌*◌, ◌<◌, ◌≡◌, List, Bool, true, false, not, cond, ◌&&◌, length, replicate, leb, ltb, eqb}
 use Rattle.std.proofs.Math.Option.{Option, some, none}
 use Rattle.laws.specs.Lists.{put}
 use Rattle.laws.specs.Order.{below, on}

@@ -20,7 +20,7 @@ use tree::marks::{count_marked, first_marked};
 use tree::stored::KeyOrder;
 
 // What is decided: refused, outdated by the entry at a place, stored already, or taken with so many removed.
-#[derive(Drop)]
+#[derive(Clone, Copy)]
 pub enum PlaceDecision {
     Refuse(u8),
     Old(usize),

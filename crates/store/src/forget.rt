@@ -26,7 +26,7 @@ use tree::stored::{KeyOrder, stored_at};
 
 // Refusal 0 and the state; or the refusal and the state that was handed in.
 #[repr(C)]
-#[derive(Drop)]
+#[derive(Clone, Copy)]
 pub struct EntryForgotten {
     pub refusal: u8,
     pub state: State,
@@ -34,7 +34,7 @@ pub struct EntryForgotten {
 
 // The same, with how many entries were forgotten.
 #[repr(C)]
-#[derive(Drop)]
+#[derive(Clone, Copy)]
 pub struct AreaForgotten {
     pub refusal: u8,
     pub state: State,

@@ -28,7 +28,7 @@ use tree::marks::write_pairs;
 use tree::stored::{KeyOrder, LengthyAuthorisedEntry, stored_at};
 
 // Success says how many entries were pruned; held, that the very entry was stored already.
-#[derive(Drop)]
+#[derive(Clone, Copy)]
 pub enum IngestVerdict {
     Success(usize),
     Obsolete,
@@ -37,7 +37,7 @@ pub enum IngestVerdict {
 }
 
 // The verdict and the state; with an obsolete verdict the newer entry and its token, else all 0.
-#[derive(Drop)]
+#[derive(Clone, Copy)]
 pub struct Ingested {
     pub verdict: IngestVerdict,
     pub state: State,
@@ -46,7 +46,7 @@ pub struct Ingested {
 }
 
 // What an ingestion is handed: the entry, its authorisation token, whether pruning is prevented, and where the entry came from.
-#[derive(Drop)]
+#[derive(Clone, Copy)]
 pub struct Ingestion {
     pub entry: Entry,
     pub token: [u8; 64],

@@ -11,7 +11,7 @@ pub const LIMIT_MOST: usize = 1024;
 pub const RECORD_MOST: usize = KEY_MOST + VALUE;
 
 #[repr(C)]
-#[derive(Drop)]
+#[derive(Clone, Copy)]
 pub struct State {
     pub namespace_id: [u8; 16],
     pub count: usize,
@@ -35,7 +35,7 @@ impl State {
 
 // Refusal 0 and the state; or the refusal and a state that is all 0.
 #[repr(C)]
-#[derive(Drop)]
+#[derive(Clone, Copy)]
 pub struct Opened {
     pub refusal: u8,
     pub state: State,

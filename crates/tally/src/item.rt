@@ -22,7 +22,7 @@ const NEWEST_AT: usize = COUNT_AT + 4;
 
 pub const ITEM: usize = NEWEST_AT + 8;
 
-#[derive(Drop)]
+#[derive(Clone, Copy)]
 pub struct Item {
     pub subspace: Subspace,
     pub count: usize,

@@ -1,6 +1,8 @@
 // The tally of a store, in a lent buffer: for each subspace with entries, in ascending order, an item of 28 bytes with their number and the newest of their
 // timestamps, and zeros behind. It is worked out from the subspace-first tree, where the entries of a subspace stand together. Of the store's layer: it asks
 // for nothing but the tree, and calls the tree's functions.
+#![tactic(auto)]
+
 pub mod item;
 
 ghost use Rattle.std.specs.Prelude.{◌≡◌, List, ℕ, ◌≤◌, length};

@@ -18,7 +18,7 @@ use Rattle.text.specs.Hex.{byte_read, hex_byte}
 use Rattle.text.specs.Decimal.{number_read, digits, decimal_text}
 use Rattle.text.specs.Fields.{fields}
 use Rattle.text.specs.PathField.{path_field}
-use Rattle.text.specs.PathText.{component_text, behind_text, path_text, path_text_most}
+use Rattle.text.specs.PathText.{behind_text, path_text, path_text_most}
 use Rattle.text.specs.EntryLine.{line_most, space, in_word, no_entry_line, with_byte, with_number, with_path, entry_line, entry_read, field_at, is_in_line, line_read, rank_text, listed_text}
 use Rattle.text.specs.declared.hex.ByteRead.{ByteRead}
 use Rattle.text.specs.declared.hex.ByteRead.TheVariants as byte
@@ -30,9 +30,9 @@ use Rattle.text.proofs.PathLaws.{component-most}
 
 -- The form of a line: too long, not six fields, or what its first field is.
 module _ (s : List ℕ) where
-  pub in-long : line_most < length s → false ≡ is_in_line s
+  pub long_line : line_most < length s → false ≡ is_in_line s
   unfolding is_in_line
-  in-long h = rw (lt-leb (length s) line_most h)
+  long_line h = rw (lt-leb (length s) line_most h)
 
   pub in-other : length s ≤ line_most → (length (fields space s) ≡ 6 → ⊥) → false ≡ is_in_line s
   unfolding is_in_line
@@ -58,7 +58,7 @@ line-cut s n h =
     (λ e. ap line_read (take_all n s (omega (arith, leb-true (length s) line_most e))))
     (λ e.
     let l : line_most < length s = leb-false (length s) line_most e in
-    sym (line_other (take n s) (sym (in-long (take n s) (omega (arith, length-take n s))))) ∙ line_other s (sym (in-long s l)))
+    sym (line_other (take n s) (sym (long_line (take n s) (omega (arith, length-take n s))))) ∙ line_other s (sym (long_line s l)))
 
 -- What five fields say: the first that is of another form; or what the path is.
 module _ (s d : ByteRead) (p : PathField) (t l : NumberRead) where

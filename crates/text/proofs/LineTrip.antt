@@ -2,7 +2,7 @@
 use Prim.Native.Nat.{ℕ, zero, suc, ◌+◌, ◌/◌, ◌%◌, ◌^◌, ◌≤◌, ◌<◌}
 use mathlib.Core.Path.{◌≡◌, refl, sym, ap, ◌∙◌}
 use mathlib.Core.List.{List, [], ◌∷◌, ◌++◌}
-use mathlib.Core.Bool.{Bool, true, not}
+use mathlib.Core.Bool.{true, not}
 use native.Mathlib.Omega.{arith}
 use lib.Dec.{ltb}
 use borrow.Author.Tests.{ne_eqb}
@@ -11,7 +11,6 @@ use Rattle.laws.specs.Prefix.{same_number, same_list}
 use Rattle.laws.specs.Sorted.{all}
 use Rattle.laws.proofs.Truth.{split, and-true}
 use Rattle.data_model.specs.Path.{field, Component, Components, is_path, path_of}
-use Rattle.data_model.specs.declared.path.Path.{Path}
 use Rattle.key_laws.proofs.Fits.{legal-of, components-of}
 use Rattle.text.specs.Hex.{hex_digit, hex_byte, hex_text, byte_read}
 use Rattle.text.specs.Decimal.{digits, decimal_text, number_read}

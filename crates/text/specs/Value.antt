@@ -1,6 +1,5 @@
 -- Subspaces and digests: two digits or all.
 use Rattle.std.specs.Prelude.{ℕ, List, Bool, true, false, cond, ◌&&◌, length, get_or, replicate, eqb, ltb}
-use Rattle.laws.specs.Sorted.{all}
 use Rattle.keys.specs.Encode.{subspace_key}
 use Rattle.keys.specs.Decode.{subspace_at}
 use Rattle.data_model.specs.declared.parameters.Subspace.{Subspace}

@@ -9,7 +9,7 @@ use crate::hex::{all_digits, digit_value};
 use crate::line::write_bytes;
 use keys::number::wide;
 
-#[derive(Drop)]
+#[derive(Clone, Copy)]
 pub enum NumberRead {
     Is(u64),
     Bad,

@@ -19,7 +19,7 @@ use data_model::path::Path;
 pub const LINE_MOST: usize = 1024;
 
 // What a line says: the subspace's last byte, the byte that fills the digest. All 0, and the path empty, unless the outcome is good.
-#[derive(Drop)]
+#[derive(Clone, Copy)]
 pub struct EntryLine {
     pub outcome: Outcome,
     pub subspace: u8,
@@ -44,6 +44,7 @@ fn no_entry(outcome: Outcome) -> EntryLine
 }
 
 // Six fields, the first of them `in`, in a line that is not too long.
+#[tactic(auto, using(crate::proofs::LineLaws::long_line))]
 fn is_in_line(line: &[u8]) -> bool
     ensures { result ≡ is_in_line line.now }
 {

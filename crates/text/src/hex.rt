@@ -4,14 +4,14 @@ ghost use Rattle.laws.specs.Lists.{put};
 ghost use Rattle.laws.specs.Sorted.{all};
 ghost use Rattle.text.specs.Hex.{digit_value, is_digit, is_hex, hex_of, hex_digit, hex_byte, hex_text, hex_read, hex_in, has_room, byte_read};
 
-#[derive(Drop)]
+#[derive(Clone, Copy)]
 pub enum ByteRead {
     Is(u8),
     Bad,
 }
 
 // How many bytes the digits stand for; not of the form; more than the buffer holds.
-#[derive(Drop)]
+#[derive(Clone, Copy)]
 pub enum HexRead {
     Took(usize),
     Bad,

@@ -13,7 +13,7 @@ use crate::line::field_end;
 use data_model::path::{MCL, PATH_BYTES, PATH_ENDS, Path};
 
 // Of the form and within the bounds of a path; of the form alone; not of the form.
-#[derive(Drop)]
+#[derive(Clone, Copy)]
 pub enum Outcome {
     Good,
     Illegal,
@@ -21,14 +21,14 @@ pub enum Outcome {
 }
 
 // The path if it is good, else the empty one.
-#[derive(Drop)]
+#[derive(Clone, Copy)]
 pub struct PathField {
     pub outcome: Outcome,
     pub path: Path,
 }
 
 // How many components a path has, if it is within the bounds.
-#[derive(Drop)]
+#[derive(Clone, Copy)]
 pub enum Count {
     Is(usize),
     Over,

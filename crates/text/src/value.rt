@@ -8,13 +8,13 @@ use crate::hex::{is_hex, write_bytes_of, write_hex, write_hex_byte};
 use data_model::parameters::Subspace;
 use keys::number;
 
-#[derive(Drop)]
+#[derive(Clone, Copy)]
 pub enum SubspaceRead {
     Is(Subspace),
     Bad,
 }
 
-#[derive(Drop)]
+#[derive(Clone, Copy)]
 pub struct DigestRead {
     pub good: bool,
     pub digest: [u8; 32],

@@ -16,7 +16,7 @@ use Rattle.layout.specs.Layout.{records, record_at}
 use Rattle.data_model.specs.Path.{field, Components, is_component, is_path, joined}
 use Rattle.data_model.specs.Entry.{Entry, by_rank, covers}
 use Rattle.key_laws.specs.Bytes.{Bytes}
-use Rattle.tree.specs.Stored.{Stored, stored, contents}
+use Rattle.tree.specs.Stored.{stored, contents}
 use Rattle.tree.specs.Tree.{Formed, Ordered}
 use Rattle.tree.specs.Apart.{apart}
 use Rattle.tree.specs.Address.{address_at, open_at, rank_at}

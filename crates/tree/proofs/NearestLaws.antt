@@ -11,7 +11,6 @@ use borrow.Author.Tests.{leb-true, leb-false}
 use lib.ListN.{length, set, get_or}
 use lib.Seq.{get_or-set_same, get_or-set_other}
 use Rattle.laws.specs.Prefix.{prefix_of}
-use Rattle.laws.specs.Sorted.{all}
 use Rattle.laws.proofs.Truth.{split, clash, refute, and-true, not-true}
 use Rattle.laws.proofs.Prefix.{prefix-antisym, prefix-tail}
 use Rattle.data_model.specs.Path.{Components, same_component, is_prefix}

@@ -22,7 +22,7 @@ use Rattle.laws.proofs.Prefix.{number-equality}
 use Rattle.data_model.specs.Path.{Figures, is_path, same_path, by_bytes}
 use Rattle.data_model.specs.Subspace.{same_subspace}
 use Rattle.data_model.specs.Entry.{Entry}
-use Rattle.data_model.specs.Origin.{origin_kind, origin_session, is_origin, origin_of, same_origin}
+use Rattle.data_model.specs.Origin.{is_origin, origin_of, same_origin}
 use Rattle.keys.specs.Encode.{be, Triple, key_most}
 use Rattle.keys.specs.Decode.{Taken, refused, took, number, was_read}
 use Rattle.keys.proofs.Encoding.{be-length}

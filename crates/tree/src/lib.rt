@@ -1,6 +1,8 @@
 // One tree: records in a lent byte buffer, key then value, in key order without gaps, and beside it a lent directory of pairs of offset
 // and length. The tree takes its room from what it is lent. Its functions are for the store above it, and may ask what the store has
 // tested already, as that a tree is well-formed.
+#![tactic(auto)]
+
 pub mod address;
 pub mod apart;
 pub mod by_value;

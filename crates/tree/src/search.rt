@@ -7,7 +7,7 @@ use crate::stored::{key_at, value_at};
 use layout::bytes::{less, same};
 
 // How many keys are below a key, which is where it stands or would stand, and whether it is there.
-#[derive(Drop)]
+#[derive(Clone, Copy)]
 pub struct Place {
     pub at: usize,
     pub found: bool,

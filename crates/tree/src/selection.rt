@@ -22,7 +22,7 @@ use layout::bytes::less;
 
 // What is selected, but for the bytes of its paths, `low` and `high` below: subspaces that are both `own` and in `subspaces`, times, and
 // paths. `under`: paths that begin with `low`; else paths from `low` on, up to and without `high` unless the end is open.
-#[derive(Drop)]
+#[derive(Clone, Copy)]
 pub struct Selection {
     pub own: AreaSubspace,
     pub subspaces: SubspaceRange,

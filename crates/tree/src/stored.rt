@@ -22,14 +22,14 @@ use keys::judge::{is_spt_key, is_tsp_key};
 use layout::directory::{offset, size};
 
 // By which key a tree is ordered: subspace, path, timestamp; or timestamp, subspace, path.
-#[derive(Drop)]
+#[derive(Clone, Copy)]
 pub enum KeyOrder {
     Spt,
     Tsp,
 }
 
 // An entry with its token, how much of its payload is available, and where it came from.
-#[derive(Drop)]
+#[derive(Clone, Copy)]
 pub struct LengthyAuthorisedEntry {
     pub entry: Entry,
     pub token: [u8; 64],

@@ -26,7 +26,7 @@ const SESSION_AT: usize = ORIGIN_AT + 1;
 pub const VALUE: usize = SESSION_AT + 8;
 
 // A value as it lies: kind and session number of an origin, whether or not they are those of one.
-#[derive(Drop)]
+#[derive(Clone, Copy)]
 pub struct Value {
     pub payload_length: u64,
     pub payload_digest: [u8; 32],

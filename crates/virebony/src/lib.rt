@@ -1,6 +1,8 @@
-// The door: every call of the store, of its reading half and of the keys' layer that document 01 names, as an export for C and Rust (bindings/c/virebony.h).
-// An export has no `requires`, and its contract is the equation of the call that it wraps. Plain structs go by value; an enum crosses as a number
+// The door: every call of the store, of its reading half and of the keys' layer that document 01 names, in a form that crosses to C and Rust
+// (bindings/c/virebony.h); the static library `virebony_c` exports each. An export has no `requires`, and its contract is the equation of the call that it wraps. Plain structs go by value; an enum crosses as a number
 // beside its values (crate `plain`); a returned part as offset and length. A yes or no that is handed in is a byte, and every byte but 0 means yes.
+#![tactic(auto)]
+
 pub mod change;
 pub mod key_bytes;
 pub mod model;

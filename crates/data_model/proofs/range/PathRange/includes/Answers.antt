@@ -1,0 +1,16 @@
+-- `includes` meets its contract. Assumes nothing.
+use mathlib.Core.Path.{sym, ◌∙◌}
+use Rattle.laws.proofs.Truth.{and-true, not-true, not-false}
+use Rattle.data_model.specs.Path.{field, legal}
+use Rattle.data_model.proofs.Answers.{answer-refused, answer-given}
+use Rattle.data_model.specs.Range.{legal_range}
+use Rattle.data_model.proofs.range.PathRange.includes.Goals as goal
+
+pub returns-then-not-is_legal_with : goal.returns-then-not-is_legal_with
+returns-then-not-is_legal_with c = answer-refused _ _ (sym c.is_legal_with.ensures ∙ not-true _ c.if-not-is_legal_with.true-raw)
+
+pub range_includes_path-requires : goal.range_includes_path-requires
+range_includes_path-requires c = and-true (legal_range field c.args.self) (legal field c.args.value) (sym c.is_legal_with.ensures ∙ not-false _ c.if-not-is_legal_with.false-raw)
+
+pub returns : goal.returns
+returns c = answer-given _ _ _ _ (sym c.is_legal_with.ensures ∙ not-false _ c.if-not-is_legal_with.false-raw) c.range_includes_path.ensures c.yes_or_no.ensures

@@ -1,0 +1,11 @@
+-- `read_component` meets its contract. The invariant: what was read so far, in front of what reading on gives. Assumes nothing.
+use Prim.Native.Nat.{◌-◌}
+use lib.ListN.{length}
+use Rattle.keys.proofs.Reading.{Reading}
+use Rattle.keys.proofs.decode.read_component.Given as goal
+
+abbrev pub invariant-loop-at : goal.invariant-loop-at
+invariant-loop-at l = Reading l.lim l.k l.initial.bytes l.bytes l.at l.n
+
+abbrev pub decreases-loop-at : goal.decreases-loop-at
+decreases-loop-at l = length l.k - l.at

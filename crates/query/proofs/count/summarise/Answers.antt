@@ -1,0 +1,38 @@
+-- `summarise` meets its contract: each way's answer is the definition's. Assumes nothing.
+use mathlib.Core.Path.{◌≡◌, sym}
+use mathlib.Core.Bool.{true}
+use native.Mathlib.Omega.{arith}
+use lib.Seq.{length-take-le}
+use Rattle.data_model.specs.Path.{field}
+use Rattle.data_model.specs.Range.{legal_range}
+use Rattle.tree.specs.Matching.{in_range}
+use Rattle.store.specs.Store.{store_of}
+use Rattle.store.proofs.CheckLaws.{Passed}
+use Rattle.query.proofs.Tested.{tested, formed-spt, count-refused, count-done}
+use Rattle.query.proofs.count.summarise.Goals as goal
+use Rattle.query.proofs.count.summarise.Goals.{Else-refusal-ne0}
+
+-- Nothing is refused.
+known : (c : Else-refusal-ne0) → Passed (store_of c.args.state c.args.spt.now c.args.spt_dir.now c.args.tsp.now c.args.tsp_dir.now) × (legal_range field c.args.range.paths ≡ true)
+known c = tested (store_of c.args.state c.args.spt.now c.args.spt_dir.now c.args.tsp.now c.args.tsp_dir.now) c.is_legal_range.result (legal_range field c.args.range.paths) c.is_legal_range.ensures c.read_refusal-refusal.result c.read_refusal-refusal.ensures c.if-refusal-ne0.false
+
+pub returns-then-refusal-ne0 : goal.returns-then-refusal-ne0
+returns-then-refusal-ne0 c = count-refused (store_of c.args.state c.args.spt.now c.args.spt_dir.now c.args.tsp.now c.args.tsp_dir.now) c.is_legal_range.result _ c.is_legal_range.ensures c.read_refusal-refusal.result c.read_refusal-refusal.ensures (in_range c.args.range) c.if-refusal-ne0.true
+
+pub overflow_mul-t : goal.overflow_mul-t
+overflow_mul-t c = let m = (known (goal.at.overflow_mul-t c).Else-refusal-ne0).0.most in omega arith
+
+pub overflow_mul-d : goal.overflow_mul-d
+overflow_mul-d c = let m = (known (goal.at.overflow_mul-d c).Else-refusal-ne0).0.most in omega arith
+
+pub slice_bounds-count_in_range-end : goal.slice_bounds-count_in_range-end
+slice_bounds-count_in_range-end c = sym (length-take-le _ _ (known (goal.at.slice_bounds-count_in_range-end c).Else-refusal-ne0).0.room.spt)
+
+pub slice_bounds-count_in_range-end-2 : goal.slice_bounds-count_in_range-end-2
+slice_bounds-count_in_range-end-2 c = sym (length-take-le _ _ (known (goal.at.slice_bounds-count_in_range-end-2 c).Else-refusal-ne0).0.room.spt_dir)
+
+pub count_in_range-count-requires : goal.count_in_range-count-requires
+count_in_range-count-requires c = let k = known (goal.at.count_in_range-count-requires c).Else-refusal-ne0 in let m = k.0.most in let f = k.0.few in (formed-spt (store_of c.args.state c.args.spt.now c.args.spt_dir.now c.args.tsp.now c.args.tsp_dir.now) k.0, omega arith, k.1)
+
+pub returns : goal.returns
+returns c = count-done (store_of c.args.state c.args.spt.now c.args.spt_dir.now c.args.tsp.now c.args.tsp_dir.now) c.is_legal_range.result _ c.is_legal_range.ensures c.read_refusal-refusal.result c.read_refusal-refusal.ensures (in_range c.args.range) c.if-refusal-ne0.false _ (c.count_in_range-count.ensures c.args.state.namespace_id)

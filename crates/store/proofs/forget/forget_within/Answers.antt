@@ -1,0 +1,65 @@
+-- `forget_within` meets its contract: both trees are changed in their rooms. Assumes nothing.
+use mathlib.Core.Path.{sym}
+use native.Mathlib.Omega.{arith}
+use lib.Seq.{length-take-le}
+use mathlib.Core.Bool.{true}
+use Rattle.tree.specs.Matching.{is_forgotten}
+use Rattle.tree.specs.declared.stored.KeyOrder.TheVariants.{Spt, Tsp}
+use Rattle.store.specs.Store.{store_of, tree_of, dir_of}
+use Rattle.store.proofs.CheckLaws.{Passed, passed}
+use Rattle.store.proofs.ForgetLaws.{left-without}
+use Rattle.store.proofs.forget.forget_within.Goals as goal
+use Rattle.store.proofs.forget.forget_within.Goals.{Start}
+
+known : (c : Start) → Passed (store_of c.args.state c.args.spt.now c.args.spt_dir.now c.args.tsp.now c.args.tsp_dir.now)
+known c = (passed (store_of c.args.state c.args.spt.now c.args.spt_dir.now c.args.tsp.now c.args.tsp_dir.now) true c.requires.0).0
+
+pub overflow_mul-t : goal.overflow_mul-t
+overflow_mul-t c = let m = (known (goal.at.overflow_mul-t c).Start).most in omega arith
+
+pub overflow_mul-d : goal.overflow_mul-d
+overflow_mul-d c = let m = (known (goal.at.overflow_mul-d c).Start).most in omega arith
+
+pub slice_bounds-drop_area-end : goal.slice_bounds-drop_area-end
+slice_bounds-drop_area-end c = (known (goal.at.slice_bounds-drop_area-end c).Start).room.spt
+
+pub slice_bounds-drop_area-end-2 : goal.slice_bounds-drop_area-end-2
+slice_bounds-drop_area-end-2 c = sym (length-take-le _ _ (known (goal.at.slice_bounds-drop_area-end-2 c).Start).room.spt)
+
+pub slice_bounds-drop_area-end-3 : goal.slice_bounds-drop_area-end-3
+slice_bounds-drop_area-end-3 c = (known (goal.at.slice_bounds-drop_area-end-3 c).Start).room.spt_dir
+
+pub slice_bounds-drop_area-end-4 : goal.slice_bounds-drop_area-end-4
+slice_bounds-drop_area-end-4 c = sym (length-take-le _ _ (known (goal.at.slice_bounds-drop_area-end-4 c).Start).room.spt_dir)
+
+pub drop_area-left-requires : goal.drop_area-left-requires
+unfolding tree_of dir_of
+drop_area-left-requires c =
+    let m = (known (goal.at.drop_area-left-requires c).Start).most in
+    let k = (known (goal.at.drop_area-left-requires c).Start).few in
+    ((known (goal.at.drop_area-left-requires c).Start).whole Spt, omega arith, c.requires.1, c.requires.2)
+
+pub slice_bounds-drop_area-end-5 : goal.slice_bounds-drop_area-end-5
+slice_bounds-drop_area-end-5 c = (known (goal.at.slice_bounds-drop_area-end-5 c).Start).room.tsp
+
+pub slice_bounds-drop_area-end-6 : goal.slice_bounds-drop_area-end-6
+slice_bounds-drop_area-end-6 c = sym (length-take-le _ _ (known (goal.at.slice_bounds-drop_area-end-6 c).Start).room.tsp)
+
+pub slice_bounds-drop_area-end-7 : goal.slice_bounds-drop_area-end-7
+slice_bounds-drop_area-end-7 c = (known (goal.at.slice_bounds-drop_area-end-7 c).Start).room.tsp_dir
+
+pub slice_bounds-drop_area-end-8 : goal.slice_bounds-drop_area-end-8
+slice_bounds-drop_area-end-8 c = sym (length-take-le _ _ (known (goal.at.slice_bounds-drop_area-end-8 c).Start).room.tsp_dir)
+
+pub drop_area-requires : goal.drop_area-requires
+unfolding tree_of dir_of
+drop_area-requires c =
+    let m = (known (goal.at.drop_area-requires c).Start).most in
+    let k = (known (goal.at.drop_area-requires c).Start).few in
+    ((known (goal.at.drop_area-requires c).Start).whole Tsp, omega arith, c.requires.1, c.requires.2)
+
+pub returns : goal.returns
+returns c =
+    let a = c.drop_area-left in
+    let b = c.drop_area in
+    left-without (store_of c.args.state c.args.spt.now c.args.spt_dir.now c.args.tsp.now c.args.tsp_dir.now) (is_forgotten c.args.area c.args.protects c.args.protected) (known (goal.at.returns c).Start) a.result b.result _ c.with_count.ensures a.new.tree a.new.dir b.new.tree b.new.dir (a.ensures c.args.state.namespace_id) (b.ensures c.args.state.namespace_id)

@@ -1,0 +1,12 @@
+-- `tally_is` meets its contract: what is left to compare decides. Assumes nothing.
+use Prim.Native.Nat.{◌+◌, ◌-◌, ◌*◌, ◌≤◌}
+use lib.ListN.{length}
+use Rattle.tally.specs.Tally.{item_length}
+use Rattle.tally.proofs.TallyBytes.{TallyCompared}
+use Rattle.tally.proofs.tally_is.Given as goal
+
+abbrev pub invariant-loop-k : goal.invariant-loop-k
+invariant-loop-k l = (l.k ≤ l.count) × (l.at + item_length * (l.count - l.k) ≤ length l.tally) × TallyCompared l.count l.dir l.tree l.tally l.k l.at
+
+abbrev pub decreases-loop-k : goal.decreases-loop-k
+decreases-loop-k l = l.count - l.k

@@ -1,0 +1,32 @@
+-- `write_listed` meets its contract: three pieces, one behind the other. Assumes nothing.
+use native.Mathlib.Omega.{arith}
+use Prim.Native.Nat.{ℕ, ◌+◌}
+use mathlib.Core.Path.{◌≡◌, ap, ◌∙◌}
+use mathlib.Core.List.{List, [], ◌∷◌, ◌++◌}
+use lib.ListN.{length}
+use Rattle.laws.specs.Lists.{put}
+use Rattle.laws.proofs.Lists.{wrote-first, wrote-lent, wrote-last}
+use Rattle.data_model.specs.Path.{components}
+use Rattle.text.specs.Hex.{hex_byte}
+use Rattle.text.specs.PathText.{path_text}
+use Rattle.text.specs.EntryLine.{space, rank_text}
+use Rattle.text.proofs.LineLaws.{listed-pieces}
+use borrow.Author.Rules.{rules}
+use Rattle.text.proofs.entry_line.write_listed.Goals as goal
+
+pub returns : goal.returns
+returns c =
+    let a = c.args in
+    let old = a.out.now in
+    let f = c.write_byte_spaced-n in
+    let g = c.write_path_spaced in
+    let h = c.write_rank in
+    let x = hex_byte a.s ++ space ∷ [] in
+    let y = path_text (components a.p) ++ space ∷ [] in
+    let z = rank_text a.t a.l a.d in
+    let one : length f.new.out ≡ length old = search rules in
+    let first = wrote-first x (y ++ z) old f.new.out f.result (omega (arith, f.ensures.0, c.requires.1)) f.ensures.0 f.ensures.1 in
+    let next = wrote-lent (x ++ (y ++ z)) y z old f.new.out g.new.out f.result g.result first (omega (arith, one, f.ensures.0, g.ensures.1, c.requires.1)) g.ensures.0 g.ensures.2 in
+    let last = wrote-last (x ++ (y ++ z)) z old _ h.new.out (f.result + g.result) h.result next (omega (arith, next.size, f.ensures.0, g.ensures.1, h.ensures.1, c.requires.1)) h.ensures.0 h.ensures.2 in
+    let e = listed-pieces a.s (components a.p) a.t a.l a.d in
+    (last.0 ∙ ap length e, last.1 ∙ ap (λ (t : List ℕ). put t old) e)

@@ -1,0 +1,210 @@
+// The calls that change a store: opening, ingestion over a prune list of numbers and of pairs by value, both forgettings, and how much of a payload has arrived.
+ghost use Rattle.std.specs.Prelude.{◌≡◌};
+ghost use Rattle.data_model.specs.Path.{field};
+ghost use Rattle.store.specs.Store.{store_of, tallied_of};
+ghost use Rattle.store.specs.Open.{open_outcome, opening};
+ghost use Rattle.store.specs.Ingest.{ingested};
+ghost use Rattle.store.specs.Forget.{forget_entry_outcome, entry_forgotten, forget_area_outcome, area_forgotten};
+ghost use Rattle.pairs.specs.Pairs.{pairs_of, pairs_ingested};
+ghost use Rattle.available.specs.Available.{available_outcome, available_set};
+ghost use Rattle.plain.specs.Input.{is_yes, area_of, ingestion_of};
+ghost use Rattle.virebony.specs.Outcome.{numbers_left, told_numbers, pairs_left, told_pairs};
+
+use available::AvailableRecorded;
+use data_model::entry::Entry;
+use data_model::parameters::Subspace;
+use data_model::path::Path;
+use plain::answer::{PlainIngested, PlainNumbersIngested};
+use plain::input::{PlainArea, PlainOrigin, PlainPairs};
+use store::forget::{AreaForgotten, EntryForgotten};
+use store::state::{Opened, State};
+
+// `store::open::open`: a store of no entries, for at most `limit` of them.
+#[unsafe(no_mangle)]
+pub extern "C" fn vb_open(
+    namespace: &[u8; 16],
+    limit: usize,
+    spt: &mut [u8],
+    spt_dir: &mut [u32],
+    tsp: &mut [u8],
+    tsp_dir: &mut [u32],
+    tally: &mut [u8],
+) -> Opened
+    ensures { open_outcome result spt.new spt_dir.new tsp.new tsp_dir.new tally.new ≡ opening field namespace.now limit spt.old spt_dir.old tsp.old tsp_dir.old tally.old }
+{
+    virebony::change::vb_open(namespace, limit, spt, spt_dir, tsp, tsp_dir, tally)
+}
+
+// `store::ingest::ingest_entry_numbers`: ingestion with the pruned pairs in a lent slice of numbers, offset and length by turns.
+#[unsafe(no_mangle)]
+pub extern "C" fn vb_ingest_entry_numbers(
+    state: State,
+    spt: &mut [u8],
+    spt_dir: &mut [u32],
+    tsp: &mut [u8],
+    tsp_dir: &mut [u32],
+    tally: &mut [u8],
+    prune: &mut [u32],
+    entry: Entry,
+    token: &[u8; 64],
+    prevent_pruning: u8,
+    origin: PlainOrigin,
+) -> PlainIngested
+    ensures { numbers_left result spt.new spt_dir.new tsp.new tsp_dir.new tally.new prune.new ≡ told_numbers (ingested field (tallied_of state spt.old spt_dir.old tsp.old tsp_dir.old tally.old) prune.old (ingestion_of entry token.now prevent_pruning origin)) }
+{
+    virebony::change::vb_ingest_entry_numbers(
+        state,
+        spt,
+        spt_dir,
+        tsp,
+        tsp_dir,
+        tally,
+        prune,
+        entry,
+        token,
+        prevent_pruning,
+        origin,
+    )
+}
+
+// `pairs::ingest_entry` itself, on a prune list of 1,024 pairs that goes in and comes back by value.
+#[unsafe(no_mangle)]
+pub extern "C" fn vb_ingest_entry_by_value(
+    state: State,
+    spt: &mut [u8],
+    spt_dir: &mut [u32],
+    tsp: &mut [u8],
+    tsp_dir: &mut [u32],
+    tally: &mut [u8],
+    prune: PlainPairs,
+    entry: Entry,
+    token: &[u8; 64],
+    prevent_pruning: u8,
+    origin: PlainOrigin,
+) -> PlainNumbersIngested
+    ensures { pairs_left result.ingested spt.new spt_dir.new tsp.new tsp_dir.new tally.new (pairs_of result.numbers) ≡ told_pairs (pairs_ingested field (tallied_of state spt.old spt_dir.old tsp.old tsp_dir.old tally.old) prune.pairs (ingestion_of entry token.now prevent_pruning origin)) }
+{
+    virebony::change::vb_ingest_entry_by_value(
+        state,
+        spt,
+        spt_dir,
+        tsp,
+        tsp_dir,
+        tally,
+        prune,
+        entry,
+        token,
+        prevent_pruning,
+        origin,
+    )
+}
+
+// `store::forget::forget_entry`: drops the entry at a subspace and path; with `expects`, only if its digest is the one expected.
+#[unsafe(no_mangle)]
+pub extern "C" fn vb_forget_entry(
+    state: State,
+    spt: &mut [u8],
+    spt_dir: &mut [u32],
+    tsp: &mut [u8],
+    tsp_dir: &mut [u32],
+    tally: &mut [u8],
+    subspace: Subspace,
+    path: Path,
+    expects: u8,
+    expected_digest: &[u8; 32],
+) -> EntryForgotten
+    ensures { forget_entry_outcome result spt.new spt_dir.new tsp.new tsp_dir.new tally.new ≡ entry_forgotten field (tallied_of state spt.old spt_dir.old tsp.old tsp_dir.old tally.old) subspace path (is_yes expects) expected_digest.now }
+{
+    virebony::change::vb_forget_entry(
+        state,
+        spt,
+        spt_dir,
+        tsp,
+        tsp_dir,
+        tally,
+        subspace,
+        path,
+        expects,
+        expected_digest,
+    )
+}
+
+// `store::forget::forget_area`: drops what an area includes and, with `protects`, the protected area does not.
+#[unsafe(no_mangle)]
+pub extern "C" fn vb_forget_area(
+    state: State,
+    spt: &mut [u8],
+    spt_dir: &mut [u32],
+    tsp: &mut [u8],
+    tsp_dir: &mut [u32],
+    tally: &mut [u8],
+    area: PlainArea,
+    protects: u8,
+    protected: PlainArea,
+) -> AreaForgotten
+    ensures { forget_area_outcome result spt.new spt_dir.new tsp.new tsp_dir.new tally.new ≡ area_forgotten field (tallied_of state spt.old spt_dir.old tsp.old tsp_dir.old tally.old) (area_of area) (is_yes protects) (area_of protected) }
+{
+    virebony::change::vb_forget_area(
+        state, spt, spt_dir, tsp, tsp_dir, tally, area, protects, protected,
+    )
+}
+
+// `available::record_available_length`: records how much of the payload of the entry at a subspace and path is available; with `expects`, only if its
+// digest is the one expected.
+#[unsafe(no_mangle)]
+pub extern "C" fn vb_record_available_length(
+    state: State,
+    spt: &mut [u8],
+    spt_dir: &[u32],
+    tsp: &mut [u8],
+    tsp_dir: &[u32],
+    subspace: Subspace,
+    path: Path,
+    expects: u8,
+    expected_digest: &[u8; 32],
+    available: u64,
+) -> AvailableRecorded
+    ensures { available_outcome result spt.new spt_dir.now tsp.new tsp_dir.now ≡ available_set field (store_of state spt.old spt_dir.now tsp.old tsp_dir.now) subspace path (is_yes expects) expected_digest.now available }
+{
+    virebony::change::vb_record_available_length(
+        state,
+        spt,
+        spt_dir,
+        tsp,
+        tsp_dir,
+        subspace,
+        path,
+        expects,
+        expected_digest,
+        available,
+    )
+}
+
+// `available::forget_payload`: records that nothing of the payload of the entry at a subspace and path is available; with `expects`, only if its digest is
+// the one expected.
+#[unsafe(no_mangle)]
+pub extern "C" fn vb_forget_payload(
+    state: State,
+    spt: &mut [u8],
+    spt_dir: &[u32],
+    tsp: &mut [u8],
+    tsp_dir: &[u32],
+    subspace: Subspace,
+    path: Path,
+    expects: u8,
+    expected_digest: &[u8; 32],
+) -> AvailableRecorded
+    ensures { available_outcome result spt.new spt_dir.now tsp.new tsp_dir.now ≡ available_set field (store_of state spt.old spt_dir.now tsp.old tsp_dir.now) subspace path (is_yes expects) expected_digest.now 0 }
+{
+    virebony::change::vb_forget_payload(
+        state,
+        spt,
+        spt_dir,
+        tsp,
+        tsp_dir,
+        subspace,
+        path,
+        expects,
+        expected_digest,
+    )
+}
