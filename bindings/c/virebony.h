@@ -1,7 +1,7 @@
 /* virebony: a proved entry store in buffers that you lend. Every call here is proved to end, to read and write nothing but what it is lent, and to
-   answer as its contract says (crates/virebony), for every value that these types can hold: any numbers, any bytes, any lengths.
+   answer as its contract says (crates/virebony_c), for every value that these types can hold: any numbers, any bytes, any lengths.
 
-   Make the archive with `rt staticlib virebony` and link target/staticlib/libvirebony.a, from C11 or C++11. It is made for x86-64 Linux. Of functions that
+   Make the archive with `tests/archive` and link target/staticlib/libvirebony.a, from C11 or C++11. It is made for x86-64 Linux. Of functions that
    are not its own it calls memcpy and memset; it allocates nothing, keeps nothing between calls and has no variables, so several threads may call it at once, on
    different stores. docs/FORMAT.md shows how keys, records, directories, the tally and the state lie in memory.
 

@@ -1,4 +1,4 @@
-//! Links `libvirebony.a`: from the folder that VIREBONY_LIB_DIR names, else made by `rt staticlib virebony` at the repository's root. Before anything is
+//! Links `libvirebony.a`: from the folder that VIREBONY_LIB_DIR names, else made by the repository's `tests/archive`, which has `rt lib` prove it. Before anything is
 //! compiled, the archive is asked for its edition.
 use std::path::{Path, PathBuf};
 use std::process::{exit, Command};
@@ -48,10 +48,19 @@ fn run(command: &mut Command) -> Result<String, String> {
     Err(format!("{command:?}: {}\n{said}{}", output.status, String::from_utf8_lossy(&output.stderr)))
 }
 
-/// The folder in which `rt` leaves the archive, proved from the sources as they are now.
+/// The folder in which `tests/archive` leaves the archive, proved from the sources as they are now.
 fn made(root: &Path) -> Result<PathBuf, String> {
-    println!("cargo:rerun-if-changed={}", root.join("crates").display());
-    run(Command::new("rt").args(["staticlib", "virebony"]).current_dir(root))
+    println!("cargo:rerun-if-changed={}", root.join("crates.txt").display());
+    for entry in fs::read_dir(root.join("crates")).map_err(|e| e.to_string())? {
+        let folder = entry.map_err(|e| e.to_string())?.path();
+        // What `rt` makes stands in `out`.
+        for part in ["src", "specs", "proofs"].map(|part| folder.join(part)) {
+            if part.is_dir() {
+                println!("cargo:rerun-if-changed={}", part.display());
+            }
+        }
+    }
+    run(&mut Command::new(root.join("tests/archive")))
         .map_err(|why| format!("{why}\nlibvirebony.a was not made; or set VIREBONY_LIB_DIR to a folder that has it"))?;
     Ok(root.join("target/staticlib"))
 }

@@ -10,7 +10,7 @@
 //! - [`raw`] has every export of the archive as one safe function, over buffers of any length and values of any kind.
 //!
 //! What is proved is what the archive's calls answer and leave; the Rust around them is tested. The archive is found by the variable
-//! `VIREBONY_LIB_DIR`; where there is none, the build calls `rt staticlib virebony`. It links into x86-64 Linux programs.
+//! `VIREBONY_LIB_DIR`; where there is none, the build calls the repository's `tests/archive`. It links into x86-64 Linux programs.
 //!
 //! ```
 //! use virebony::{Area, AuthorisedEntry, Entry, EntryOrigin, Path, Store, SubspaceId};
