@@ -3,7 +3,7 @@
 
     python3 tools/respell.py [FOLDER]
 
-It was run once, over what port.py had made of the repository. tools/respelled.txt has the table, a line for each name: the old one and the new one.
+It was run once, over what port.py had made of the repository; it is not to be run over what it has made, since some new names are old ones too. tools/respelled.txt has the table, a line for each name: the old one and the new one.
 Words are in snake case; a fact keeps its capital; a dash still joins two names in a lemma's name, but in no field or constructor, unless a definition has
 the name without it. A lemma that would have its definition's new name gets `_lem` (LEMMAS below, with the files that have it).
 

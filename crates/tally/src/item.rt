@@ -52,6 +52,7 @@ pub fn write_item(item: Item, out: &mut [u8])
 }
 
 // The later of two timestamps.
+#[tactic(auto, unfolding(crate::specs::Tally::later_of))]
 fn later_of(a: u64, b: u64) -> u64
     ensures { result ≡ later_of a b }
 {
