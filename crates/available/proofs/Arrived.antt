@@ -10,7 +10,6 @@ use lib.ListN.{length, take, drop, get_or, set, length-append, length-map}
 use lib.Seq.{take_at, drop_at, drop-drop}
 use lib.Dec.{ltb}
 use borrow.Author.Tests.{ltb-false}
-use Rattle.laws.specs.Lists.{put}
 use Rattle.laws.specs.Order.{Order, is_less, below, on}
 use Rattle.laws.specs.Sorted.{◌∈◌, any, keep, Ascends}
 use Rattle.laws.proofs.Truth.{split, clash, refute}
@@ -32,10 +31,10 @@ use Rattle.tree.specs.Tree.{Formed}
 use Rattle.tree.specs.Matching.{stands_at}
 use Rattle.tree.specs.declared.stored.KeyOrder.{KeyOrder}
 use Rattle.tree.specs.declared.stored.KeyOrder.TheVariants.{Spt, Tsp}
-use Rattle.tree.proofs.FormedContents.{formed-many}
 use Rattle.store.specs.Store.{Held}
 use Rattle.store.specs.Ingest.{spt_less, tsp_less}
-use Rattle.store.specs.Change.{in_tree}
+use Rattle.std.proofs.Common.{Some}
+use Rattle.store.specs.Change.{in_tree, first_place}
 use Rattle.store.proofs.Meaning.{SoundHeld, spt-linear, tsp-linear, before-irrefl, places-once}
 use Rattle.store.proofs.Recorded.{Proper, map-view, map-make}
 use Rattle.store.proofs.Lifted.{Fit, list_of}
@@ -158,9 +157,9 @@ map-set g (x ∷ l) zero a = refl
 map-set g (x ∷ l) (suc i) a = ap (g x ∷◌) (map-set g l i a)
 
 -- The first mark of a place is where it first stands.
-pub stands-marked : {o : KeyOrder} {count : ℕ} {dir tree : List ℕ} (v : Formed o count dir tree) (ns : List ℕ) (s : Subspace) (p : Components) (marks old : List ℕ)
-    → marks ≡ put (marks_of (stands_at s p) (in_tree o ns count dir tree)) old → (k : ℕ) → k ≡ 0 + first_mark (drop 0 (take count marks)) → k < count → StandsFirst s p k (in_tree o ns count dir tree)
-stands-marked v ns s p marks old em k ek h = record { inside = omega (arith, formed-many v ns); first = at_first v ns s p marks old em k ek }
+pub stands-placed : {o : KeyOrder} {count : ℕ} {dir tree : List ℕ} (v : Formed o count dir tree) (ns : List ℕ) (s : Subspace) (p : Components) (k : ℕ)
+    → Some k ≡ first_place (stands_at s p) (in_tree o ns count dir tree) → StandsFirst s p k (in_tree o ns count dir tree)
+stands-placed v ns s p k e = let f = at_first v ns s p k e in record { inside = f.0; first = f.1 }
 
 -- Lists that a store may hold stay so, where no available length is above the payload length.
 module _ (f : Figures) {namespace : List ℕ} {limit : ℕ} {h : Held} (v : Fit f namespace limit h) (s : Subspace) (p : Components) where

@@ -4,13 +4,11 @@ use mathlib.Core.Path.{◌≡◌, sym, ap, ap₂, ◌∙◌}
 use mathlib.Core.Bool.{false}
 use mathlib.Core.List.{List, ◌∷◌, map}
 use native.Mathlib.Omega.{arith}
-use lib.ListN.{length, take, drop, get_or, set, length-map}
+use lib.ListN.{length, drop, get_or, set, length-map}
 use lib.Seq.{drop-cons}
-use Rattle.laws.specs.Lists.{put}
 use Rattle.laws.specs.Sorted.{any, keep}
 use Rattle.layout.specs.Buffers.{filled, written}
 use Rattle.layout.specs.Layout.{records, record_at, offset_at, pairs, tree_bytes, dir_numbers}
-use Rattle.layout.specs.Marks.{marks_of, first_mark}
 use Rattle.layout.proofs.LaidLaws.{laid}
 use Rattle.data_model.specs.Path.{Components, field}
 use Rattle.data_model.specs.declared.parameters.Subspace.{Subspace}
@@ -27,10 +25,9 @@ use Rattle.tree.proofs.FormedContents.{formed-many, formed-next}
 use Rattle.tree.proofs.WithinLaws.{at-bytes, formed-recorded}
 use Rattle.store.specs.Change.{in_tree, Changed}
 use Rattle.store.proofs.ChangeLaws.{records-again}
-use Rattle.store.proofs.ForgetLaws.{none_first}
 use Rattle.available.specs.Available.{arrive, arrive_at, StandsFirst, Arrived}
 use Rattle.available.proofs.Overwritten.{overwritten}
-use Rattle.available.proofs.Arrived.{arrive-record, arrive_none, arrive-first, length-arrive-at, pairs-kept, map-set, stands-marked}
+use Rattle.available.proofs.Arrived.{arrive-record, arrive_none, arrive-first, length-arrive-at, pairs-kept, map-set}
 
 -- One tree.
 module _ {o : KeyOrder} {count : ℕ} {dir tree : List ℕ} (v : Whole o count dir tree) (bytes : Bytes tree) (ns : List ℕ) (s : Subspace) (p : Components) (n : ℕ) where
@@ -80,11 +77,3 @@ module _ {o : KeyOrder} {count : ℕ} {dir tree : List ℕ} (v : Whole o count d
       e
       ∙ overwritten (laid count dir tree v.laid) k h (available_in r) (be 8 n) (omega (arith, least, be-length 8 n))
       ∙ ap (tree_bytes (length tree)) (sym recs)
-
-  -- Which of the two it is, by the marks of the place.
-  module _ (marks old : List ℕ) (em : marks ≡ put (marks_of (stands_at s p) l) old) (k : ℕ) (ek : k ≡ 0 + first_mark (drop 0 (take count marks))) where
-    pub marked-none : count ≤ k → any (stands_at s p) l ≡ false
-    marked-none h = none_first v.formed ns s p marks old em k ek h
-
-    pub marked-first : k < count → StandsFirst s p k l
-    marked-first h = stands-marked v.formed ns s p marks old em k ek h

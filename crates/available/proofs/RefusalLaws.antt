@@ -1,20 +1,20 @@
 -- When a recording is refused, first in checking order, and what it answers and leaves. Assumes nothing.
 use Prim.Native.Nat.{ℕ, ◌+◌, ◌≤◌, ◌<◌}
-use mathlib.Core.Path.{◌≡◌, sym, ap, ap₂, ◌∙◌}
+use mathlib.Core.Path.{◌≡◌, refl, sym, ap, ap₂, ◌∙◌}
 use mathlib.Core.Bool.{Bool, true, false, not, ◌&&◌}
 use mathlib.Core.List.{List, ◌++◌}
 use native.Mathlib.Omega.{arith}
 use lib.ListN.{length, take, drop, take-append-drop}
 use lib.Dec.{ltb}
-use borrow.Author.Tests.{ne_eqb, lt-ltb, le-ltb}
-use Rattle.laws.specs.Lists.{put}
+use borrow.Author.Tests.{lt-ltb, le-ltb}
 use Rattle.laws.specs.Prefix.{same_number, same_list}
 use Rattle.laws.specs.Sorted.{any, keep}
 use Rattle.laws.proofs.Sorted.{any-make}
 use Rattle.layout.specs.Buffers.{written}
 use Rattle.layout.specs.Layout.{record_at, offset_at}
-use Rattle.layout.specs.Marks.{marks_of, first_mark}
-use Rattle.data_model.specs.Path.{Components, field, legal, components}
+use Rattle.data_model.specs.Path.{Components, Figures, field, legal, components}
+use Rattle.data_model.specs.Refusal.{refusal_number}
+use Rattle.data_model.specs.declared.answer.Refusal.{Refusal}
 use Rattle.data_model.specs.Entry.{entry_of, rank_of}
 use Rattle.data_model.specs.declared.path.Path.{Path}
 use Rattle.data_model.specs.declared.parameters.Subspace.{Subspace}
@@ -32,9 +32,10 @@ use Rattle.tree.proofs.FormedLaws.{formed-bounds}
 use Rattle.tree.proofs.FormedContents.{formed-many}
 use Rattle.store.specs.Store.{Store, store_of, tree_room, dir_room, tree_of, dir_of, held, held_by, holding}
 use Rattle.store.specs.Refusal.{unless, ◌or_else◌, store_refusal}
-use Rattle.store.specs.Change.{in_tree}
+use Rattle.std.proofs.Common.{Some, None}
+use Rattle.store.specs.Change.{in_tree, first_place}
 use Rattle.store.specs.Forget.{unexpected}
-use Rattle.store.proofs.CheckLaws.{Passed, or-none, unless-none}
+use Rattle.store.proofs.CheckLaws.{Passed, or-none, unless-none, number-some}
 use Rattle.store.proofs.TalliedLaws.{passed-fit}
 use Rattle.store.proofs.HoldingLaws.{store-holds}
 use Rattle.store.proofs.Lifted.{held_in}
@@ -43,23 +44,22 @@ use Rattle.available.specs.Available.{arrived_at, exceeded, StandsFirst, Arrived
 use Rattle.available.proofs.Arrived.{single}
 use Rattle.available.proofs.OneTree.{set-changed, set-one}
 
--- What is looked for among the stored entries, by the first mark of the place.
-module _ {count : ℕ} {dir tree : List ℕ} (v : Formed Spt count dir tree) (ns : List ℕ) (s : Subspace) (p : Components) (expects : Bool) (digest : List ℕ) (n : ℕ) (marks old : List ℕ)
-    (em : marks ≡ put (marks_of (stands_at s p) (in_tree Spt ns count dir tree)) old) (k : ℕ) (ek : k ≡ 0 + first_mark (drop 0 (take count marks))) where
+-- What is looked for among the stored entries, by the place of the first that stands there.
+module _ {o : KeyOrder} {count : ℕ} {dir tree : List ℕ} (v : Formed o count dir tree) (ns : List ℕ) (s : Subspace) (p : Components) (expects : Bool) (digest : List ℕ) (n : ℕ) where
   abbrev l : List Stored
-  l = in_tree Spt ns count dir tree
+  l = in_tree o ns count dir tree
 
-  pub refuses-absent : count ≤ k → 11 ≡ entry_refusal s p expects digest n l
+  pub refuses-absent : None ≡ first_place (stands_at s p) l → 11 ≡ entry_refusal s p expects digest n l
   unfolding entry_refusal unless ◌or_else◌
-  refuses-absent h = rw (none_first v ns s p marks old em k ek h)
+  refuses-absent e = rw (none_first v ns s p e)
 
-  module _ (once : no_address_twice l ≡ true) (h : k < count) (a : LengthyAuthorisedEntry) (q : stored_of a ≡ stored Spt field ns (record_at k dir tree))
+  module _ (k : ℕ) (ek : Some k ≡ first_place (stands_at s p) l) (once : no_address_twice l ≡ true) (a : LengthyAuthorisedEntry) (q : stored_of a ≡ stored o field ns (record_at k dir tree))
       (t : Bool) (et : t ≡ (expects && not (same_list same_number a.entry.payload_digest digest))) where
     there : any (stands_at s p) l ≡ true
-    there = any-make (stands_at s p) l (in-first v ns s p marks old em k ek h) (stands-first v ns s p marks old em k ek h)
+    there = any-make (stands_at s p) l (in-first v ns s p k ek) (stands-first v ns s p k ek)
 
     asked : (test : Stored → Bool) → test (stored_of a) ≡ any (λ (y : Stored). stands_at s p y && test y) l
-    asked test = ap test q ∙ one-such s p test l once _ (in-first v ns s p marks old em k ek h) (stands-first v ns s p marks old em k ek h)
+    asked test = ap test q ∙ one-such s p test l once _ (in-first v ns s p k ek) (stands-first v ns s p k ek)
 
     other : any (unexpected s p expects digest) l ≡ t
     unfolding unexpected stored_of entry_of rank_of
@@ -81,53 +81,34 @@ module _ {count : ℕ} {dir tree : List ℕ} (v : Formed Spt count dir tree) (ns
     unfolding entry_refusal unless ◌or_else◌
     refuses-nothing e g = rw (there, other, e, above, le-ltb a.entry.payload_length n g)
 
--- The place, of what is not refused.
-pub not-zero : {A : Type 0} {n : ℕ} → (n ≡ 0 → ⊥) → n ≡ 0 → A
-not-zero h e = absurd (h e)
-
--- The refusals of a call.
+-- The refusals of a call: what it answers and leaves.
 module _ (s : Store) (subspace : Subspace) (path : Path) (expects : Bool) (digest : List ℕ) (n : ℕ) where
   abbrev refusal : ℕ
   refusal = available_refusal field s subspace path expects digest n
 
-  module _ (r : ℕ) (e : r ≡ store_refusal field s true) where
-    pub available-early : (r ≡ 0 → ⊥) → r ≡ refusal
-    unfolding available_refusal ◌or_else◌
-    available-early h = rw (← e, ne_eqb r 0 h)
+  pub available-refused : (r : Refusal) → refusal_number r ≡ refusal
+      → available_outcome (record { refusal = refusal_number r; state = s.state }) s.spt s.spt_dir s.tsp s.tsp_dir ≡ available_set field s subspace path expects digest n
+  unfolding available_set
+  available-refused r e = rw (← e, number-some r)
 
-    pub available-path : r ≡ 0 → legal field path ≡ false → 4 ≡ refusal
-    unfolding available_refusal ◌or_else◌ unless
-    available-path z l = rw (← e, z, l)
-
-    pub available-entry : r ≡ 0 → legal field path ≡ true → (t : ℕ)
-        → t ≡ entry_refusal subspace (components path) expects digest n (in_tree Spt s.state.namespace_id s.state.count (take (dir_room s.state.limit) s.spt_dir) (take (tree_room field s.state.limit) s.spt))
-        → t ≡ refusal
-    unfolding available_refusal ◌or_else◌ unless held tree_of dir_of
-    available-entry z l t g = g ∙ rw (← e, z, l)
-
-  -- The subspace-first tree in its room is what the store holds.
-  pub placed-in : (k : ℕ) → StandsFirst subspace (components path) k (in_tree Spt s.state.namespace_id s.state.count (take (dir_room s.state.limit) s.spt_dir) (take (tree_room field s.state.limit) s.spt))
-      → StandsFirst subspace (components path) k (held field Spt s)
-  unfolding held tree_of dir_of
-  placed-in k h = h
-
-  -- What is answered and left.
-  module _ (r : ℕ) (e : r ≡ refusal) where
-    pub available-refused : (r ≡ 0 → ⊥) → available_outcome (record { refusal = r; state = s.state }) s.spt s.spt_dir s.tsp s.tsp_dir ≡ available_set field s subspace path expects digest n
-    unfolding available_set
-    available-refused h = rw (← e, ne_eqb r 0 h)
-
-    pub available-tested : r ≡ 0 → (store_refusal field s true ≡ 0) × (legal field path ≡ true)
+  module _ (z : 0 ≡ refusal) where
+    pub available-tested : (store_refusal field s true ≡ 0) × (legal field path ≡ true)
     unfolding available_refusal
-    available-tested z =
-        let k = or-none (store_refusal field s true) _ (sym e ∙ z) in
+    available-tested =
+        let k = or-none (store_refusal field s true) _ (sym z) in
         let j = or-none (unless (legal field path) 4) _ k.1 in
         (k.0, unless-none (legal field path) 4 (omega arith) j.0)
 
-    pub available-done : r ≡ 0 → (a b c d : List ℕ) → store_of s.state a b c d ≡ holding field (arrived_at subspace (components path) n (held_by field s)) s
+    pub available-done : (a b c d : List ℕ) → store_of s.state a b c d ≡ holding field (arrived_at subspace (components path) n (held_by field s)) s
         → available_outcome (record { refusal = 0; state = s.state }) a b c d ≡ available_set field s subspace path expects digest n
     unfolding available_set
-    available-done z a b c d g = let w : refusal ≡ 0 = sym e ∙ z in rw w (λ i. record { answer = record { refusal = 0; state = s.state }; left = g i })
+    available-done a b c d g = let w : refusal ≡ 0 = sym z in rw w (λ i. record { answer = record { refusal = 0; state = s.state }; left = g i })
+
+-- Where no digest is expected, none is looked at.
+pub available-unlooked : (f : Figures) (s : Store) (subspace : Subspace) (path : Path) (digest digest' : List ℕ) (n : ℕ)
+    → available_set f s subspace path false digest n ≡ available_set f s subspace path false digest' n
+unfolding available_set available_refusal entry_refusal unexpected
+available-unlooked f s subspace path digest digest' n = refl
 
 -- Both trees written over, in their rooms.
 module _ (s : Store) (v : Passed s) (spt-bytes : Bytes s.spt) (tsp-bytes : Bytes s.tsp) (subspace : Subspace) (p : Components) (n : ℕ) where

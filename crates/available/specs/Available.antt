@@ -1,10 +1,11 @@
 -- 02, U4: how much of a stored entry's payload has arrived. One definition serves both calls: when they are refused, in checking order, and what they leave.
-use Rattle.std.specs.Prelude.{ℕ, ◌<◌, ◌≡◌, List, map, Bool, true, not, cond, ◌&&◌, length, eqb, ltb}
+use Rattle.std.specs.Prelude.{ℕ, ◌<◌, ◌≡◌, List, map, Bool, true, not, cond, ◌&&◌, length, eqb, ltb, Result}
 use Rattle.laws.specs.Sorted.{any}
 use Rattle.layout.specs.Layout.{tree_bytes}
 use Rattle.layout.specs.Marks.{marks_of, first_mark}
 use Rattle.data_model.specs.Path.{Figures, Components, components, legal}
-use Rattle.data_model.specs.Refusal.{illegal_path, other_digest, absent_entry, too_much_available}
+use Rattle.data_model.specs.Refusal.{illegal_path, other_digest, absent_entry, too_much_available, refused_with}
+use Rattle.data_model.specs.declared.answer.Refusal.{Refusal}
 use Rattle.data_model.specs.declared.path.Path.{Path}
 use Rattle.data_model.specs.declared.parameters.Subspace.{Subspace}
 use Rattle.tree.specs.Stored.{Stored, record_of}
@@ -15,7 +16,7 @@ use Rattle.store.specs.Store.{Store, store_of, held, Held, held_by, holding}
 use Rattle.store.specs.Refusal.{unless, ◌or_else◌, store_refusal}
 use Rattle.store.specs.Forget.{unexpected}
 use Rattle.store.specs.Change.{in_tree}
-use Rattle.available.specs.declared.AvailableRecorded.{AvailableRecorded}
+use Rattle.store.specs.declared.state.State.{State}
 
 -- What is stored, with this available length; the same where it stands at a subspace and path, and as it is elsewhere; and so in both trees.
 abbrev pub arrive : ℕ → Stored → Stored
@@ -43,11 +44,19 @@ unfoldable pub available_refusal : Figures → Store → Subspace → Path → (
 available_refusal f s subspace path expects digest n =
     store_refusal f s true or_else unless (legal f path) illegal_path or_else entry_refusal subspace (components path) expects digest n (held f Spt s)
 
+-- What is answered: the refusal, 0 for none, and the state that was handed in.
+pub record AvailableSaid : Type 0 where
+  pub refusal : ℕ
+  pub state : State
+
+abbrev pub available_says : {A : Type 0} → (handed : State) → Result A Refusal → AvailableSaid
+available_says handed r = record { refusal = refused_with r; state = handed }
+
 pub record AvailableOutcome : Type 0 where
-  pub answer : AvailableRecorded
+  pub answer : AvailableSaid
   pub left : Store
 
-abbrev pub available_outcome : AvailableRecorded → List ℕ → List ℕ → List ℕ → List ℕ → AvailableOutcome
+abbrev pub available_outcome : AvailableSaid → List ℕ → List ℕ → List ℕ → List ℕ → AvailableOutcome
 available_outcome r a b c d = record { answer = r; left = store_of r.state a b c d }
 
 -- The state that is answered is the one that was handed in, refused or not. Forgetting a payload is recording 0.

@@ -2,148 +2,88 @@
 // entries are `record_available_length` and `forget_payload`: they have no `requires`, and are lent neither a tally nor a prune list.
 #![tactic(auto)]
 
-ghost use Rattle.std.specs.Prelude.{◌≡◌, true, not, ◌&&◌, List, ℕ, ◌≤◌, length};
+ghost use Rattle.std.specs.Prelude.{◌≡◌, true, not, ◌&&◌, List, ℕ, ◌≤◌, length, is_some, Ok};
 ghost use Rattle.laws.specs.Prefix.{same_number, same_list};
 ghost use Rattle.laws.specs.Sorted.{keep};
 ghost use Rattle.data_model.specs.Path.{field, legal, components};
+ghost use Rattle.data_model.specs.Refusal.{refused_with};
 ghost use Rattle.tree.specs.Tree.{Formed, Whole};
 ghost use Rattle.tree.specs.Matching.{stands_at};
 ghost use Rattle.tree.specs.Apart.{no_address_twice};
 ghost use Rattle.tree.specs.declared.stored.KeyOrder.TheVariants.{Spt, Tsp};
 ghost use Rattle.store.specs.Store.{store_of, limit_most, held, held_by, holding};
+ghost use Rattle.store.specs.Lent.{lent};
 ghost use Rattle.store.specs.Refusal.{store_refusal};
+ghost use Rattle.store.specs.Forget.{digest_in};
 ghost use Rattle.store.specs.Change.{in_tree};
-ghost use Rattle.available.specs.Available.{arrived_at, StandsFirst, Arrived, entry_refusal, available_refusal, available_outcome, available_set};
+ghost use Rattle.available.specs.Available.{arrived_at, StandsFirst, Arrived, entry_refusal, available_refusal, available_says, available_outcome, available_set};
 
-use data_model::answer::{ABSENT_ENTRY, ILLEGAL_PATH, OTHER_DIGEST, TOO_MUCH_AVAILABLE};
+use data_model::answer::Refusal;
 use data_model::parameters::Subspace;
 use data_model::path::Path;
-use store::check::check_store;
-use store::state::{LIMIT_MOST, RECORD_MOST, State};
+use store::place::place_at;
+use store::state::{RECORD_MOST, State, Store};
 use tree::by_value::is_legal;
-use tree::bytes::same_bytes;
 use tree::edit::set_available;
-use tree::entries::mark_at;
-use tree::marks::first_marked;
-use tree::stored::{KeyOrder, stored_at};
-
-// The refusal, 0 for none, and the state that was handed in.
-#[repr(C)]
-#[derive(Clone, Copy)]
-pub struct AvailableRecorded {
-    pub refusal: u8,
-    pub state: State,
-}
+use tree::stored::{KeyOrder, Tree};
 
 // Whether a digest is expected, and is not this one.
-fn is_other(expects: bool, own_digest: [u8; 32], expected_digest: [u8; 32]) -> bool
-    ensures { result ≡ (expects && not (same_list same_number own_digest expected_digest)) }
+fn is_other(expected: Option<[u8; 32]>, own: [u8; 32]) -> bool
+    ensures { result ≡ (is_some expected && not (same_list same_number own (digest_in expected))) }
 {
-    if !expects {
-        return false;
+    match expected {
+        Some(digest) => own != digest,
+        None => false,
     }
-    !same_bytes(&own_digest, &expected_digest)
 }
 
-// A refusal, 0 for none; and where the entry stands in the subspace-first tree, if nothing is refused.
-#[derive(Clone, Copy)]
-struct Placed {
-    refusal: u8,
-    place: usize,
-}
-
-// 11, 9 or 12; else 0 and the place. Over the subspace-first tree in its room.
+// Where the entry stands in a tree in its room; or 11, 9 or 12.
 fn entry_place(
+    tree: Tree,
     namespace: [u8; 16],
-    count: usize,
-    spt: &[u8],
-    spt_dir: &[u32],
     subspace: Subspace,
     path: Path,
-    expects: bool,
-    expected_digest: [u8; 32],
+    expected: Option<[u8; 32]>,
     n: u64,
-) -> Placed
-    requires { (Formed Spt count spt_dir.now spt.now) × (count ≤ limit_most) × (legal field path ≡ true) × (no_address_twice (in_tree Spt namespace count spt_dir.now spt.now) ≡ true) }
-    ensures refusal_value { result.refusal ≡ entry_refusal subspace (components path) expects expected_digest n (in_tree Spt namespace count spt_dir.now spt.now) }
-    ensures stands_first { result.refusal ≡ 0 → StandsFirst subspace (components path) result.place (in_tree Spt namespace count spt_dir.now spt.now) }
+) -> Result<usize, Refusal>
+    requires { (Formed tree.order tree.count tree.dir.now tree.bytes.now) × (tree.count ≤ limit_most) × (legal field path ≡ true) × (no_address_twice (in_tree tree.order namespace tree.count tree.dir.now tree.bytes.now) ≡ true) }
+    ensures refusal_value { refused_with result ≡ entry_refusal subspace (components path) (is_some expected) (digest_in expected) n (in_tree tree.entry.order namespace tree.entry.count tree.entry.dir.now tree.entry.bytes.now) }
+    ensures stands_first { (k : ℕ) → result ≡ Ok k → StandsFirst subspace (components path) k (in_tree tree.entry.order namespace tree.entry.count tree.entry.dir.now tree.entry.bytes.now) }
 {
-    let mut marks = [0u8; LIMIT_MOST];
-    mark_at(
-        KeyOrder::Spt,
-        count,
-        spt_dir,
-        spt,
-        subspace,
-        path,
-        &mut marks,
-    );
-    let place = first_marked(&marks[..count], 0);
-    if count <= place {
-        return Placed {
-            refusal: ABSENT_ENTRY,
-            place,
-        };
-    }
-    let a = stored_at(KeyOrder::Spt, namespace, spt_dir, spt, place);
-    let e = a.entry;
-    let own = e.payload_digest;
-    if is_other(expects, own, expected_digest) {
-        return Placed {
-            refusal: OTHER_DIGEST,
-            place,
-        };
+    let Some(place) = place_at(tree, subspace, path) else {
+        return Err(Refusal::AbsentEntry);
+    };
+    let e = tree.stored_at(namespace, place).entry;
+    if is_other(expected, e.payload_digest) {
+        return Err(Refusal::OtherDigest);
     }
     if e.payload_length < n {
-        return Placed {
-            refusal: TOO_MUCH_AVAILABLE,
-            place,
-        };
+        return Err(Refusal::TooMuchAvailable);
     }
-    Placed { refusal: 0, place }
+    Ok(place)
 }
 
-// 1, 2, 3, 4, 11, 9 or 12; else 0 and the place.
+// Where the entry stands in the subspace-first tree; or 1, 2, 3, 4, 11, 9 or 12.
 fn available_place(
-    state: State,
-    spt: &[u8],
-    spt_dir: &[u32],
-    tsp: &[u8],
-    tsp_dir: &[u32],
+    store: Store,
     subspace: Subspace,
     path: Path,
-    expects: bool,
-    expected_digest: [u8; 32],
+    expected: Option<[u8; 32]>,
     n: u64,
-) -> Placed
-    ensures refusal_value { result.refusal ≡ available_refusal field (store_of state spt.now spt_dir.now tsp.now tsp_dir.now) subspace path expects expected_digest n }
-    ensures stands_first { result.refusal ≡ 0 → StandsFirst subspace (components path) result.place (held field Spt (store_of state spt.now spt_dir.now tsp.now tsp_dir.now)) }
+) -> Result<usize, Refusal>
+    ensures refusal_value { refused_with result ≡ available_refusal field (lent store.entry) subspace path (is_some expected) (digest_in expected) n }
+    ensures stands_first { (k : ℕ) → result ≡ Ok k → StandsFirst subspace (components path) k (held field Spt (lent store.entry)) }
 {
-    let r = check_store(state, spt, spt_dir, tsp, tsp_dir, true);
-    if r != 0 {
-        return Placed {
-            refusal: r,
-            place: 0,
-        };
-    }
+    store.check(true)?;
     if !is_legal(path) {
-        return Placed {
-            refusal: ILLEGAL_PATH,
-            place: 0,
-        };
+        return Err(Refusal::IllegalPath);
     }
-    let namespace = state.namespace_id;
-    let t = RECORD_MOST * state.limit;
-    let d = 2 * state.limit;
     entry_place(
-        namespace,
-        state.count,
-        &spt[..t],
-        &spt_dir[..d],
+        store.spt(),
+        store.state.namespace_id,
         subspace,
         path,
-        expects,
-        expected_digest,
+        expected,
         n,
     )
 }
@@ -153,24 +93,19 @@ fn set_in_tsp(count: usize, tsp: &mut [u8], tsp_dir: &[u32], subspace: Subspace,
     requires { (Whole Tsp count tsp_dir.now tsp.old) × (count ≤ limit_most) × (legal field path ≡ true) }
     ensures { (namespace : List ℕ) → length (keep (stands_at subspace (components path)) (in_tree Tsp namespace count tsp_dir.now tsp.old)) ≤ 1 → Arrived Tsp namespace count subspace (components path) n tsp_dir.now tsp.old tsp.new }
 {
-    let mut marks = [0u8; LIMIT_MOST];
-    mark_at(
-        KeyOrder::Tsp,
+    let tree = Tree {
+        order: KeyOrder::Tsp,
         count,
-        tsp_dir,
-        tsp,
-        subspace,
-        path,
-        &mut marks,
-    );
-    let k = first_marked(&marks[..count], 0);
-    if count <= k {
-        return;
+        dir: tsp_dir,
+        bytes: tsp,
+    };
+    if let Some(k) = place_at(tree, subspace, path) {
+        set_available(tsp_dir, tsp, k, n);
     }
-    set_available(tsp_dir, tsp, k, n);
 }
 
 // Writes the available length of what stands at a subspace and path in both trees of a store. `place`: where it stands in the subspace-first tree.
+// Kept (5): a clause could name what a struct of `&mut` leaves only by the numbers of its parts, as `t.exit.1.0.now`.
 fn set_both(
     state: State,
     spt: &mut [u8],
@@ -192,7 +127,8 @@ fn set_both(
     set_in_tsp(c, &mut tsp[..t], &tsp_dir[..d], subspace, path, n);
 }
 
-// Records how much of the payload of the entry at a subspace and path is available, in both trees: any length from 0 to the payload length.
+// Records how much of the payload of the entry at a subspace and path is available, in both trees: any length from 0 to the payload length. The state stays.
+// Kept (5): a clause could name what a struct of `&mut` leaves only by the numbers of its parts, as `t.exit.1.0.now`.
 pub fn record_available_length(
     state: State,
     spt: &mut [u8],
@@ -201,43 +137,28 @@ pub fn record_available_length(
     tsp_dir: &[u32],
     subspace: Subspace,
     path: Path,
-    expects: bool,
-    expected_digest: [u8; 32],
+    expected: Option<[u8; 32]>,
     available: u64,
-) -> AvailableRecorded
-    ensures { available_outcome result spt.new spt_dir.now tsp.new tsp_dir.now ≡ available_set field (store_of state spt.old spt_dir.now tsp.old tsp_dir.now) subspace path expects expected_digest available }
+) -> Result<(), Refusal>
+    ensures { available_outcome (available_says state result) spt.new spt_dir.now tsp.new tsp_dir.now ≡ available_set field (store_of state spt.old spt_dir.now tsp.old tsp_dir.now) subspace path (is_some expected) (digest_in expected) available }
 {
-    let found = available_place(
+    let store = Store {
         state,
         spt,
         spt_dir,
         tsp,
         tsp_dir,
-        subspace,
-        path,
-        expects,
-        expected_digest,
-        available,
-    );
-    let refusal = found.refusal;
-    if refusal != 0 {
-        return AvailableRecorded { refusal, state };
-    }
+    };
+    let place = available_place(store, subspace, path, expected, available)?;
     set_both(
-        state,
-        spt,
-        spt_dir,
-        tsp,
-        tsp_dir,
-        subspace,
-        path,
-        found.place,
-        available,
+        state, spt, spt_dir, tsp, tsp_dir, subspace, path, place, available,
     );
-    AvailableRecorded { refusal: 0, state }
+    Ok(())
 }
 
-// Forgets the payload of the entry at a subspace and path: nothing of it is available then, in both trees. Nothing being available, it is done too.
+// Forgets the payload of the entry at a subspace and path: nothing of it is available then, in both trees. Nothing being available, it is done too. The state
+// stays.
+// Kept (5): a clause could name what a struct of `&mut` leaves only by the numbers of its parts, as `t.exit.1.0.now`.
 pub fn forget_payload(
     state: State,
     spt: &mut [u8],
@@ -246,21 +167,11 @@ pub fn forget_payload(
     tsp_dir: &[u32],
     subspace: Subspace,
     path: Path,
-    expects: bool,
-    expected_digest: [u8; 32],
-) -> AvailableRecorded
-    ensures { available_outcome result spt.new spt_dir.now tsp.new tsp_dir.now ≡ available_set field (store_of state spt.old spt_dir.now tsp.old tsp_dir.now) subspace path expects expected_digest 0 }
+    expected: Option<[u8; 32]>,
+) -> Result<(), Refusal>
+    ensures { available_outcome (available_says state result) spt.new spt_dir.now tsp.new tsp_dir.now ≡ available_set field (store_of state spt.old spt_dir.now tsp.old tsp_dir.now) subspace path (is_some expected) (digest_in expected) 0 }
 {
     record_available_length(
-        state,
-        spt,
-        spt_dir,
-        tsp,
-        tsp_dir,
-        subspace,
-        path,
-        expects,
-        expected_digest,
-        0,
+        state, spt, spt_dir, tsp, tsp_dir, subspace, path, expected, 0,
     )
 }

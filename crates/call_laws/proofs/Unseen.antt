@@ -17,7 +17,7 @@ use Rattle.data_model.specs.declared.path.Path.{Path}
 use Rattle.data_model.specs.declared.parameters.Subspace.{Subspace}
 use Rattle.data_model.specs.declared.entry.Entry.{Entry as EntryValue}
 use Rattle.data_model.specs.declared.area.Area.{Area}
-use Rattle.data_model.specs.declared.range.PathRange.{PathRange}
+use Rattle.data_model.specs.declared.range.Range.{Range}
 use Rattle.data_model.specs.declared.range_3d.Range3d.{Range3d}
 use Rattle.keys.specs.Encode.{triple, spt_key, tsp_key, roomy, encoded, encoded_in}
 use Rattle.key_laws.specs.Agree.{PathsAgree, EntriesAgree, AreasAgree, PathRangesAgree, RangesAgree, SameFor, SameForBoth}
@@ -27,9 +27,8 @@ use Rattle.query.specs.Listing.{is_found, part_of, offset_of}
 use Rattle.call_laws.specs.Unseen.{Unseen}
 use Rattle.call_laws.proofs.UnseenStore.{area-test, range-test, counted_same, found-same, area-listed-same, range-listed-same, interest-same, ingested-same, pairs-same, forgotten-same, area-forgotten-same, available-same}
 
-answers : {b c x y : Bool} → b ≡ c → (b ≡ true → x ≡ y) → answered b x ≡ answered c y
-unfolding answered
-answers {b} {c} {x} {y} e same = guarded answered (λ x y. refl) b c x y e same
+answers : {A : Type 0} {b c : Bool} {x y : A} → b ≡ c → (b ≡ true → x ≡ y) → answered b x ≡ answered c y
+answers {A} {b} {c} {x} {y} e same = guarded answered (λ x y. refl) b c x y e same
 
 -- Of two paths: legal alike, and the same components where both are legal.
 module _ (f : Figures) (p p' q q' : Path) (h : PathsAgree p p') (k : PathsAgree q q') where
@@ -39,12 +38,8 @@ module _ (f : Figures) (p p' q q' : Path) (h : PathsAgree p p') (k : PathsAgree 
   of-both : {A : Type 0} (g : Components → Components → A) → (legal f p && legal f q) ≡ true → g (components p) (components q) ≡ g (components p') (components q')
   of-both g l = let b = and-true (legal f p) (legal f q) l in ap₂ g (behind-components f p p' h b.0) (behind-components f q q' k b.1)
 
-  both-answered : (g : Components → Components → Bool) → answered (legal f p && legal f q) (g (components p) (components q)) ≡ answered (legal f p' && legal f q') (g (components p') (components q'))
+  both-answered : {A : Type 0} (g : Components → Components → A) → answered (legal f p && legal f q) (g (components p) (components q)) ≡ answered (legal f p' && legal f q') (g (components p') (components q'))
   both-answered g = answers both (of-both g)
-
-  both-compared : (g : Components → Components → Order) → answered (legal f p && legal f q) (g (components p) (components q)) ≡ answered (legal f p' && legal f q') (g (components p') (components q'))
-  unfolding answered
-  both-compared g = guarded answered (λ x y. refl) _ _ _ _ both (of-both g)
 
 -- Of two entries.
 module _ (f : Figures) (a a' b b' : EntryValue) (h : EntriesAgree a a') (k : EntriesAgree b b') where
@@ -54,7 +49,7 @@ module _ (f : Figures) (a a' b b' : EntryValue) (h : EntriesAgree a a') (k : Ent
 
 -- Of an area or a range, and a path.
 module _ (f : Figures) (p q : Path) (k : PathsAgree p q) where
-  in-paths : (a b : PathRange) → PathRangesAgree a b → answered (legal_range f a && legal f p) (paths_include a (components p)) ≡ answered (legal_range f b && legal f q) (paths_include b (components q))
+  in-paths : (a b : Range Path) → PathRangesAgree a b → answered (legal_range f a && legal f p) (paths_include a (components p)) ≡ answered (legal_range f b && legal f q) (paths_include b (components q))
   in-paths a b h = answers (ap₂ ◌&&◌ (behind-legal-range f a b h) (behind-legal f p q k))
       (λ l. let z = and-true (legal_range f a) (legal f p) l in behind-paths f a b h z.0 (components p) ∙ ap (paths_include b) (behind-components f p q k z.1))
 
@@ -74,13 +69,11 @@ module _ (f : Figures) (p q : Path) (k : PathsAgree p q) where
 -- Answers that are made of a path.
 above_same : (f : Figures) → SameFor PathsAgree (above_answer f)
 unfolding above_answer
-above_same f p q h = guarded (λ (c : Bool) (cs : Components). cond c (above_found (above f cs)) (record { refusal = illegal_path; found = false; path = path_of [] })) (λ x y. refl)
-    _ _ _ _ (behind-legal f p q h) (behind-components f p q h)
+above_same f p q h = answers (behind-legal f p q h) (λ l. ap (λ (cs : Components). above_found (above f cs)) (behind-components f p q h l))
 
 area-range-same : (f : Figures) → SameFor AreasAgree (area_range_answer f)
 unfolding area_range_answer
-area-range-same f a b h = guarded (λ (c : Bool) (r : Range3d). cond c (record { refusal = 0; range = r }) (record { refusal = illegal_path; range = empty_range })) (λ x y. refl)
-    _ _ _ _ (behind-legal f a.path b.path h.path) (behind-area-range f a b h)
+area-range-same f a b h = answers (behind-legal f a.path b.path h.path) (behind-area-range f a b h)
 
 module _ (f : Figures) (out : List ℕ) (key : Components → List ℕ) where
   encoded-same : SameFor PathsAgree (λ p. encoded (roomy f out) (legal f p) (key (components p)))
@@ -101,7 +94,7 @@ pub unseen : (f : Figures) → Unseen f
 unseen f = record {
   is_legal = behind-legal f;
   both_legal = both f;
-  cmp = λ p p' q q' h k. both-compared f p p' q q' h k by_components;
+  cmp = λ p p' q q' h k. both-answered f p p' q q' h k by_components;
   eq = λ p p' q q' h k. both-answered f p p' q q' h k same_path;
   is_prefix_of = λ p p' q q' h k. both-answered f p p' q q' h k is_prefix;
   is_prefixed_by = λ p p' q q' h k. both-answered f q q' p p' k h is_prefix;

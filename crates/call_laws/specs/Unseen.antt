@@ -46,7 +46,7 @@ pub record Unseen (f : Figures) : Type 0 where
   pub compare : SameForBoth EntriesAgree EntriesAgree (λ a b. answered (legal f a.path && legal f b.path) (by_rank (rank_of a) (rank_of b)))
   pub prunes_it : SameForBoth EntriesAgree EntriesAgree (λ a b. answered (legal f a.path && legal f b.path) (prunes (entry_of a) (entry_of b)))
   pub is_pruned_by : SameForBoth EntriesAgree EntriesAgree (λ a b. answered (legal f b.path && legal f a.path) (prunes (entry_of b) (entry_of a)))
-  -- PathRange, Range3d, Area
+  -- A range of paths, Range3d, Area
   pub is_legal_range : SameFor PathRangesAgree (legal_range f)
   pub is_legal_with : SameForBoth PathRangesAgree PathsAgree (λ r p. legal_range f r && legal f p)
   pub includes : SameForBoth PathRangesAgree PathsAgree (λ r p. answered (legal_range f r && legal f p) (paths_include r (components p)))

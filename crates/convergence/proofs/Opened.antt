@@ -21,7 +21,7 @@ use Rattle.tree.specs.declared.stored.KeyOrder.TheVariants.{Spt}
 use Rattle.tree.proofs.RecordLaws.{key-of-record, stored_back}
 use Rattle.store.specs.Store.{held, held_by, Tallied}
 use Rattle.store.specs.Refusal.{unless, ◌or_else◌, store_refusal}
-use Rattle.store.proofs.CheckLaws.{refuses-none}
+use Rattle.query.proofs.Tested.{store-passes}
 use Rattle.store.proofs.Recorded.{map-view}
 use Rattle.query.specs.Reading.{read_refusal, is_remembered, list_refusal}
 use Rattle.query.specs.Listing.{listed}
@@ -39,7 +39,7 @@ use Rattle.convergence.proofs.Proved.{stands-all}
 -- Of a store that stands.
 module _ (u : Tallied) (v : Stands field u) where
   not-refused : 0 ≡ store_refusal field u.store true
-  not-refused = refuses-none u.store true v.limit v.room refl (stands-well field u v)
+  not-refused = store-passes u.store v.limit v.room (stands-well field u v)
 
   own-refusals : (paths : Bool) (last : List ℕ) → list_refusal field u.store paths last ≡ (unless paths illegal_path or_else unless (is_remembered field last) no_key)
   unfolding list_refusal read_refusal ◌or_else◌

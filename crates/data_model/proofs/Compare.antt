@@ -1,14 +1,13 @@
 -- Comparing bytes, and components, from the front: what is left decides as the whole does. Assumes nothing.
-use Prim.Native.Nat.{ℕ, ◌+◌, ◌≤◌, ◌<◌}
+use Prim.Native.Nat.{ℕ, ◌+◌, ◌≤◌, ◌<◌, min}
 use mathlib.Core.Path.{◌≡◌, sym, ap, ◌∙◌}
 use mathlib.Core.List.{List}
 use native.Mathlib.Omega.{arith}
-use native.Mathlib.Numerals.{add-one}
-use lib.ListN.{length, take, drop, get_or, drop_of_length-le}
-use lib.Seq.{drop-cons, take-take}
+use lib.ListN.{length, take, drop, get_or}
+use lib.Seq.{take-take}
 use Rattle.laws.specs.Lists.{piece}
 use Rattle.laws.specs.Order.{Order, less, same, greater, ◌then◌, by_number, by_elements}
-use Rattle.laws.proofs.Order.{then_less, then_same, then-greater, number-less, number_same, number-greater}
+use Rattle.laws.proofs.Order.{then_less, then_same, then-greater, number-less, number_same, number-greater, three, tri, Tri, under, equal, over}
 use mathlib.Core.Bool.{Bool, true, false, ◌&&◌}
 use borrow.Author.Tests.{le-leb, lt-leb}
 use Rattle.laws.specs.Order.{is_same}
@@ -18,33 +17,6 @@ use Rattle.data_model.specs.declared.path.Path.{Path}
 use Rattle.data_model.specs.Path.{cut, components, by_bytes, by_components, legal_ends, same_component, same_path, is_prefix}
 use Rattle.data_model.proofs.Values.{cut_at, cut-done, cut-take, components-length, NextEnd, next-end}
 use Rattle.data_model.proofs.Orders.{same-path}
-
--- Bytes from i on.
-module _ (a b : List ℕ) (i : ℕ) (w : Order) (inv : w ≡ by_bytes (drop i a) (drop i b)) where
-  pub bytes-greater : i < length a → length b ≤ i → w ≡ greater
-  unfolding by_elements
-  bytes-greater h k = inv ∙ rw (drop-cons a i 0 h, drop_of_length-le b k)
-
-  pub bytes-less : length a ≤ i → i < length b → w ≡ less
-  unfolding by_elements
-  bytes-less h k = inv ∙ rw (drop-cons b i 0 k, drop_of_length-le a h)
-
-  pub bytes_same : length a ≤ i → length b ≤ i → w ≡ same
-  unfolding by_elements
-  bytes_same h k = inv ∙ rw (drop_of_length-le a h, drop_of_length-le b k)
-
-  bytes-step : i < length a → i < length b → w ≡ by_number (get_or a i 0) (get_or b i 0) then by_bytes (drop (i + 1) a) (drop (i + 1) b)
-  unfolding by_elements
-  bytes-step h k = inv ∙ rw (drop-cons a i 0 h, drop-cons b i 0 k, add-one)
-
-  pub byte-less : i < length a → i < length b → get_or a i 0 < get_or b i 0 → w ≡ less
-  byte-less h k l = bytes-step h k ∙ then_less _ _ (number-less _ _ l)
-
-  pub byte-greater : i < length a → i < length b → get_or b i 0 < get_or a i 0 → w ≡ greater
-  byte-greater h k l = bytes-step h k ∙ then-greater _ _ (number-greater _ _ l)
-
-  pub byte-same : i < length a → i < length b → get_or b i 0 ≤ get_or a i 0 → get_or a i 0 ≤ get_or b i 0 → w ≡ by_bytes (drop (i + 1) a) (drop (i + 1) b)
-  byte-same h k l m = bytes-step h k ∙ then_same _ _ (number_same _ _ (omega arith))
 
 -- Components from the i-th on, which begin at af and bf.
 module _ (a ae b be : List ℕ) (af bf i : ℕ) (w : Order) (inv : w ≡ by_components (cut a af (drop i ae)) (cut b bf (drop i be))) where
@@ -75,6 +47,23 @@ module _ (a ae b be : List ℕ) (af bf i : ℕ) (w : Order) (inv : w ≡ by_comp
     pub component-same : by_bytes (piece af (get_or ae i 0) a) (piece bf (get_or be i 0) b) ≡ same
         → w ≡ by_components (cut a (get_or ae i 0) (drop (i + 1) ae)) (cut b (get_or be i 0) (drop (i + 1) be))
     component-same e = components-step h k ∙ then_same _ _ e
+
+-- Components that differ decide; where none did and one path has no more, the counts do.
+pub component-differs : (a ae b be : List ℕ) (af bf i : ℕ) (w : Order) → w ≡ by_components (cut a af (drop i ae)) (cut b bf (drop i be)) → i < length ae → i < length be
+    → (o : Order) → o ≡ by_bytes (piece af (get_or ae i 0) a) (piece bf (get_or be i 0) b) → (o ≡ same → ⊥) → o ≡ w
+component-differs a ae b be af bf i w inv h k o e n = three o
+    (λ l. l ∙ sym (component-less a ae b be af bf i w inv h k (sym e ∙ l)))
+    (λ s. absurd (n s))
+    (λ g. g ∙ sym (component-greater a ae b be af bf i w inv h k (sym e ∙ g)))
+
+pub components-ended : (a ae b be : List ℕ) (af bf i : ℕ) (w : Order) → w ≡ by_components (cut a af (drop i ae)) (cut b bf (drop i be)) → i ≤ length ae → i ≤ length be
+    → min (length ae) (length be) ≤ i → by_number (length ae) (length be) ≡ w
+components-ended a ae b be af bf i w inv h k n = go (tri (length ae) (length be))
+  where
+    go : Tri (length ae) (length be) → by_number (length ae) (length be) ≡ w
+    go (under l) = number-less _ _ l ∙ sym (components-less a ae b be af bf i w inv (omega (arith, n)) (omega (arith, n)))
+    go (equal l) = number_same _ _ l ∙ sym (components-same a ae b be af bf i w inv (omega (arith, n)) (omega (arith, n)))
+    go (over l) = number-greater _ _ l ∙ sym (components-greater a ae b be af bf i w inv (omega (arith, n)) (omega (arith, n)))
 
 -- A loop that compares components: what is left, in both, from the i-th on.
 pub record Comparing (a ae b be : List ℕ) (i af bf : ℕ) : Type 0 where

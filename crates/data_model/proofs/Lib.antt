@@ -1,4 +1,5 @@
 pub mod Answers
+pub mod Derived
 pub mod Values
 pub mod Orders
 pub mod Compare

@@ -3,7 +3,7 @@ use Prim.Native.Nat.{ℕ, zero, suc, ◌+◌, ◌-◌, ◌≤◌, ◌<◌, min}
 use mathlib.Core.Path.{◌≡◌, refl, sym, ap, ◌∙◌}
 use mathlib.Core.List.{List, [], ◌∷◌, ◌++◌, append_assoc, append-nil}
 use mathlib.Core.Option.{Option, some, none, map}
-use mathlib.Core.Bool.{Bool, true, false, ◌&&◌}
+use mathlib.Core.Bool.{true, false, ◌&&◌}
 use native.Mathlib.Omega.{arith}
 use native.Mathlib.Nat.{sub-zero}
 use native.Mathlib.Numerals.{add-one}
@@ -11,13 +11,13 @@ use lib.Dec.{leb, ltb}
 use borrow.Author.Tests.{lt-ltb, le-ltb, leb-true, ltb-true}
 use lib.ListN.{length, take, drop, get_or, set, replicate, length-replicate, length-append, length-take, drop_of_length-le}
 use lib.Seq.{drop-cons, take-suc, length-take-le, take-take, take-add, get_or-take, get_or-drop}
-use Rattle.laws.specs.Lists.{piece, put}
+use Rattle.laws.specs.Lists.{piece}
 use Rattle.laws.proofs.Lists.{put-zeros, put-snoc}
 use Rattle.laws.proofs.Truth.{and-true}
 use Rattle.data_model.specs.Path.{Figures, field, capacity, Component, Components, cut, components, joined, ends_from, legal_ends, legal, path_of, value_of, last_end}
 use Rattle.data_model.specs.Above.{or_else, raised_byte, raised_bytes, raised, above_in, above, raised_at, above_found}
 use Rattle.data_model.specs.declared.path.Path.{Path}
-use Rattle.data_model.specs.declared.above.Above.{Above}
+use Rattle.std.specs.Prelude.{Some, None}
 use Rattle.data_model.proofs.Values.{last_within, ends-top, ends-fewer, legal-these, legal-within, cut-take, joined-more, ends_more, length-piece, cut-length}
 
 -- The last of the first ends.
@@ -59,12 +59,7 @@ pub front-value : (cs : Components) (bytes ends : List ℕ) (n : ℕ) → joined
 unfolding path_of
 front-value cs bytes ends n b e l = rw (b, e, l)
 
--- The value that is made by copying into zeros, and with one more of each.
-pub front-made : (bytes ends xs es : List ℕ) (n : ℕ) → bytes ≡ put xs (replicate capacity.mpl 0) → ends ≡ put es (replicate capacity.mcc 0)
-    → ◌≡◌ {A = Path} (record { bytes = bytes; ends = ends; count = n }) (value_of xs es n)
-unfolding value_of
-front-made bytes ends xs es n b e = rw (b ∙ put-zeros xs capacity.mpl, e ∙ put-zeros es capacity.mcc)
-
+-- One more behind, where zeros were.
 zeros-more : (xs : List ℕ) (m n v : ℕ) → n ≡ length xs → n < m → set (xs ++ replicate (m - length xs) 0) n v ≡ (xs ++ v ∷ []) ++ replicate (m - length (xs ++ v ∷ [])) 0
 zeros-more xs m n v e h =
     ap (λ (l : List ℕ). set l n v) (sym (put-zeros xs m))
@@ -187,15 +182,15 @@ unfolding above joined
 above-ends f cs h = rw sub-zero at h
 
 -- What an answer says of the search that it answers.
-pub found_some : (o : Option Components) (r : Above) → r ≡ above_found o → r.found ≡ true → (q : Components) × (o ≡ some q)
+pub found_some : (o : Option Components) (p : Path) → Some p ≡ above_found o → (q : Components) × (o ≡ some q)
 unfolding above_found
-found_some none r e t = absurd (let z : ◌≡◌ {A = Bool} true false = sym t ∙ ap (λ (x : Above). x.found) e in let w : ◌≡◌ {A = ℕ} 0 1 = cc in omega arith)
-found_some (some q) r e t = (q, refl)
+found_some none p e = absurd (let z : ◌≡◌ {A = ℕ} 0 1 = cc in omega arith)
+found_some (some q) p e = (q, refl)
 
-pub found_none : (o : Option Components) (r : Above) → r ≡ above_found o → r.found ≡ false → o ≡ none
+pub found_none : (o : Option Components) → None ≡ above_found o → o ≡ none
 unfolding above_found
-found_none none r e t = refl
-found_none (some q) r e t = absurd (let z : ◌≡◌ {A = Bool} false true = sym t ∙ ap (λ (x : Above). x.found) e in let w : ◌≡◌ {A = ℕ} 0 1 = cc in omega arith)
+found_none none e = refl
+found_none (some q) e = absurd (let z : ◌≡◌ {A = ℕ} 0 1 = cc in omega arith)
 
 -- The i-th of legal ends and where its component begins.
 ends_at : (mcl mpl from i : ℕ) (es : List ℕ) → i < length es → legal_ends mcl mpl from es ≡ true
@@ -273,7 +268,7 @@ module _ (p : Path) (b : field.mpl ≤ length p.bytes) (n : p.count ≤ length p
 
   -- The three ways out.
   pub grown : ltb (to - from) (min field.mcl (field.mpl - from)) ≡ true
-      → record { refusal = 0; found = true; path = value_of (take to p.bytes ++ 0 ∷ []) (take i p.ends ++ (to + 1) ∷ []) (i + 1) } ≡ above_found (raised_at field (components p) i)
+      → Some (value_of (take to p.bytes ++ 0 ∷ []) (take i p.ends ++ (to + 1) ∷ []) (i + 1)) ≡ above_found (raised_at field (components p) i)
   unfolding above_found raised
   grown g =
       let c = piece from to p.bytes in
@@ -286,7 +281,7 @@ module _ (p : Path) (b : field.mpl ≤ length p.bytes) (n : p.count ≤ length p
 
   pub lifted : (j : ℕ) → ltb (to - from) (min field.mcl (field.mpl - from)) ≡ false → j < length (piece from to p.bytes)
       → raised_bytes (piece from to p.bytes) ≡ some (take j (piece from to p.bytes) ++ (get_or p.bytes (from + j) 0 + 1) ∷ [])
-      → record { refusal = 0; found = true; path = value_of (take (from + j) p.bytes ++ (get_or p.bytes (from + j) 0 + 1) ∷ []) (take i p.ends ++ (from + j + 1) ∷ []) (i + 1) }
+      → Some (value_of (take (from + j) p.bytes ++ (get_or p.bytes (from + j) 0 + 1) ∷ []) (take i p.ends ++ (from + j + 1) ∷ []) (i + 1))
       ≡ above_found (raised_at field (components p) i)
   unfolding above_found raised
   lifted j g l r =

@@ -1,12 +1,11 @@
 -- The least legal path above a path that the path does not prefix, or none. That it is this is the theorem `above-least`.
-use Rattle.std.specs.Prelude.{ℕ, ◌+◌, ◌-◌, ◌<◌, min, ◌≡◌, [], ◌∷◌, ◌++◌, true, false, cond, length, take, get_or, ltb}
+use Rattle.std.specs.Prelude.{ℕ, ◌+◌, ◌-◌, ◌<◌, min, ◌≡◌, [], ◌∷◌, ◌++◌, cond, length, take, get_or, ltb}
+use Rattle.std.specs.Prelude.{Option as Maybe, Some, None}
 use Rattle.std.proofs.Math.Option.{Option, some, none, map}
 use Rattle.data_model.specs.Path.{Figures, Component, Components, joined, legal, components, path_of}
-use Rattle.data_model.specs.Refusal.{illegal_path}
+use Rattle.data_model.specs.Said.{Said}
+use Rattle.data_model.specs.Refusal.{answered}
 use Rattle.data_model.specs.declared.path.Path.{Path}
-use Rattle.data_model.specs.declared.above.Above.{Above}
-use Rattle.data_model.specs.declared.above.Found.{Found}
-use Rattle.data_model.specs.declared.above.Found.TheVariants.{At, Nothing}
 
 unfoldable pub or_else : {A : Type 0} → Option A → Option A → Option A
 or_else none b = b
@@ -32,18 +31,19 @@ above_in mcl room (c ∷ cs) = or_else (map (c ∷◌) (above_in mcl (room - len
 unfoldable pub above : Figures → Components → Option Components
 above f cs = above_in f.mcl f.mpl cs
 
--- The answer: 4 for an illegal path; else whether there is one, and it.
-unfoldable pub above_found : Option Components → Above
-above_found none = record { refusal = 0; found = false; path = path_of [] }
-above_found (some cs) = record { refusal = 0; found = true; path = path_of cs }
+-- The path value that is handed out for the components found, if any were.
+unfoldable pub above_found : Option Components → Maybe Path
+above_found none = None
+above_found (some cs) = Some (path_of cs)
 
-unfoldable pub above_answer : Figures → Path → Above
-above_answer f p = cond (legal f p) (above_found (above f (components p))) (record { refusal = illegal_path; found = false; path = path_of [] })
+-- The answer: 4 for an illegal path; else the path above, if there is one.
+unfoldable pub above_answer : Figures → Path → Said (Maybe Path)
+above_answer f p = answered (legal f p) (above_found (above f (components p)))
 
 -- For the inner functions: the same by the place of what is replaced, the i-th component or the j-th byte.
 unfoldable pub raised_at : Figures → Components → ℕ → Option Components
 raised_at f cs i = map (λ d. take i cs ++ d ∷ []) (raised (min f.mcl (f.mpl - length (joined (take i cs)))) (get_or cs i []))
 
-abbrev pub RaisesByte : Component → Found → Type 0
-RaisesByte c (At j) = (j < length c) × (get_or c j 0 < 255) × (raised_bytes c ≡ some (take j c ++ (get_or c j 0 + 1) ∷ []))
-RaisesByte c Nothing = raised_bytes c ≡ none
+abbrev pub RaisesByte : Component → Maybe ℕ → Type 0
+RaisesByte c (Some j) = (j < length c) × (get_or c j 0 < 255) × (raised_bytes c ≡ some (take j c ++ (get_or c j 0 + 1) ∷ []))
+RaisesByte c None = raised_bytes c ≡ none

@@ -1,17 +1,13 @@
 -- The refusals of every layer, by the papers' numbers, and what the data model's answers say.
-use Rattle.std.specs.Prelude.{ℕ, Bool, true, false}
+use Rattle.std.specs.Prelude.{ℕ, Bool, true, false, Result, Ok, Err}
 use Rattle.laws.specs.Order.{Order, less, same, greater}
 use Rattle.data_model.specs.Said.{Said, refuses, says}
-use Rattle.data_model.specs.declared.answer.Answer.{Answer}
-use Rattle.data_model.specs.declared.answer.Answer.TheVariants as answer
-use Rattle.data_model.specs.declared.answer.Compared.{Compared}
-use Rattle.data_model.specs.declared.answer.Compared.TheVariants as compare
-use Rattle.data_model.specs.declared.answer.Ordering.{Ordering}
-use Rattle.data_model.specs.declared.answer.Ordering.TheVariants as ordering
+use Rattle.data_model.specs.declared.answer.Refusal.{Refusal}
+use Rattle.data_model.specs.declared.answer.Refusal.TheVariants as refusal
+use Rattle.std.specs.declared.cmp.Ordering.{Ordering}
+use Rattle.std.specs.declared.cmp.Ordering.TheVariants as ordering
 use Rattle.data_model.specs.declared.answer.Recency.{Recency}
 use Rattle.data_model.specs.declared.answer.Recency.TheVariants as recency
-use Rattle.data_model.specs.declared.answer.EntriesCompared.{EntriesCompared}
-use Rattle.data_model.specs.declared.answer.EntriesCompared.TheVariants as entries
 
 -- The limit is outside 1 to 1,024.
 abbrev pub bad_limit : ℕ
@@ -61,40 +57,54 @@ absent_entry = 11
 abbrev pub too_much_available : ℕ
 too_much_available = 12
 
--- What each case of an answer says: its number and its values. A question: yes or no.
-unfoldable pub answer_says : Answer → Said Bool
-answer_says answer.Yes = says true
-answer_says answer.No = says false
-answer_says (answer.Refused n) = refuses n
+-- The number of a refusal.
+abbrev pub refusal_number : Refusal → ℕ
+refusal_number refusal.BadLimit = bad_limit
+refusal_number refusal.ShortBuffer = short_buffer
+refusal_number refusal.NotWellFormed = not_well_formed
+refusal_number refusal.IllegalPath = illegal_path
+refusal_number refusal.NoKey = no_key
+refusal_number refusal.OtherNamespace = other_namespace
+refusal_number refusal.PruningPrevented = pruning_prevented
+refusal_number refusal.Full = full
+refusal_number refusal.OtherDigest = other_digest
+refusal_number refusal.WrongTally = wrong_tally
+refusal_number refusal.AbsentEntry = absent_entry
+refusal_number refusal.TooMuchAvailable = too_much_available
 
--- A comparison: how the first stands to the second.
-unfoldable pub compared_says : Compared → Said Order
-compared_says compare.Less = says less
-compared_says compare.Equal = says same
-compared_says compare.Greater = says greater
-compared_says (compare.Refused n) = refuses n
+-- What a call answers, in 01's words: its values, each as f tells them; or the number of the refusal.
+abbrev pub said_by : {A B : Type 0} → (A → B) → Result A Refusal → Said B
+said_by f (Ok a) = says (f a)
+said_by f (Err r) = refuses (refusal_number r)
 
--- A comparison that nothing refuses: it has no number.
-unfoldable pub ordering_says : Ordering → Order
+-- The same where the values need no telling.
+abbrev pub said : {A : Type 0} → Result A Refusal → Said A
+said (Ok a) = says a
+said (Err r) = refuses (refusal_number r)
+
+-- The number of a test's refusal, or 0 where nothing is refused.
+abbrev pub refused_with : {A : Type 0} → Result A Refusal → ℕ
+refused_with (Ok a) = 0
+refused_with (Err r) = refusal_number r
+
+-- What each case of a comparison says.
+abbrev pub ordering_says : Ordering → Order
 ordering_says ordering.Less = less
 ordering_says ordering.Equal = same
 ordering_says ordering.Greater = greater
 
+-- The order by which a comparison compares.
+abbrev pub order_by : {A : Type 0} → (A → A → Ordering) → A → A → Order
+order_by c a b = ordering_says (c a b)
+
 -- The comparison of two entries by their ranks: the first is newer if its rank is the greater one, older if it is the lesser, the same if neither is
 -- (`compared-newer`, `compared-older`, `compared_same`: so it is by `newer`).
-unfoldable pub recency_says : Recency → Order
+abbrev pub recency_says : Recency → Order
 recency_says recency.Newer = greater
 recency_says recency.Older = less
 recency_says recency.Same = same
 
--- That comparison where it may be refused.
-unfoldable pub entries_compared_says : EntriesCompared → Said Order
-entries_compared_says entries.Newer = says (recency_says recency.Newer)
-entries_compared_says entries.Older = says (recency_says recency.Older)
-entries_compared_says entries.Same = says (recency_says recency.Same)
-entries_compared_says (entries.Refused n) = refuses n
-
 -- What is answered to a question about paths, or to their comparison: 4 if one of them is illegal, else what holds.
-unfoldable pub answered : {A : Type 0} → (legal : Bool) → A → Said A
+abbrev pub answered : {A : Type 0} → (legal : Bool) → A → Said A
 answered false holds = refuses illegal_path
 answered true holds = says holds

@@ -1,63 +1,30 @@
 // The least legal path above a path that the path does not prefix.
-ghost use Rattle.std.specs.Prelude.{◌+◌, ◌-◌, ◌≤◌, ◌<◌, min, ◌≡◌, [], ◌∷◌, ◌++◌, true, ltb, length, take};
-ghost use Rattle.std.proofs.Math.Option.{none};
-ghost use Rattle.laws.specs.Lists.{put};
+// Kept (5): `legal field p`, as in `checked`.
+ghost use Rattle.std.specs.Prelude.{◌+◌, ◌-◌, ◌≤◌, ◌<◌, min, ◌≡◌, [], ◌∷◌, ◌++◌, true, ltb, length, take, replicate};
 ghost use Rattle.data_model.specs.Path.{field, capacity, legal, components, path_of, last_end, value_of};
 ghost use Rattle.data_model.specs.Above.{above, above_found, raised_at, RaisesByte};
 
-use crate::path::{MCL, MPL, PATH_BYTES, PATH_ENDS, Path};
+use crate::path::{MCL, MPL, Path};
 
-// Refusal 0 and whether there is such a path, and it; or the refusal and all else 0.
-#[repr(C)]
-#[derive(Clone, Copy)]
-pub struct Above {
-    pub refusal: u8,
-    pub found: bool,
-    pub path: Path,
-}
-
-#[derive(Clone, Copy)]
-pub enum Found {
-    At(usize),
-    Nothing,
-}
-
-fn copy_bytes(from: &[u8], out: &mut [u8])
-    requires { length from.now ≤ length out.old }
-    ensures { out.new ≡ put from.now out.old }
+// The items, with the filler behind up to the array's length.
+fn padded<T: Copy, const N: usize>(items: &[T], filler: T) -> [T; N]
+    requires { length items.now ≤ N }
+    ensures { result ≡ items.now ++ replicate (N - length items.now) filler }
 {
-    let mut i: usize = 0;
-    while i < from.len() {
-        out[i] = from[i];
-        i += 1;
-    }
-}
-
-fn copy_ends(from: &[usize], out: &mut [usize])
-    requires { length from.now ≤ length out.old }
-    ensures { out.new ≡ put from.now out.old }
-{
-    let mut i: usize = 0;
-    while i < from.len() {
-        out[i] = from[i];
-        i += 1;
-    }
+    let mut out = [filler; N];
+    out[..items.len()].copy_from_slice(items);
+    out
 }
 
 // The first n ends and the first e bytes, with zeros behind.
+#[tactic(auto, unfolding(crate::specs::Path::value_of))]
 fn front(p: Path, n: usize, e: usize) -> Path
     requires { (n ≤ capacity.mcc) × (e ≤ capacity.mpl) }
     ensures { result ≡ value_of (take e p.bytes) (take n p.ends) n }
 {
-    let mut bytes = [0u8; PATH_BYTES];
-    let mut ends = [0usize; PATH_ENDS];
-    let old_bytes = p.bytes;
-    let old_ends = p.ends;
-    copy_bytes(&old_bytes[..e], &mut bytes);
-    copy_ends(&old_ends[..n], &mut ends);
     Path {
-        bytes,
-        ends,
+        bytes: padded(&p.bytes[..e], 0),
+        ends: padded(&p.ends[..n], 0),
         count: n,
     }
 }
@@ -79,10 +46,7 @@ fn start(ends: &[usize], i: usize) -> usize
     requires { i ≤ length ends.now }
     ensures { result ≡ last_end 0 (take i ends.now) }
 {
-    if i == 0 {
-        return 0;
-    }
-    ends[i - 1]
+    if i == 0 { 0 } else { ends[i - 1] }
 }
 
 // The value that is handed out for a legal path: zeros behind.
@@ -90,24 +54,19 @@ pub fn canonical(p: Path) -> Path
     requires { legal field p ≡ true }
     ensures { result ≡ path_of (components p) }
 {
-    let n = p.count;
-    let ends = p.ends;
-    let total = start(&ends, n);
-    front(p, n, total)
+    front(p, p.count, start(&p.ends, p.count))
 }
 
 // The last byte that can be raised.
-fn last_below(c: &[u8]) -> Found
+fn last_below(c: &[u8]) -> Option<usize>
     ensures { RaisesByte c.now result }
 {
-    let mut j = c.len();
-    while 0 < j {
-        j -= 1;
+    for j in (0..c.len()).rev() {
         if c[j] < 255 {
-            return Found::At(j);
+            return Some(j);
         }
     }
-    Found::Nothing
+    None
 }
 
 // Whether the component between two places can have a byte more.
@@ -115,69 +74,32 @@ fn may_grow(from: usize, e: usize) -> bool
     requires { from ≤ e }
     ensures { result ≡ ltb (e - from) (min field.mcl (field.mpl - from)) }
 {
-    if e - from < MCL {
-        return e < MPL;
-    }
-    false
+    e - from < MCL && e < MPL
 }
 
 // The path with its i-th component replaced by the least one above it, and nothing behind.
-fn raised_at(p: Path, i: usize) -> Above
+fn raised_at(p: Path, i: usize) -> Option<Path>
     requires { (legal field p ≡ true) × (i < p.count) }
     ensures { result ≡ above_found (raised_at field (components p) i) }
 {
-    let ends = p.ends;
-    let bytes = p.bytes;
-    let e = ends[i];
-    let from = start(&ends, i);
+    let e = p.ends[i];
+    let from = start(&p.ends, i);
     if may_grow(from, e) {
-        let path = raise(p, i, e, 0);
-        return Above {
-            refusal: 0,
-            found: true,
-            path,
-        };
+        return Some(raise(p, i, e, 0));
     }
-    let f = last_below(&bytes[from..e]);
-    match f {
-        Found::At(j) => {
-            let at = from + j;
-            let b = bytes[at];
-            let path = raise(p, i, at, b + 1);
-            Above {
-                refusal: 0,
-                found: true,
-                path,
-            }
-        }
-        Found::Nothing => none_above(),
-    }
+    let j = last_below(&p.bytes[from..e])?;
+    Some(raise(p, i, from + j, p.bytes[from + j] + 1))
 }
 
-fn none_above() -> Above
-    ensures { result ≡ above_found none }
-{
-    let path = Path::new_empty();
-    Above {
-        refusal: 0,
-        found: false,
-        path,
-    }
-}
-
-// The last component that can be replaced is.
-pub fn least_above(p: Path) -> Above
+// The path with the last of its components replaced that can be.
+pub fn least_above(p: Path) -> Option<Path>
     requires { legal field p ≡ true }
     ensures { result ≡ above_found (above field (components p)) }
 {
-    let mut i = p.count;
-    while 0 < i {
-        i -= 1;
-        let a = raised_at(p, i);
-        let found = a.found;
-        if found {
-            return a;
+    for i in (0..p.count).rev() {
+        if let Some(above) = raised_at(p, i) {
+            return Some(above);
         }
     }
-    none_above()
+    None
 }

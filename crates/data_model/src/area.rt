@@ -4,10 +4,9 @@ ghost use Rattle.data_model.specs.Area.{area_subspace};
 
 use crate::parameters::Subspace;
 use crate::path::Path;
-use crate::range::TimesRange;
-use crate::range_3d::Range3d;
+use crate::range::Range;
 
-#[derive(Clone, Copy)]
+#[derive(Clone, Copy, PartialEq, Eq, Debug)]
 pub enum AreaSubspace {
     Any,
     Id(Subspace),
@@ -17,23 +16,17 @@ pub enum AreaSubspace {
 pub struct Area {
     pub subspace: AreaSubspace,
     pub path: Path,
-    pub times: TimesRange,
-}
-
-// The answer for an area's 3d range: refusal 0 and the range, or the refusal and all else 0.
-#[derive(Clone, Copy)]
-pub struct AreaRange {
-    pub refusal: u8,
-    pub range: Range3d,
+    pub times: Range<u64>,
 }
 
 impl AreaSubspace {
+    #[tactic(auto, unfolding(crate::specs::Area::area_subspace, crate::specs::Subspace::same_subspace, laws::specs::Prefix::same_number))]
     pub fn includes(self, subspace: Subspace) -> bool
         ensures { result ≡ area_subspace self subspace }
     {
         match self {
             AreaSubspace::Any => true,
-            AreaSubspace::Id(id) => id.eq(subspace),
+            AreaSubspace::Id(id) => id == subspace,
         }
     }
 }

@@ -5,8 +5,8 @@ ghost use Rattle.data_model.specs.Entry.{no_entry, rank_of};
 use crate::parameters::Subspace;
 use crate::path::Path;
 
-// What decides which of two entries is newer.
-#[derive(Clone, Copy)]
+// What decides which of two entries is newer: the first of these that differs.
+#[derive(Clone, Copy, PartialEq, Eq, PartialOrd, Ord, Debug)]
 pub struct Rank {
     pub timestamp: u64,
     pub payload_digest: [u8; 32],
@@ -29,17 +29,18 @@ impl Entry {
     pub fn zero() -> Entry
         ensures { result ≡ no_entry }
     {
-        let path = Path::new_empty();
         Entry {
             namespace_id: [0; 16],
             subspace_id: Subspace { high: 0, low: 0 },
-            path,
+            path: Path::new_empty(),
             timestamp: 0,
             payload_length: 0,
             payload_digest: [0; 32],
         }
     }
 
+    // What decides whether this entry is newer than another.
+    #[tactic(auto, unfolding(crate::specs::Entry::rank_of))]
     pub fn rank(self) -> Rank
         ensures { result ≡ rank_of self }
     {

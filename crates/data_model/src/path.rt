@@ -18,6 +18,7 @@ pub const PATH_ENDS: usize = 8;
 pub const COMPONENT_BYTES: usize = 64;
 
 // The component ends, of which the first `count` count, cut the bytes; what lies behind is never looked at.
+// Kept (6): 01 fixes this value, 128 bytes, 8 ends and a count; C sees it, and there is no heap.
 #[repr(C)]
 #[derive(Clone, Copy)]
 pub struct Path {
@@ -30,32 +31,26 @@ pub struct Path {
 fn legal_ends(ends: &[usize], mcl: usize, mpl: usize) -> bool
     ensures { result ≡ legal_ends mcl mpl 0 ends.now }
 {
-    let mut from: usize = 0;
-    let mut i: usize = 0;
-    while i < ends.len() {
-        let e = ends[i];
-        if e < from {
+    let mut from = 0;
+    for &end in ends {
+        if end < from || mcl < end - from {
             return false;
         }
-        if mcl < e - from {
-            return false;
-        }
-        from = e;
-        i += 1;
+        from = end;
     }
     from <= mpl
 }
 
+// Whether both paths are legal.
 pub fn both_legal(p: Path, q: Path) -> bool
     ensures { result ≡ (legal field p && legal field q) }
 {
-    if p.is_legal() {
-        return q.is_legal();
-    }
-    false
+    p.is_legal() && q.is_legal()
 }
 
 impl Path {
+    // The path of no components: all 0.
+    #[tactic(auto, unfolding(crate::specs::Path::value_of, crate::specs::Path::path_of, crate::specs::Path::joined, crate::specs::Path::ends_from))]
     pub fn new_empty() -> Path
         ensures { result ≡ path_of [] }
     {
@@ -66,14 +61,11 @@ impl Path {
         }
     }
 
+    // Whether the path keeps to the figures and its ends don't descend.
+    #[tactic(auto, unfolding(crate::specs::Path::legal))]
     pub fn is_legal(self) -> bool
         ensures { result ≡ legal field self }
     {
-        let n = self.count;
-        if MCC < n {
-            return false;
-        }
-        let ends = self.ends;
-        legal_ends(&ends[..n], MCL, MPL)
+        self.count <= MCC && legal_ends(&self.ends[..self.count], MCL, MPL)
     }
 }

@@ -1,4 +1,5 @@
 // The public questions about paths, entries, ranges and areas: each looks whether the paths are legal, and asks `checked` or `above`.
+// Kept (4): a path may be illegal, and then the comparisons here answer 4, which `Ord` and `PartialEq` cannot.
 ghost use Rattle.std.specs.Prelude.{◌≡◌, ◌&&◌};
 ghost use Rattle.data_model.specs.Path.{field, legal, components, by_components, same_path, is_prefix};
 ghost use Rattle.data_model.specs.Above.{above_answer};
@@ -6,152 +7,140 @@ ghost use Rattle.data_model.specs.Entry.{entry_of, rank_of, by_rank, prunes};
 ghost use Rattle.data_model.specs.Range.{legal_range, paths_include};
 ghost use Rattle.data_model.specs.Range3d.{range_includes};
 ghost use Rattle.data_model.specs.Area.{area_includes};
-ghost use Rattle.data_model.specs.Refusal.{answer_says, answered, compared_says, entries_compared_says};
+ghost use Rattle.data_model.specs.Refusal.{said, said_by, answered, ordering_says, recency_says};
 
-use crate::above::{Above, least_above};
-use crate::answer::{
-    Answer, Compared, EntriesCompared, ILLEGAL_PATH, Ordering, Recency, yes_or_no,
-};
+use crate::above::least_above;
+use crate::answer::{Recency, Refusal};
 use crate::area::Area;
 use crate::checked;
 use crate::entry::Entry;
 use crate::parameters::Subspace;
 use crate::path::{Path, both_legal};
-use crate::range::PathRange;
+use crate::range::Range;
 use crate::range_3d::Range3d;
+use std::cmp::Ordering;
 
 impl Path {
     // How two paths compare: component by component, each by its bytes; refused if one is illegal.
-    pub fn cmp(self, other: Path) -> Compared
-        ensures { compared_says result ≡ answered (legal field self && legal field other) (by_components (components self) (components other)) }
+    pub fn cmp(self, other: Path) -> Result<Ordering, Refusal>
+        ensures { said_by ordering_says result ≡ answered (legal field self && legal field other) (by_components (components self) (components other)) }
     {
         if !both_legal(self, other) {
-            return Compared::Refused(ILLEGAL_PATH);
+            return Err(Refusal::IllegalPath);
         }
-        let o = checked::cmp(self, other);
-        match o {
-            Ordering::Less => Compared::Less,
-            Ordering::Equal => Compared::Equal,
-            Ordering::Greater => Compared::Greater,
-        }
+        Ok(checked::cmp(self, other))
     }
 
     // Whether two paths have the same components; refused if one is illegal.
-    pub fn eq(self, other: Path) -> Answer
-        ensures { answer_says result ≡ answered (legal field self && legal field other) (same_path (components self) (components other)) }
+    pub fn eq(self, other: Path) -> Result<bool, Refusal>
+        ensures { said result ≡ answered (legal field self && legal field other) (same_path (components self) (components other)) }
     {
         if !both_legal(self, other) {
-            return Answer::Refused(ILLEGAL_PATH);
+            return Err(Refusal::IllegalPath);
         }
-        yes_or_no(checked::eq(self, other))
+        Ok(checked::eq(self, other))
     }
 
     // Whether this path's components are the first of the other's; refused if one is illegal.
-    pub fn is_prefix_of(self, other: Path) -> Answer
-        ensures { answer_says result ≡ answered (legal field self && legal field other) (is_prefix (components self) (components other)) }
+    pub fn is_prefix_of(self, other: Path) -> Result<bool, Refusal>
+        ensures { said result ≡ answered (legal field self && legal field other) (is_prefix (components self) (components other)) }
     {
         if !both_legal(self, other) {
-            return Answer::Refused(ILLEGAL_PATH);
+            return Err(Refusal::IllegalPath);
         }
-        yes_or_no(checked::is_prefix_of(self, other))
+        Ok(checked::is_prefix_of(self, other))
     }
 
     // Whether the other path's components are the first of this one's; refused if one is illegal.
-    pub fn is_prefixed_by(self, other: Path) -> Answer
-        ensures { answer_says result ≡ answered (legal field other && legal field self) (is_prefix (components other) (components self)) }
+    pub fn is_prefixed_by(self, other: Path) -> Result<bool, Refusal>
+        ensures { said result ≡ answered (legal field other && legal field self) (is_prefix (components other) (components self)) }
     {
         other.is_prefix_of(self)
     }
 
     // The least legal path above this one that this one does not prefix; refused if this one is illegal.
-    pub fn greater_but_not_prefixed(self) -> Above
-        ensures { result ≡ above_answer field self }
+    #[tactic(auto, unfolding(crate::specs::Above::above_answer))]
+    pub fn greater_but_not_prefixed(self) -> Result<Option<Path>, Refusal>
+        ensures { said result ≡ above_answer field self }
     {
-        if self.is_legal() {
-            return least_above(self);
+        if !self.is_legal() {
+            return Err(Refusal::IllegalPath);
         }
-        let path = Path::new_empty();
-        Above {
-            refusal: ILLEGAL_PATH,
-            found: false,
-            path,
-        }
+        Ok(least_above(self))
     }
 }
 
 impl Entry {
     // Whether this entry is newer than the other, older or the same: by timestamp, then digest as bytes, then payload length; refused if a path is illegal.
-    pub fn compare(self, other: Entry) -> EntriesCompared
-        ensures { entries_compared_says result ≡ answered (legal field self.path && legal field other.path) (by_rank (rank_of self) (rank_of other)) }
+    pub fn compare(self, other: Entry) -> Result<Recency, Refusal>
+        ensures { said_by recency_says result ≡ answered (legal field self.path && legal field other.path) (by_rank (rank_of self) (rank_of other)) }
     {
-        let p = self.path;
-        let q = other.path;
-        if !both_legal(p, q) {
-            return EntriesCompared::Refused(ILLEGAL_PATH);
+        if !both_legal(self.path, other.path) {
+            return Err(Refusal::IllegalPath);
         }
-        let rank = self.rank();
-        let r = rank.compare(other.rank());
-        match r {
-            Recency::Newer => EntriesCompared::Newer,
-            Recency::Older => EntriesCompared::Older,
-            Recency::Same => EntriesCompared::Same,
-        }
+        Ok(self.rank().compare(other.rank()))
     }
 
     // Whether this entry prunes the other: of one namespace and subspace, its path the other's or a prefix of it, and newer; refused if a path is illegal.
-    pub fn prunes(self, other: Entry) -> Answer
-        ensures { answer_says result ≡ answered (legal field self.path && legal field other.path) (prunes (entry_of self) (entry_of other)) }
+    pub fn prunes(self, other: Entry) -> Result<bool, Refusal>
+        ensures { said result ≡ answered (legal field self.path && legal field other.path) (prunes (entry_of self) (entry_of other)) }
     {
-        let p = self.path;
-        let q = other.path;
-        if !both_legal(p, q) {
-            return Answer::Refused(ILLEGAL_PATH);
+        if !both_legal(self.path, other.path) {
+            return Err(Refusal::IllegalPath);
         }
-        yes_or_no(checked::prunes(self, other))
+        Ok(checked::prunes(self, other))
     }
 
     // Whether the other entry prunes this one; refused if a path is illegal.
-    pub fn is_pruned_by(self, other: Entry) -> Answer
-        ensures { answer_says result ≡ answered (legal field other.path && legal field self.path) (prunes (entry_of other) (entry_of self)) }
+    pub fn is_pruned_by(self, other: Entry) -> Result<bool, Refusal>
+        ensures { said result ≡ answered (legal field other.path && legal field self.path) (prunes (entry_of other) (entry_of self)) }
     {
         other.prunes(self)
     }
 }
 
-impl PathRange {
+impl Range<Path> {
     // Whether the range holds the path: not below the start, and below the end where there is one; refused if a path that is looked at is illegal.
-    pub fn includes(self, value: Path) -> Answer
-        ensures { answer_says result ≡ answered (legal_range field self && legal field value) (paths_include self (components value)) }
+    pub fn includes(self, value: Path) -> Result<bool, Refusal>
+        ensures { said result ≡ answered (legal_range field self && legal field value) (paths_include self (components value)) }
     {
         if !self.is_legal_with(value) {
-            return Answer::Refused(ILLEGAL_PATH);
+            return Err(Refusal::IllegalPath);
         }
-        yes_or_no(checked::range_includes_path(self, value))
+        Ok(checked::range_includes_path(self, value))
     }
 }
 
 impl Range3d {
     // Whether the range holds an entry of this subspace, path and timestamp; refused if a path that is looked at is illegal.
-    pub fn includes_triplet(self, subspace: Subspace, path: Path, timestamp: u64) -> Answer
-        ensures { answer_says result ≡ answered (legal_range field self.paths && legal field path) (range_includes self subspace (components path) timestamp) }
+    pub fn includes_triplet(
+        self,
+        subspace: Subspace,
+        path: Path,
+        timestamp: u64,
+    ) -> Result<bool, Refusal>
+        ensures { said result ≡ answered (legal_range field self.paths && legal field path) (range_includes self subspace (components path) timestamp) }
     {
-        let paths = self.paths;
-        if !paths.is_legal_with(path) {
-            return Answer::Refused(ILLEGAL_PATH);
+        if !self.paths.is_legal_with(path) {
+            return Err(Refusal::IllegalPath);
         }
-        yes_or_no(checked::range_includes(self, subspace, path, timestamp))
+        Ok(checked::range_includes(self, subspace, path, timestamp))
     }
 }
 
 impl Area {
     // Whether the area holds an entry of this subspace, path and timestamp; refused if a path is illegal.
-    pub fn includes_triplet(self, subspace: Subspace, path: Path, timestamp: u64) -> Answer
-        ensures { answer_says result ≡ answered (legal field self.path && legal field path) (area_includes self subspace (components path) timestamp) }
+    pub fn includes_triplet(
+        self,
+        subspace: Subspace,
+        path: Path,
+        timestamp: u64,
+    ) -> Result<bool, Refusal>
+        ensures { said result ≡ answered (legal field self.path && legal field path) (area_includes self subspace (components path) timestamp) }
     {
-        let own = self.path;
-        if !both_legal(own, path) {
-            return Answer::Refused(ILLEGAL_PATH);
+        if !both_legal(self.path, path) {
+            return Err(Refusal::IllegalPath);
         }
-        yes_or_no(checked::area_includes(self, subspace, path, timestamp))
+        Ok(checked::area_includes(self, subspace, path, timestamp))
     }
 }

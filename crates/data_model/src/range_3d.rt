@@ -4,13 +4,13 @@ ghost use Rattle.data_model.specs.Area.{empty_range};
 
 use crate::parameters::Subspace;
 use crate::path::Path;
-use crate::range::{PathRange, RangeEnd, SubspaceEnd, SubspaceRange, TimesRange};
+use crate::range::{Range, RangeEnd};
 
 #[derive(Clone, Copy)]
 pub struct Range3d {
-    pub subspaces: SubspaceRange,
-    pub paths: PathRange,
-    pub times: TimesRange,
+    pub subspaces: Range<Subspace>,
+    pub paths: Range<Path>,
+    pub times: Range<u64>,
 }
 
 impl Range3d {
@@ -18,20 +18,17 @@ impl Range3d {
     pub fn empty() -> Range3d
         ensures { result ≡ empty_range }
     {
-        let start = Path::new_empty();
-        let end = Path::new_empty();
         let zero = Subspace { high: 0, low: 0 };
         Range3d {
-            subspaces: SubspaceRange {
+            subspaces: Range {
                 start: zero,
-                end: SubspaceEnd::Closed(zero),
+                end: RangeEnd::Closed(zero),
             },
-            paths: PathRange {
-                start,
-                end,
-                open: false,
+            paths: Range {
+                start: Path::new_empty(),
+                end: RangeEnd::Closed(Path::new_empty()),
             },
-            times: TimesRange {
+            times: Range {
                 start: 0,
                 end: RangeEnd::Closed(0),
             },

@@ -13,7 +13,7 @@ use Rattle.data_model.specs.Path.{Figures, Components, components, legal, is_pat
 use Rattle.data_model.specs.Above.{above}
 use Rattle.key_laws.specs.Least.{end_of}
 use Rattle.data_model.specs.Subspace.{first_subspace, by_subspace}
-use Rattle.data_model.specs.Range.{includes, before_end, subspaces_end, paths_end, subspaces_include, paths_include, times_include}
+use Rattle.data_model.specs.Range.{includes, before_end, end_says, paths_end, subspaces_include, paths_include, times_include}
 use Rattle.data_model.specs.Range3d.{range_includes}
 use Rattle.data_model.specs.Area.{area_subspace, area_includes, subspaces_of, paths_up_to, area_range}
 use Rattle.data_model.specs.declared.path.Path.{Path}
@@ -33,7 +33,7 @@ AreaWords (Id a) = Words a
 
 area-subspaces : (a : AreaSubspace) (s : Subspace) → AreaWords a → Words s → area_subspace a s ≡ subspaces_include (subspaces_of a) s
 unfolding area_subspace subspaces_of subspaces_include
-area-subspaces Any s v w = sym (unfold includes before_end subspaces_end in rw (refute (is_less (by_subspace s first_subspace)) λ e.
+area-subspaces Any s v w = sym (unfold includes before_end end_says in rw (refute (is_less (by_subspace s first_subspace)) λ e.
     less-cases s first_subspace (is-less (by_subspace s first_subspace) e) (omega arith) (omega arith)))
 area-subspaces (Id a) s v w = next-splits a s v w
 

@@ -3,7 +3,7 @@
 use Prim.Native.Nat.{ℕ, zero, suc, ◌+◌, ◌-◌, ◌≤◌}
 use mathlib.Core.Path.{◌≡◌, refl, sym, ap, ap₂, ◌∙◌}
 use mathlib.Core.List.{List, [], ◌∷◌, ◌++◌}
-use mathlib.Core.Bool.{Bool, true, false, cond, ◌&&◌}
+use mathlib.Core.Bool.{Bool, true, false, ◌&&◌}
 use native.Mathlib.Omega.{arith}
 use lib.Dec.{leb}
 use lib.ListN.{length, take, drop, replicate}
@@ -12,19 +12,21 @@ use borrow.Author.Tests.{leb-true}
 use Rattle.laws.proofs.Truth.{and-true}
 use Rattle.data_model.specs.Path.{Figures, field, capacity, Components, cut, components, joined, ends_from, by_components, legal_ends, legal, last_end, value_of, path_of}
 use Rattle.data_model.specs.Entry.{entry_of, rank_of}
-use Rattle.data_model.specs.Range.{End, closed, open_end, paths_end, paths_include, legal_range, includes}
+use Rattle.data_model.specs.Range.{End, closed, paths_end, paths_include, legal_end, legal_range, includes}
 use Rattle.data_model.specs.Range3d.{range_includes}
 use Rattle.data_model.specs.Area.{area_includes, area_range}
 use Rattle.data_model.specs.declared.path.Path.{Path}
 use Rattle.data_model.specs.declared.parameters.Subspace.{Subspace}
 use Rattle.data_model.specs.declared.entry.Entry.{Entry as EntryValue}
-use Rattle.data_model.specs.declared.range.PathRange.{PathRange}
+use Rattle.data_model.specs.declared.range.Range.{Range}
+use Rattle.data_model.specs.declared.range.RangeEnd.{RangeEnd}
+use Rattle.data_model.specs.declared.range.RangeEnd.TheVariants.{Closed, Open}
 use Rattle.data_model.specs.declared.range_3d.Range3d.{Range3d}
 use Rattle.data_model.specs.declared.area.Area.{Area}
 use Rattle.data_model.proofs.Values.{legal-count, legal-these, ends-length, components-length, last_within}
 use Rattle.data_model.proofs.Raise.{cut-joins, cut-ends}
 use Rattle.key_laws.specs.WrittenKeys.{PathIsValue}
-use Rattle.key_laws.specs.Agree.{total, PathsAgree, EntriesAgree, AreasAgree, PathRangesAgree, RangesAgree}
+use Rattle.key_laws.specs.Agree.{total, PathsAgree, EntriesAgree, AreasAgree, EndsAgree, PathRangesAgree, RangesAgree}
 
 take-drop-take : (m i n : ℕ) (l : List ℕ) → i + m ≤ n → take m (drop i (take n l)) ≡ take m (drop i l)
 take-drop-take m zero n l h = take-take m n l (omega arith)
@@ -92,26 +94,29 @@ module _ (f : Figures) (a b : Area) (h : AreasAgree a b) (l : legal f a.path ≡
   unfolding area_range
   behind-area-range = rw (h.subspace, behind-area-path, h.times)
 
-module _ (f : Figures) (a b : PathRange) (h : PathRangesAgree a b) where
+module _ (f : Figures) (a b : Range Path) (h : PathRangesAgree a b) where
   pub behind-legal-range : legal_range f a ≡ legal_range f b
-  unfolding legal_range
-  behind-legal-range = ap₂ ◌&&◌ (behind-legal f a.start b.start h.start) (ends a.«open» refl ∙ ap (λ (o : Bool). cond o true (legal f b.end)) h.opens)
+  unfolding legal_range legal_end
+  behind-legal-range = ap₂ ◌&&◌ (behind-legal f a.start b.start h.start) (ends a.end b.end h.end)
     where
-      ends : (o : Bool) → a.«open» ≡ o → cond o true (legal f a.end) ≡ cond o true (legal f b.end)
-      ends true e = refl
-      ends false e = behind-legal f a.end b.end (h.end e)
+      ends : (x y : RangeEnd Path) → EndsAgree x y → legal_end f x ≡ legal_end f y
+      ends (Closed p) (Closed q) e = behind-legal f p q e
+      ends (Closed p) Open e = absurd e
+      ends Open (Closed q) e = absurd e
+      ends Open Open e = refl
 
   pub behind-paths : legal_range f a ≡ true → (p : Components) → paths_include a p ≡ paths_include b p
-  unfolding paths_include paths_end legal_range
+  unfolding paths_include paths_end legal_range legal_end
   behind-paths l p =
-      let k = and-true (legal f a.start) (cond a.«open» true (legal f a.end)) l in
+      let k = and-true (legal f a.start) (legal_end f a.end) l in
       let s = behind-components f a.start b.start h.start k.0 in
-      let e = ends a.«open» refl k.1 in
-      ap₂ (λ (x : Components) (y : End Components). includes by_components x y p) s (e ∙ ap (λ (o : Bool). cond o open_end (closed (components b.end))) h.opens)
+      ap₂ (λ (x : Components) (y : End Components). includes by_components x y p) s (ends a.end b.end h.end k.1)
     where
-      ends : (o : Bool) → a.«open» ≡ o → cond o true (legal f a.end) ≡ true → cond o open_end (closed (components a.end)) ≡ cond o open_end (closed (components b.end))
-      ends true e l = refl
-      ends false e l = ap closed (behind-components f a.end b.end (h.end e) l)
+      ends : (x y : RangeEnd Path) → EndsAgree x y → legal_end f x ≡ true → paths_end x ≡ paths_end y
+      ends (Closed p) (Closed q) e l = ap closed (behind-components f p q e l)
+      ends (Closed p) Open e l = absurd e
+      ends Open (Closed q) e l = absurd e
+      ends Open Open e l = refl
 
 pub behind-range : (f : Figures) (a b : Range3d) → RangesAgree a b → legal_range f a.paths ≡ true → (s : Subspace) (p : Components) (t : ℕ) → range_includes a s p t ≡ range_includes b s p t
 unfolding range_includes

@@ -48,15 +48,14 @@ newer-neither a b = (λ h. newer-total a b h.0 h.1, λ q. (newer-tied a b q, new
 
 -- What each case of the comparison of two entries says: the first is newer; the second is; they agree in timestamp, digest and length.
 pub compared-newer : (a b : Entry) → (by_rank a.rank b.rank ≡ recency_says recency.Newer) ↔ (newer a b ≡ true)
-unfolding recency_says newer is_greater
+unfolding newer is_greater
 compared-newer a b = (λ e. rw e refl, λ e. is_greater_lem _ e)
 
 pub compared-older : (a b : Entry) → (by_rank a.rank b.rank ≡ recency_says recency.Older) ↔ (newer b a ≡ true)
-unfolding recency_says below is_less
+unfolding below is_less
 compared-older a b = (λ e. newer-below b a ∙ rw e refl, λ e. is-less _ (sym (newer-below b a) ∙ e))
 
 pub compared_same : (a b : Entry) → (by_rank a.rank b.rank ≡ recency_says recency.Same) ↔ (a.rank ≡ b.rank)
-unfolding recency_says
 compared_same a b = (λ e. rank-linear.equal a.rank b.rank e, λ q. ap (by_rank a.rank) (sym q) ∙ rank-linear.self a.rank)
 
 -- The first is at least as new as the second, which is newer than the third.

@@ -7,13 +7,13 @@ use Rattle.data_model.specs.Path.{cut, components, legal_ends, legal, joined, en
 use Rattle.data_model.specs.Above.{or_else, raised_byte, raised_bytes, raised, above_in, above}
 use Rattle.keys.specs.Encode.{escaped, component_key, path_key}
 use Rattle.keys.specs.Decode.{mark, token_of, ends_path, more, bind, by_token, read_component, read_components, read_path, number_from, number, subspace_at, whole, read_spt, read_tsp, decoded, next_component, component_read}
-use Rattle.data_model.specs.Range.{includes, before_end, times_end, times_include}
+use Rattle.data_model.specs.Range.{includes, before_end, end_says, times_include}
 use Rattle.data_model.specs.Area.{paths_up_to, area_range}
 use Rattle.key_laws.specs.Examples.{Examples}
 use Rattle.key_laws.proofs.EntryLaws.{newer-neither}
 
 pub examples : Examples
-unfolding by_number by_elements is_less same_number same_list prefix_of cut components legal_ends legal joined ends_from value_of path_of or_else raised_byte raised_bytes raised above_in above escaped component_key path_key includes before_end times_end times_include paths_up_to area_range mark token_of ends_path more bind by_token read_component read_components read_path number_from number subspace_at whole read_spt read_tsp decoded next_component component_read
+unfolding by_number by_elements is_less same_number same_list prefix_of cut components legal_ends legal joined ends_from value_of path_of or_else raised_byte raised_bytes raised above_in above escaped component_key path_key includes before_end end_says times_include paths_up_to area_range mark token_of ends_path more bind by_token read_component read_components read_path number_from number subspace_at whole read_spt read_tsp decoded next_component component_read
 examples = record {
   empty-path = refl;
   empty_component = refl;

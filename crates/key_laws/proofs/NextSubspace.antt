@@ -12,7 +12,7 @@ use Rattle.laws.specs.Order.{less, same, by_number}
 use Rattle.laws.proofs.Truth.{split}
 use Rattle.laws.proofs.Order.{less-same, then-less-view, then_less, then_same, number-is-less, number-is-same, number-less, number_same}
 use Rattle.data_model.specs.Subspace.{same_subspace, by_subspace, next_subspace}
-use Rattle.data_model.specs.Range.{includes, subspaces_end}
+use Rattle.data_model.specs.Range.{includes, end_says}
 use Rattle.key_laws.specs.Least.{First, Least, end_of}
 use Rattle.data_model.specs.declared.parameters.Subspace.{Subspace}
 use Rattle.data_model.proofs.Orders.{subspace-linear, subspace-equality}
@@ -76,11 +76,11 @@ next-least a v = split (ltb a.low (2 ^ 64 - 1))
     let n : 2 ^ 64 - 1 ≤ a.high = ltb-false a.high (2 ^ 64 - 1) f in
     rw (e, f) λ x h. less-cases a x h.1 (omega arith) (omega arith)))
 
-next-end : (a : Subspace) → subspaces_end (next_subspace a) ≡ end_of (next a)
-unfolding subspaces_end next_subspace next
+next-end : (a : Subspace) → end_says (next_subspace a) ≡ end_of (next a)
+unfolding end_says next_subspace next
 next-end a = split (ltb a.low (2 ^ 64 - 1)) (λ e. rw e) (λ e. split (ltb a.high (2 ^ 64 - 1)) (λ f. rw (e, f)) (λ f. rw (e, f)))
 
-pub next-splits : (a x : Subspace) → Words a → Words x → same_subspace a x ≡ includes by_subspace a (subspaces_end (next_subspace a)) x
+pub next-splits : (a x : Subspace) → Words a → Words x → same_subspace a x ≡ includes by_subspace a (end_says (next_subspace a)) x
 next-splits a x v w =
     rw next-end
     (least-includes by_subspace subspace-linear a x (Later a) (same_subspace a x)

@@ -15,9 +15,7 @@ use Rattle.data_model.specs.declared.path.Path.{Path}
 use Rattle.data_model.specs.declared.parameters.Subspace.{Subspace}
 use Rattle.keys.specs.Encode.{Triple, triple, path_key, spt_key, tsp_key, key_most, roomy, encoded, encoded_in}
 use Rattle.keys.specs.Decode.{Taken, refused, took, read_path, read_spt, read_tsp, was_read, decoded, path_read}
-use Rattle.data_model.specs.Said.{says}
-use Rattle.keys.specs.declared.decode.Decoded.{Decoded}
-use Rattle.keys.specs.declared.decode.PathRead.{PathRead}
+use Rattle.data_model.specs.Said.{says, number_of}
 use Rattle.key_laws.specs.Bytes.{Bytes}
 use Rattle.key_laws.specs.KeyOrder.{Sized}
 use Rattle.key_laws.specs.WrittenKeys.{Writes, Decodes, Begins, DecodesPath, OnlyWritten}
@@ -51,7 +49,7 @@ module _ (key : Triple → List ℕ) (read : List ℕ → Taken Triple)
     (read_back : (t : Triple) → is_path field t.path ≡ true → Sized t → read (key t) ≡ took t (length (key t)))
     (read-forth : (k : List ℕ) → Bytes k → (t : Triple) (n : ℕ) → read k ≡ took t n → (key t ≡ k) × (is_path field t.path ≡ true) × Sized t)
     (k : List ℕ) (bytes : Bytes k) where
-  back : (s : Subspace) (p : Path) (t : ℕ) → Writes key s p t k → decoded (read k) ≡ record { refusal = 0; subspace = s; path = path_of (components p); timestamp = t }
+  back : (s : Subspace) (p : Path) (t : ℕ) → Writes key s p t k → decoded (read k) ≡ says (record { subspace = s; path = path_of (components p); timestamp = t })
   unfolding decoded
   back s p t w =
       let o = wrote _ _ _ k w.buffer w.answers w.begins in
@@ -73,24 +71,24 @@ module _ (key : Triple → List ℕ) (read : List ℕ → Taken Triple)
       }
 
   pub decodes : Decodes key k (decoded (read k))
-  unfolding decoded
+  unfolding decoded number_of
   decodes = go (read k) refl
     where
       go : (r : Taken Triple) → read k ≡ r → Decodes key k (decoded r)
       go refused e = record {
-        refuses = (λ z s p t w. absurd (let x : ◌≡◌ {A = ℕ} 5 0 = ap (λ (d : Decoded). d.refusal) (ap decoded (sym e) ∙ back s p t w) in omega arith), λ n. refl);
+        refuses = (λ z s p t w. absurd (let x : ◌≡◌ {A = ℕ} 5 0 = ap number_of (ap decoded (sym e) ∙ back s p t w) in omega arith), λ n. refl);
         takes = λ n. absurd (n refl);
         back = λ s p t w. ap decoded (sym e) ∙ back s p t w;
       }
       go (took t n) e = record {
         refuses = (λ z. absurd (let x : ◌≡◌ {A = ℕ} 0 5 = z in omega arith), λ none. absurd (none t.subspace (path_of t.path) t.timestamp (taken t n e)));
-        takes = λ z. (refl, taken t n e);
+        takes = λ z. (refl, record { values = record { subspace = t.subspace; path = path_of t.path; timestamp = t.timestamp }; answers = refl; written = taken t n e });
         back = λ s p t w. ap decoded (sym e) ∙ back s p t w;
       }
 
 -- The same of a path at the front of some bytes.
 module _ (at : ℕ) (k : List ℕ) (bytes : Bytes k) where
-  path-back-at : (p : Path) → Begins p k → path_read at (read_path field k) ≡ record { refusal = 0; path = path_of (components p); next = at + length (path_key (components p)) }
+  path-back-at : (p : Path) → Begins p k → path_read at (read_path field k) ≡ says (record { path = path_of (components p); next = at + length (path_key (components p)) })
   unfolding path_read
   path-back-at p b =
       let key = path_key (components p) in
@@ -109,23 +107,23 @@ module _ (at : ℕ) (k : List ℕ) (bytes : Bytes k) where
       }
 
   decodes-path : DecodesPath at k (path_read at (read_path field k))
-  unfolding path_read
+  unfolding path_read number_of
   decodes-path = go (read_path field k) refl
     where
       go : (r : Taken Components) → read_path field k ≡ r → DecodesPath at k (path_read at r)
       go refused e = record {
-        refuses = (λ z p b. absurd (let x : ◌≡◌ {A = ℕ} 5 0 = ap (λ (d : PathRead). d.refusal) (ap (path_read at) (sym e) ∙ path-back-at p b) in omega arith), λ n. refl);
+        refuses = (λ z p b. absurd (let x : ◌≡◌ {A = ℕ} 5 0 = ap number_of (ap (path_read at) (sym e) ∙ path-back-at p b) in omega arith), λ n. refl);
         takes = λ n. absurd (n refl);
         back = λ p b. ap (path_read at) (sym e) ∙ path-back-at p b;
       }
       go (took cs u) e = record {
         refuses = (λ z. absurd (let x : ◌≡◌ {A = ℕ} 0 5 = z in omega arith), λ none. absurd (none (path_of cs) (path-taken cs u e)));
-        takes = λ z. (refl, path-taken cs u e);
+        takes = λ z. (refl, record { values = record { path = path_of cs; next = at + u }; answers = refl; written = path-taken cs u e });
         back = λ p b. ap (path_read at) (sym e) ∙ path-back-at p b;
       }
 
-unread : (r : Taken Triple) → (was_read r ≡ false) ↔ ((decoded r).refusal ≡ 5)
-unfolding was_read decoded
+unread : (r : Taken Triple) → (was_read r ≡ false) ↔ (number_of (decoded r) ≡ 5)
+unfolding was_read decoded number_of
 unread refused = (λ z. refl, λ z. refl)
 unread (took t n) = (λ z. clash refl z, λ z. absurd (let x : ◌≡◌ {A = ℕ} 0 5 = z in omega arith))
 

@@ -1,10 +1,12 @@
--- Values that differ at most in what is never looked at: bytes past a path's total, ends past its count, the path of an open end, an absent protected area.
+-- Values that differ at most in what is never looked at: bytes past a path's total, ends past its count, an absent protected area.
 -- That no call answers them differently is the theorem `unseen` of call_laws.
 use Rattle.std.specs.Prelude.{ℕ, ◌≡◌, Bool, true, false, take}
 use Rattle.data_model.specs.Path.{last_end}
 use Rattle.data_model.specs.declared.path.Path.{Path}
 use Rattle.data_model.specs.declared.entry.Entry.{Entry}
-use Rattle.data_model.specs.declared.range.PathRange.{PathRange}
+use Rattle.data_model.specs.declared.range.Range.{Range}
+use Rattle.data_model.specs.declared.range.RangeEnd.{RangeEnd}
+use Rattle.data_model.specs.declared.range.RangeEnd.TheVariants.{Closed, Open}
 use Rattle.data_model.specs.declared.range_3d.Range3d.{Range3d}
 use Rattle.data_model.specs.declared.area.Area.{Area}
 use Rattle.data_model.specs.declared.area_of_interest.AreaOfInterest.{AreaOfInterest}
@@ -33,11 +35,16 @@ pub record AreasAgree (a b : Area) : Type 0 where
   pub path : PathsAgree a.path b.path
   pub times : a.times ≡ b.times
 
--- Open ends may hold any two paths.
-pub record PathRangesAgree (a b : PathRange) : Type 0 where
+-- Two ends agree if both are open, or both are closed and their paths agree.
+abbrev pub EndsAgree : RangeEnd Path → RangeEnd Path → Type 0
+EndsAgree (Closed p) (Closed q) = PathsAgree p q
+EndsAgree (Closed p) Open = ⊥
+EndsAgree Open (Closed q) = ⊥
+EndsAgree Open Open = Unit
+
+pub record PathRangesAgree (a b : Range Path) : Type 0 where
   pub start : PathsAgree a.start b.start
-  pub opens : a.«open» ≡ b.«open»
-  pub end : a.«open» ≡ false → PathsAgree a.end b.end
+  pub end : EndsAgree a.end b.end
 
 pub record RangesAgree (a b : Range3d) : Type 0 where
   pub subspaces : a.subspaces ≡ b.subspaces

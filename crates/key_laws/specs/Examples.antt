@@ -4,16 +4,15 @@ use Rattle.laws.specs.Order.{less}
 use Rattle.data_model.specs.Path.{field, capacity, Components, legal, path_of, by_components, is_prefix}
 use Rattle.keys.specs.Encode.{path_key}
 use Rattle.keys.specs.Decode.{StepRead, component, end_of_path, component_read, read_spt, read_tsp, decoded}
-use Rattle.keys.specs.declared.decode.Decoded.{Decoded}
-use Rattle.data_model.specs.Said.{refuses, says}
+use Rattle.keys.specs.declared.decode.EntryKey.{EntryKey}
+use Rattle.data_model.specs.Said.{Said, refuses, says}
 use Rattle.data_model.specs.Subspace.{first_subspace}
 use Rattle.data_model.specs.Entry.{Entry, newer}
 use Rattle.data_model.specs.Range.{times_include}
 use Rattle.data_model.specs.Area.{area_range}
 use Rattle.data_model.specs.declared.path.Path.{Path}
-use Rattle.data_model.specs.declared.range.RangeEnd.TheVariants as times
-use Rattle.data_model.specs.declared.range.TimesRange.{TimesRange}
-use Rattle.data_model.specs.declared.range.PathRange.{PathRange}
+use Rattle.data_model.specs.declared.range.RangeEnd.TheVariants.{Closed, Open}
+use Rattle.data_model.specs.declared.range.Range.{Range}
 use Rattle.data_model.specs.declared.area.AreaSubspace.{AreaSubspace}
 
 -- A path value with so many components that end there, all its bytes 61.
@@ -25,8 +24,8 @@ abbrev pub ◌≺◌ : Components → Components → Type 0
 p ≺ q = by_components p q ≡ less
 
 -- The range of paths of an area at a path, whatever its subspace and times.
-abbrev pub AreaPaths : Components → PathRange → Type 0
-AreaPaths p r = (s : AreaSubspace) (t : TimesRange) → (area_range field (record { subspace = s; path = path_of p; times = t })).paths ≡ r
+abbrev pub AreaPaths : Components → Range Path → Type 0
+AreaPaths p r = (s : AreaSubspace) (t : Range ℕ) → (area_range field (record { subspace = s; path = path_of p; times = t })).paths ≡ r
 
 abbrev pub [61] : Components
 [61] = (0x61 ∷ []) ∷ []
@@ -35,12 +34,12 @@ abbrev pub [6100] : Components
 [6100] = (0x61 ∷ 0x00 ∷ []) ∷ []
 
 -- What a decoder answers to the key of the first subspace, a path and timestamp 0.
-abbrev pub decoded_to : Components → Decoded
-decoded_to p = record { refusal = 0; subspace = first_subspace; path = path_of p; timestamp = 0 }
+abbrev pub decoded_to : Components → Said EntryKey
+decoded_to p = says (record { subspace = first_subspace; path = path_of p; timestamp = 0 })
 
--- What a decoder answers to bytes that are no key: 5, and all else 0.
-abbrev pub not_decoded : Decoded
-not_decoded = record { refusal = 5; subspace = first_subspace; path = path_of []; timestamp = 0 }
+-- What a decoder answers to bytes that are no key: 5, and nothing else.
+abbrev pub not_decoded : Said EntryKey
+not_decoded = refuses 5
 
 -- What the reader of components answers at position 0 where a component stands: its length, the position behind it, its bytes.
 abbrev pub read_to : List ℕ → ℕ → StepRead
@@ -56,7 +55,7 @@ not_read = record { next = refuses 5; bytes = replicate capacity.mcl 0 }
 
 -- What is answered where a path's bytes stand behind 16 bytes 00 of subspace and before the bytes of a timestamp; behind 24 bytes 00 of timestamp and
 -- subspace; and alone, by the reader of components.
-abbrev pub Reads : (path_bytes time_bytes : List ℕ) → Decoded → StepRead → Type 0
+abbrev pub Reads : (path_bytes time_bytes : List ℕ) → Said EntryKey → StepRead → Type 0
 Reads path_bytes time_bytes answer step =
     (decoded (read_spt field (replicate 16 0 ++ (path_bytes ++ time_bytes))) ≡ answer) × (decoded (read_tsp field (replicate 24 0 ++ path_bytes)) ≡ answer)
     × (component_read field 0 path_bytes ≡ step)
@@ -73,13 +72,13 @@ pub record Examples : Type 0 where
   pub prefix_by_component : (is_prefix [61] ((0x61 ∷ []) ∷ (0x62 ∷ []) ∷ []) ≡ true) × (is_prefix [61] ((0x61 ∷ 0x62 ∷ []) ∷ []) ≡ false)
   pub tie_not_newer : (a b : Entry) → a.rank.timestamp ≡ b.rank.timestamp → a.rank.payload_digest ≡ b.rank.payload_digest
       → a.rank.payload_length ≡ b.rank.payload_length → (newer a b ≡ false) × (newer b a ≡ false)
-  pub closed_times : (times_include (record { start = 5; end = times.Closed 10 }) 9 ≡ true) × (times_include (record { start = 5; end = times.Closed 10 }) 10 ≡ false)
-  pub open_times : times_include (record { start = 0; end = times.Open }) (2 ^ 64 - 1) ≡ true
+  pub closed_times : (times_include (record { start = 5; end = Closed 10 }) 9 ≡ true) × (times_include (record { start = 5; end = Closed 10 }) 10 ≡ false)
+  pub open_times : times_include (record { start = 0; end = Open }) (2 ^ 64 - 1) ≡ true
   pub component_of_64 : (legal field (value 1 (64 ∷ [])) ≡ true) × (legal field (value 1 (65 ∷ [])) ≡ false)
   pub components_8 : (legal field (value 8 (1 ∷ 2 ∷ 3 ∷ 4 ∷ 5 ∷ 6 ∷ 7 ∷ 8 ∷ [])) ≡ true) × (legal field (value 9 (1 ∷ 2 ∷ 3 ∷ 4 ∷ 5 ∷ 6 ∷ 7 ∷ 8 ∷ [])) ≡ false)
   pub total_128 : (legal field (value 2 (64 ∷ 128 ∷ [])) ≡ true) × (legal field (value 3 (64 ∷ 128 ∷ 129 ∷ [])) ≡ false)
-  pub area_at_61 : AreaPaths [61] (record { start = path_of [61]; end = path_of [6100]; «open» = false })
-  pub area_at_empty : AreaPaths [] (record { start = path_of []; end = path_of []; «open» = true })
+  pub area_at_61 : AreaPaths [61] (record { start = path_of [61]; end = Closed (path_of [6100]) })
+  pub area_at_empty : AreaPaths [] (record { start = path_of []; end = Open })
   pub order_traps : ([61] ≺ (0x61 ∷ []) ∷ [] ∷ []) × ((0x61 ∷ []) ∷ [] ∷ [] ≺ (0x61 ∷ []) ∷ (0xff ∷ []) ∷ [])
       × ((0x61 ∷ []) ∷ (0xff ∷ []) ∷ [] ≺ [6100]) × ([6100] ≺ (0x62 ∷ []) ∷ [])
   -- The cases of the escape table (02, U5), then traps of reading.

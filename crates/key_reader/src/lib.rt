@@ -4,10 +4,12 @@
 ghost use Rattle.std.specs.Prelude.{◌≡◌, min, length, drop};
 ghost use Rattle.laws.specs.Parts.{PartBegins};
 ghost use Rattle.data_model.specs.Path.{field};
+ghost use Rattle.data_model.specs.Refusal.{said};
 ghost use Rattle.keys.specs.Decode.{read_path, component_says, component_read, path_read, read_spt, read_tsp, decoded};
 ghost use Rattle.key_reader.specs.Reader.{behind, stepped_says, stepped};
 
-use keys::decode::{ComponentRead, Decoded, Next, PathRead};
+use data_model::answer::Refusal;
+use keys::decode::{EntryKey, Next, PathRead};
 
 // A key's bytes, and the position of the next byte to read.
 #[derive(Clone, Copy)]
@@ -20,22 +22,7 @@ pub struct KeyReader<'a> {
 fn from_position(bytes: &[u8], at: usize) -> &[u8]
     ensures { (result.now ≡ drop at bytes.now) × PartBegins bytes.entry.ref_ptr result.ref_ptr (min at (length bytes.now)) }
 {
-    if bytes.len() < at {
-        return &bytes[bytes.len()..];
-    }
-    &bytes[at..]
-}
-
-// Where a reader stands that took a component or the path's end; a refusal leaves it.
-fn position_behind(c: ComponentRead, at: usize) -> usize
-    ensures { result ≡ behind (component_says c) at }
-{
-    let next = c.next;
-    match next {
-        Next::Component(_, n) => n,
-        Next::PathEnd(n) => n,
-        Next::Refused(_) => at,
-    }
+    &bytes[at.min(bytes.len())..]
 }
 
 impl<'a> KeyReader<'a> {
@@ -61,33 +48,35 @@ impl<'a> KeyReader<'a> {
     }
 
     // Reads the component at the reader's position, or the path's end, and moves the reader behind it. A refusal leaves the reader where it was.
-    pub fn next_component<'s>(&'s mut self) -> ComponentRead
+    pub fn next_component<'s>(&'s mut self) -> Result<Next, Refusal>
         ensures { (component_says result ≡ component_read field self.old.at (drop self.old.at self.old.bytes.now)) × (self.new.bytes ≡ self.old.bytes) × (self.new.at ≡ behind (component_says result) self.old.at) }
     {
-        let at = self.at;
-        let c = keys::decode::component_bytes(self.bytes, at);
-        let n = position_behind(c, at);
-        self.at = n;
-        c
+        let component = keys::decode::component_bytes(self.bytes, self.at)?;
+        self.at = match component {
+            Next::Component { next, .. } => next,
+            Next::PathEnd(next) => next,
+        };
+        Ok(component)
     }
 
     // Decodes the path that begins at the reader's position. The reader stays where it is.
-    pub fn decode_path(self) -> PathRead
-        ensures { result ≡ path_read self.entry.at (read_path field (drop self.entry.at self.entry.bytes.now)) }
+    pub fn decode_path(self) -> Result<PathRead, Refusal>
+        ensures { said result ≡ path_read self.entry.at (read_path field (drop self.entry.at self.entry.bytes.now)) }
     {
         keys::decode::decode_path(self.bytes, self.at)
     }
 
     // Decodes the bytes from the reader's position to the key's end as a subspace-first key.
-    pub fn decode_spt_entry_key(self) -> Decoded
-        ensures { result ≡ decoded (read_spt field (drop self.entry.at self.entry.bytes.now)) }
+    pub fn decode_spt_entry_key(self) -> Result<EntryKey, Refusal>
+        ensures { said result ≡ decoded (read_spt field (drop self.entry.at self.entry.bytes.now)) }
     {
         keys::decode::decode_spt_entry_key_at(self.bytes, self.at)
     }
 
     // Decodes the bytes from the reader's position to the key's end as a time-first key.
-    pub fn decode_tsp_entry_key(self) -> Decoded
-        ensures { result ≡ decoded (read_tsp field (drop self.entry.at self.entry.bytes.now)) }
+    // Kept (2): the Rust has a decoder for each order; the order as a type is the tree's, above.
+    pub fn decode_tsp_entry_key(self) -> Result<EntryKey, Refusal>
+        ensures { said result ≡ decoded (read_tsp field (drop self.entry.at self.entry.bytes.now)) }
     {
         keys::decode::decode_tsp_entry_key_at(self.bytes, self.at)
     }
@@ -96,7 +85,7 @@ impl<'a> KeyReader<'a> {
 // What one step of a reader gives: the component or the path's end that it read, its position behind it, and how many bytes are left to read.
 #[derive(Clone, Copy)]
 pub struct Stepped {
-    pub component: ComponentRead,
+    pub component: Result<Next, Refusal>,
     pub position: usize,
     pub left: usize,
 }
@@ -107,32 +96,31 @@ pub fn component_at(bytes: &[u8], at: usize) -> Stepped
 {
     let mut r = KeyReader { bytes, at };
     let component = r.next_component();
-    let position = r.position();
-    let left = r.rest().len();
     Stepped {
         component,
-        position,
-        left,
+        position: r.position(),
+        left: r.rest().len(),
     }
 }
 
 // Decodes the path that begins at a position of a key, through a reader.
-pub fn path_at(bytes: &[u8], at: usize) -> PathRead
-    ensures { result ≡ path_read at (read_path field (drop at bytes.now)) }
+pub fn path_at(bytes: &[u8], at: usize) -> Result<PathRead, Refusal>
+    ensures { said result ≡ path_read at (read_path field (drop at bytes.now)) }
 {
     KeyReader { bytes, at }.decode_path()
 }
 
 // Decodes a whole subspace-first key through a reader.
-pub fn read_spt_entry_key(key: &[u8]) -> Decoded
-    ensures { result ≡ decoded (read_spt field key.now) }
+pub fn read_spt_entry_key(key: &[u8]) -> Result<EntryKey, Refusal>
+    ensures { said result ≡ decoded (read_spt field key.now) }
 {
     KeyReader::new(key).decode_spt_entry_key()
 }
 
 // Decodes a whole time-first key through a reader.
-pub fn read_tsp_entry_key(key: &[u8]) -> Decoded
-    ensures { result ≡ decoded (read_tsp field key.now) }
+// Kept (2): the C interface has a name for each order.
+pub fn read_tsp_entry_key(key: &[u8]) -> Result<EntryKey, Refusal>
+    ensures { said result ≡ decoded (read_tsp field key.now) }
 {
     KeyReader::new(key).decode_tsp_entry_key()
 }

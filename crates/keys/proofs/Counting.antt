@@ -1,6 +1,6 @@
 -- Laws of the loops that count bytes: those of a stretch, and those up to the end of a component. Assumes nothing.
 use Prim.Native.Nat.{ℕ, zero, suc, ◌+◌, ◌-◌, ◌≤◌, ◌<◌}
-use mathlib.Core.Path.{◌≡◌, refl, sym, ap, subst, ◌∙◌}
+use mathlib.Core.Path.{◌≡◌, refl, sym, ap, ◌∙◌}
 use mathlib.Core.List.{List}
 use mathlib.Core.Bool.{Bool, true, false, not, ◌&&◌, ◌||◌}
 use native.Mathlib.Omega.{arith}
@@ -11,7 +11,6 @@ use lib.ListN.{get_or}
 use Rattle.laws.proofs.Truth.{split}
 use Rattle.keys.specs.Judge.{bit, paired, sound, others, endings, kept, ended}
 use Rattle.keys.specs.declared.judge.Counts.{Counts}
-use Rattle.keys.specs.declared.judge.Front.{Front}
 
 -- The loop that counts: what is counted so far, with what is left.
 pub record Counting (w at : ℕ) (k : List ℕ) (j : ℕ) (ok : Bool) (n e : ℕ) : Type 0 where
@@ -21,19 +20,6 @@ pub record Counting (w at : ℕ) (k : List ℕ) (j : ℕ) (ok : Bool) (n e : ℕ
   pub sound_left : (ok && sound (w - j) (at + j) k) ≡ sound w at k
   pub others_left : n + others (w - j) (at + j) k ≡ others w at k
   pub ends_left : e + endings (w - j) (at + j) k ≡ endings w at k
-
-pub counting-start : (w at : ℕ) (k : List ℕ) → Counting w at k 0 true 0 0
-counting-start w at k =
-    let z : w - 0 ≡ w = omega arith in
-    let y : at + 0 ≡ at = omega arith in
-    record {
-      upto = omega arith;
-      few_others = omega arith;
-      few_ends = omega arith;
-      sound_left = rw (z, y);
-      others_left = rw (z, y) (omega arith);
-      ends_left = rw (z, y) (omega arith);
-    }
 
 bit-few : (b : Bool) → bit b ≤ 1
 bit-few true = omega arith
@@ -69,14 +55,6 @@ module _ (w at : ℕ) (k : List ℕ) (j : ℕ) (ok : Bool) (n e : ℕ) (h : Coun
         others_left = omega (arith, h.others_left, po);
         ends_left = omega (arith, h.ends_left, qo);
       }
-
-  pub counted : w ≤ j → ◌≡◌ {A = Counts} (record { sound = ok; others = n; ends = e }) (record { sound = sound w at k; others = others w at k; ends = endings w at k })
-  counted g =
-      let z : w - j ≡ 0 = omega (arith, h.upto) in
-      let a : ok ≡ sound w at k = and-end ok ∙ ap (λ (m : ℕ). ok && sound m (at + j) k) (sym z) ∙ h.sound_left in
-      let b : n ≡ others w at k = omega (arith, h.others_left, ap (λ (m : ℕ). others m (at + j) k) z) in
-      let c : e ≡ endings w at k = omega (arith, h.ends_left, ap (λ (m : ℕ). endings m (at + j) k) z) in
-      rw (a, b, c)
 
 pub others-few : (w at : ℕ) (k : List ℕ) → others w at k ≤ w
 others-few zero at k = omega arith
@@ -134,9 +112,6 @@ pub record Fronting (w at : ℕ) (k : List ℕ) (j : ℕ) (ok : Bool) (n : ℕ) 
   pub so_far : ok ≡ sound j at k
   pub many : n ≡ others j at k
 
-pub fronting-start : (w at : ℕ) (k : List ℕ) → Fronting w at k 0 true 0
-fronting-start w at k = record { upto = omega arith; few = omega arith; none = refl; so_far = refl; many = refl }
-
 module _ (w at : ℕ) (k : List ℕ) (j : ℕ) (ok : Bool) (n : ℕ) (h : Fronting w at k j ok n) where
   pub front-other : j < w → (get_or k (at + j) 0 ≡ 0 → ⊥) → Fronting w at k (j + 1) ok (n + 1)
   front-other l z =
@@ -166,14 +141,3 @@ module _ (w at : ℕ) (k : List ℕ) (j : ℕ) (ok : Bool) (n : ℕ) (h : Fronti
         so_far = sym s;
         many = omega (arith, h.many, o);
       })
-
-  pub fronted : (r : Front) → r ≡ record { w = j; counts = record { sound = ok; others = n; ends = 0 } } → (j < w → ended (at + j) k ≡ true)
-      → (r.w ≤ w) × (endings r.w at k ≡ 0) × (r.w < w → ended (at + r.w) k ≡ true) × Counted r.w at k r.counts
-  fronted r e f = subst
-      (λ (x : Front). (x.w ≤ w) × (endings x.w at k ≡ 0) × (x.w < w → ended (at + x.w) k ≡ true) × Counted x.w at k x.counts)
-      (sym e)
-      (h.upto, h.none, f, λ i. record { sound = h.so_far i; others = h.many i; ends = sym h.none i })
-
--- A 00 before a 01 ends a component.
-pub ends-here : (at : ℕ) (k : List ℕ) → get_or k at 0 ≡ 0 → get_or k (at + 1) 0 ≡ 1 → ended at k ≡ true
-ends-here at k z y = rw (eq-eqb (get_or k at 0) 0 z, eq-eqb (get_or k (at + 1) 0) 1 y)

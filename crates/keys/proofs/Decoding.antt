@@ -12,66 +12,68 @@ use Rattle.laws.proofs.Truth.{split}
 use Rattle.laws.proofs.Lists.{put-zeros}
 use Rattle.data_model.specs.Path.{Figures, field, capacity, Component, Components, joined, ends_from, value_of, path_of}
 use Rattle.keys.specs.Encode.{Triple}
-use Rattle.keys.specs.Decode.{Taken, refused, took, bind, token_of, ends_path, read_component, read_path, next_says, component_says, next_component, component_read, path_read, number_from, number, whole, was_read, decoded}
+use Rattle.keys.specs.Decode.{Taken, refused, took, bind, token_of, ends_path, read_component, read_path, component_says, next_component, component_read, path_read, number_from, number, whole, was_read, decoded}
 use Rattle.keys.specs.Inner.{part_of, Filled}
 use Rattle.keys.specs.Judge.{takes, fills}
 use Rattle.data_model.specs.declared.path.Path.{Path}
 use Rattle.data_model.specs.declared.parameters.Subspace.{Subspace}
-use Rattle.keys.specs.declared.decode.Part.TheVariants as part
 use Rattle.keys.specs.declared.decode.Next.TheVariants as next
 use Rattle.keys.specs.declared.decode.PathRead.{PathRead}
-use Rattle.keys.specs.declared.decode.Decoded.{Decoded}
+use Rattle.keys.specs.declared.decode.EntryKey.{EntryKey}
+use Rattle.data_model.specs.declared.answer.Refusal.{Refusal}
+use Rattle.data_model.specs.Said.{Said, refuses, says}
+use Rattle.data_model.specs.Refusal.{no_key, refusal_number}
+use Rattle.std.specs.Prelude.{Ok, Err}
+use Rattle.keys.proofs.Reading.{same-pair}
 use Rattle.keys.proofs.Walking.{PathFit, path-fit, path_empty}
 
 -- The next component: the path's end, a component, or neither.
-next-took : (at : ℕ) (t : Taken Component) (n u : ℕ) (bytes : List ℕ) → part.Took n u ≡ part_of t → Filled (λ c. c) t (replicate capacity.mcl 0) bytes
-    → component_says (record { next = next.Component n (at + u); bytes = bytes }) ≡ next_component at t
-unfolding part_of component_says next_says next_component
+next-took : (at : ℕ) (t : Taken Component) (n u : ℕ) (bytes : List ℕ) → says (n, u) ≡ part_of t → Filled (λ c. c) t (replicate capacity.mcl 0) bytes
+    → component_says (Ok (next.Component bytes n (at + u))) ≡ next_component at t
+unfolding part_of component_says next_component
 next-took at refused n u bytes e b = absurd (let z : ◌≡◌ {A = ℕ} 0 1 = cc in omega arith)
 next-took at (took c v) n u bytes e b =
-    let en : n ≡ length c = cc in
-    let eu : u ≡ v = cc in
+    let p = same-pair n u (length c) v e in
     let pb : bytes ≡ c ++ replicate (capacity.mcl - length c) 0 = b ∙ put-zeros c capacity.mcl in
-    rw (en, eu, pb)
+    rw (p.0, p.1, pb)
 
-next-refused : (at : ℕ) (t : Taken Component) → part.Refused ≡ part_of t → next_component at refused ≡ next_component at t
-unfolding part_of
-next-refused at refused e = refl
-next-refused at (took c v) e = absurd (let z : ◌≡◌ {A = ℕ} 0 1 = cc in omega arith)
+next-refused : (at : ℕ) (t : Taken Component) (r : Refusal) → refuses (refusal_number r) ≡ part_of t → component_says (Err r) ≡ next_component at t
+unfolding part_of component_says next_component
+next-refused at refused r e = let q : refusal_number r ≡ no_key = cc in rw q
+next-refused at (took c v) r e = absurd (let z : ◌≡◌ {A = ℕ} 0 1 = cc in omega arith)
 
 module _ (at : ℕ) (k : List ℕ) where
-  pub component-ended : ends_path (token_of k) ≡ true → component_says (record { next = next.PathEnd (at + 2); bytes = replicate capacity.mcl 0 }) ≡ component_read field at k
-  unfolding component_says next_says component_read
+  pub component-ended : ends_path (token_of k) ≡ true → component_says (Ok (next.PathEnd (at + 2))) ≡ component_read field at k
+  unfolding component_says component_read
   component-ended e = rw e
 
-  pub component-took : (n u : ℕ) (bytes : List ℕ) → ends_path (token_of k) ≡ false → part.Took n u ≡ part_of (read_component field.mcl k)
+  pub component-took : (n u : ℕ) (bytes : List ℕ) → ends_path (token_of k) ≡ false → says (n, u) ≡ part_of (read_component field.mcl k)
       → Filled (λ c. c) (read_component field.mcl k) (replicate capacity.mcl 0) bytes
-      → component_says (record { next = next.Component n (at + u); bytes = bytes }) ≡ component_read field at k
+      → component_says (Ok (next.Component bytes n (at + u))) ≡ component_read field at k
   unfolding component_read
   component-took n u bytes e p b = rw e (next-took at (read_component field.mcl k) n u bytes p b)
 
-  pub component-refused : ends_path (token_of k) ≡ false → part.Refused ≡ part_of (read_component field.mcl k) → next_component 0 refused ≡ component_read field at k
-  unfolding component_read next_component
-  component-refused e p = rw e (next-refused at (read_component field.mcl k) p)
+  pub component-refused : (r : Refusal) → ends_path (token_of k) ≡ false → refuses (refusal_number r) ≡ part_of (read_component field.mcl k) → component_says (Err r) ≡ component_read field at k
+  unfolding component_read
+  component-refused r e p = rw e (next-refused at (read_component field.mcl k) r p)
 
 -- A path that was read into zeros.
 module _ (at : ℕ) where
-  pub path-took : (t : Taken Components) (n u : ℕ) (bytes ends : List ℕ) → part.Took n u ≡ part_of t
+  pub path-took : (t : Taken Components) (n u : ℕ) (bytes ends : List ℕ) → says (n, u) ≡ part_of t
       → Filled joined t (replicate capacity.mpl 0) bytes → Filled (ends_from 0) t (replicate capacity.mcc 0) ends
-      → record { refusal = 0; path = record { bytes = bytes; ends = ends; count = n }; next = at + u } ≡ path_read at t
+      → says (record { path = record { bytes = bytes; ends = ends; count = n }; next = at + u }) ≡ path_read at t
   unfolding part_of path_read path_of value_of
   path-took refused n u bytes ends e b m = absurd (let z : ◌≡◌ {A = ℕ} 0 1 = cc in omega arith)
   path-took (took cs v) n u bytes ends e b m =
-      let en : n ≡ length cs = cc in
-      let eu : u ≡ v = cc in
+      let p = same-pair n u (length cs) v e in
       let pb : bytes ≡ joined cs ++ replicate (capacity.mpl - length (joined cs)) 0 = b ∙ put-zeros (joined cs) capacity.mpl in
       let pm : ends ≡ ends_from 0 cs ++ replicate (capacity.mcc - length (ends_from 0 cs)) 0 = m ∙ put-zeros (ends_from 0 cs) capacity.mcc in
-      rw (en, eu, pb, pm)
+      rw (p.0, p.1, pb, pm)
 
-  pub path-missed : (t : Taken Components) → part.Refused ≡ part_of t → path_read 0 refused ≡ path_read at t
+  pub path-missed : (t : Taken Components) (n : ℕ) → refuses n ≡ part_of t → refuses n ≡ path_read at t
   unfolding part_of path_read
-  path-missed refused e = refl
-  path-missed (took cs v) e = absurd (let z : ◌≡◌ {A = ℕ} 0 1 = cc in omega arith)
+  path-missed refused n e = cc
+  path-missed (took cs v) n e = absurd (let z : ◌≡◌ {A = ℕ} 0 1 = cc in omega arith)
 
   -- The same, taken apart.
   pub record PathTaken (t : Taken Components) (r : PathRead) : Type 0 where
@@ -81,43 +83,47 @@ module _ (at : ℕ) where
     pub next_is : r.next ≡ at + u
     pub path_is : r.path ≡ path_of cs
 
-  pub path-taken : (t : Taken Components) (r : PathRead) → r ≡ path_read at t → r.refusal ≡ 0 → PathTaken t r
+  pub path-taken : (t : Taken Components) (r : PathRead) → says r ≡ path_read at t → PathTaken t r
   unfolding path_read
-  path-taken refused r e o = absurd (omega (arith, o, ap (λ (x : PathRead). x.refusal) e))
-  path-taken (took cs u) r e o = record {
-    cs = cs;
-    u = u;
-    is = refl;
-    next_is = ap (λ (x : PathRead). x.next) e;
-    path_is = ap (λ (x : PathRead). x.path) e;
-  }
+  path-taken refused r e = absurd (let z : ◌≡◌ {A = ℕ} 0 1 = cc in omega arith)
+  path-taken (took cs u) r e =
+      let q : r ≡ record { path = path_of cs; next = at + u } = cc in
+      record {
+        cs = cs;
+        u = u;
+        is = refl;
+        next_is = ap (λ (x : PathRead). x.next) q;
+        path_is = ap (λ (x : PathRead). x.path) q;
+      }
 
-  pub path-refused : (t : Taken Components) (r : PathRead) → r ≡ path_read at t → (r.refusal ≡ 0 → ⊥) → t ≡ refused
+  pub path-refused : (t : Taken Components) (n : ℕ) → refuses n ≡ path_read at t → (t ≡ refused) × (n ≡ no_key)
   unfolding path_read
-  path-refused refused r e o = refl
-  path-refused (took cs u) r e o = absurd (o (ap (λ (x : PathRead). x.refusal) e))
+  path-refused refused n e = (refl, cc)
+  path-refused (took cs u) n e = absurd (let z : ◌≡◌ {A = ℕ} 0 1 = cc in omega arith)
 
 -- A path that is read from the front of the bytes ends within them.
-next-within : (k : List ℕ) (r : PathRead) (t : Taken Components) → PathFit (length k) t → r ≡ path_read 0 t → r.next ≤ length k
+next-within : (k : List ℕ) (r : PathRead) (t : Taken Components) → PathFit (length k) t → says r ≡ path_read 0 t → r.next ≤ length k
 unfolding path_read
-next-within k r refused h e = omega (arith, ap (λ (x : PathRead). x.next) e)
-next-within k r (took cs u) h e = omega (arith, ap (λ (x : PathRead). x.next) e)
+next-within k r refused h e = absurd (let z : ◌≡◌ {A = ℕ} 0 1 = cc in omega arith)
+next-within k r (took cs u) h e =
+    let q : r ≡ record { path = path_of cs; next = 0 + u } = cc in
+    omega (arith, ap (λ (x : PathRead). x.next) q)
 
-parts_within : (len : ℕ) (t : Taken Components) (n u : ℕ) → PathFit len t → part.Took n u ≡ part_of t → u ≤ len
+parts_within : (len : ℕ) (t : Taken Components) (n u : ℕ) → PathFit len t → says (n, u) ≡ part_of t → u ≤ len
 unfolding part_of
 parts_within len refused n u h e = absurd (let z : ◌≡◌ {A = ℕ} 0 1 = cc in omega arith)
-parts_within len (took cs v) n u h e = let q : u ≡ v = cc in omega arith
+parts_within len (took cs v) n u h e = omega (arith, (same-pair n u (length cs) v e).1)
 
-pub next_fits : (f : Figures) (k : List ℕ) (r : PathRead) → r ≡ path_read 0 (read_path f k) → r.next ≤ length k
+pub next_fits : (f : Figures) (k : List ℕ) (r : PathRead) → says r ≡ path_read 0 (read_path f k) → r.next ≤ length k
 unfolding read_path
 next_fits f k r e = next-within k r (read_path f k) (path-fit f.mcl f.mcc f.mpl k) e
 
 -- Past the end of the bytes no path is read.
-pub path-past : (at : ℕ) (f : Figures) (k : List ℕ) → k ≡ [] → path_read 0 refused ≡ path_read at (read_path f k)
+pub path-past : (at : ℕ) (f : Figures) (k : List ℕ) → k ≡ [] → refuses no_key ≡ path_read at (read_path f k)
 unfolding read_path path_read
 path-past at f k e = sym (ap (path_read at) (ap (read_path f) e ∙ path_empty f.mcl f.mpl f.mcc))
 
-pub parts-fit : (f : Figures) (k : List ℕ) (n u : ℕ) → part.Took n u ≡ part_of (read_path f k) → u ≤ length k
+pub parts-fit : (f : Figures) (k : List ℕ) (n u : ℕ) → says (n, u) ≡ part_of (read_path f k) → u ≤ length k
 unfolding read_path
 parts-fit f k n u e = parts_within (length k) (read_path f k) n u (path-fit f.mcl f.mcc f.mpl k) e
 
@@ -202,7 +208,11 @@ module _ (before behind len : ℕ) where
 -- The answer for a triple.
 pub decoded-took : (t : Taken Triple) (v : Triple) (len : ℕ) (s : Subspace) (p : Path) (x : ℕ) → t ≡ took v len
     → s ≡ v.subspace → p ≡ path_of v.path → x ≡ v.timestamp
-    → record { refusal = 0; subspace = s; path = p; timestamp = x } ≡ decoded t
+    → says (record { subspace = s; path = p; timestamp = x }) ≡ decoded t
 unfolding decoded
 decoded-took t v len s p x e a b c =
-    subst (λ (t : Taken Triple). ◌≡◌ {A = Decoded} (record { refusal = 0; subspace = s; path = p; timestamp = x }) (decoded t)) (sym e) (rw (a, b, c))
+    subst (λ (t : Taken Triple). ◌≡◌ {A = Said EntryKey} (says (record { subspace = s; path = p; timestamp = x })) (decoded t)) (sym e) (rw (a, b, c))
+
+pub decoded-refused : (t : Taken Triple) → t ≡ refused → refuses no_key ≡ decoded t
+unfolding decoded
+decoded-refused t e = rw e

@@ -14,20 +14,12 @@ use lib.Seq.{drop-cons}
 use Rattle.laws.specs.Lists.{piece, put}
 use Rattle.laws.proofs.Truth.{and-true}
 use Rattle.data_model.specs.Path.{Figures, cut, components, legal, legal_ends}
-use Rattle.data_model.specs.Said.{says}
-use Rattle.keys.specs.Encode.{escaped, component_key, path_key, component_end, path_end, be, subspace_key, path_key_most, key_most, roomy, encoded_says, encoded, encoded_in}
-use Rattle.data_model.specs.Refusal.{short_buffer, illegal_path}
+use Rattle.data_model.specs.Said.{refuses, says}
+use Rattle.keys.specs.Encode.{escaped, component_key, path_key, component_end, path_end, be, subspace_key, path_key_most, key_most, roomy, writable, encoded, encoded_in}
+use Rattle.data_model.specs.Refusal.{short_buffer}
 use Rattle.data_model.specs.declared.path.Path.{Path}
 use Rattle.data_model.specs.declared.parameters.Subspace.{Subspace}
-use Rattle.keys.specs.declared.encode.Encoded.TheVariants.{Written, Refused}
 use Rattle.data_model.proofs.Values.{cut_at, cut-done, legal-count, legal-these}
-
--- An array of two.
-pub pair_is : (l : List ℕ) → length l ≡ 2 → l ≡ get_or l 0 0 ∷ get_or l 1 0 ∷ []
-pair_is [] h = absurd (omega arith)
-pair_is (a ∷ []) h = absurd (omega arith)
-pair_is (a ∷ b ∷ []) h = refl
-pair_is (a ∷ b ∷ c ∷ l) h = absurd (omega arith)
 
 -- A byte takes one byte or two.
 pub escaped-zero : (b : ℕ) → b ≡ 0 → escaped b ≡ 0 ∷ 2 ∷ []
@@ -116,17 +108,35 @@ pub subspace-length : (s : Subspace) → length (subspace_key s) ≡ 16
 unfolding subspace_key
 subspace-length s = simp (length-append, be-length)
 
--- The three ways in which encoding a key ends.
-module _ (f : Figures) (l : Bool) (key old : List ℕ) where
-  pub encode-short : length old < key_most f → (encoded_says (Refused short_buffer) ≡ encoded (roomy f old) l key) × (old ≡ encoded_in (roomy f old) l key old)
-  unfolding roomy encoded_says encoded encoded_in
-  encode-short h = simp (lt-leb (key_most f) (length old) h) (refl, refl)
+-- What a test before encoding says of the answer and the buffer, where it refuses; and what it says where it doesn't.
+pub writable-not : (room legal : Bool) (n : ℕ) (key old : List ℕ) → refuses n ≡ writable room legal
+    → (refuses n ≡ encoded room legal key) × (old ≡ encoded_in room legal key old)
+unfolding writable encoded encoded_in
+writable-not false legal n key old e = (cc, refl)
+writable-not true false n key old e = (cc, refl)
+writable-not true true n key old e = absurd (let z : ◌≡◌ {A = ℕ} 0 1 = cc in omega arith)
 
-  pub encode-illegal : key_most f ≤ length old → l ≡ false → (encoded_says (Refused illegal_path) ≡ encoded (roomy f old) l key) × (old ≡ encoded_in (roomy f old) l key old)
-  unfolding roomy encoded_says encoded encoded_in
-  encode-illegal h e = simp (le-leb (key_most f) (length old) h, e) (refl, refl)
+pub writable-so : (room legal : Bool) → says tt ≡ writable room legal → (room ≡ true) × (legal ≡ true)
+unfolding writable
+writable-so false legal e = absurd (let z : ◌≡◌ {A = ℕ} 0 1 = cc in omega arith)
+writable-so true false e = absurd (let z : ◌≡◌ {A = ℕ} 0 1 = cc in omega arith)
+writable-so true true e = (refl, refl)
 
-  pub encode-done : (n : ℕ) (out : List ℕ) → key_most f ≤ length old → l ≡ true → n ≡ length key → out ≡ put key old
-      → (encoded_says (Written n) ≡ encoded (roomy f old) l key) × (out ≡ encoded_in (roomy f old) l key old)
-  unfolding roomy encoded_says encoded encoded_in
-  encode-done n out h e k o = simp (le-leb (key_most f) (length old) h, e) (ap says k, o)
+module _ (f : Figures) (l : Bool) (old : List ℕ) where
+  pub writable-short : length old < key_most f → refuses short_buffer ≡ writable (roomy f old) l
+  unfolding roomy writable
+  writable-short h = simp (lt-leb (key_most f) (length old) h) refl
+
+  pub writable_is : key_most f ≤ length old → writable true l ≡ writable (roomy f old) l
+  unfolding roomy
+  writable_is h = simp (le-leb (key_most f) (length old) h) refl
+
+pub roomy-most : (f : Figures) (old : List ℕ) → roomy f old ≡ true → key_most f ≤ length old
+unfolding roomy
+roomy-most f old e = leb-true (key_most f) (length old) e
+
+-- What is written where nothing refuses.
+pub encode-done : (room legal : Bool) (key old out : List ℕ) (n : ℕ) → says tt ≡ writable room legal → n ≡ length key → out ≡ put key old
+    → (says n ≡ encoded room legal key) × (out ≡ encoded_in room legal key old)
+unfolding encoded encoded_in
+encode-done room legal key old out n e k o = let w = writable-so room legal e in simp (w.0, w.1) (ap says k, o)

@@ -2,46 +2,20 @@
 -- Assumes nothing.
 use Prim.Native.Nat.{ℕ, zero, suc, ◌+◌, ◌-◌, ◌≤◌, ◌<◌}
 use mathlib.Core.Path.{◌≡◌, refl, sym, ap, ◌∙◌}
-use mathlib.Core.Bool.{Bool, true, false, ◌&&◌}
 use mathlib.Core.List.{List, [], ◌∷◌}
 use native.Mathlib.Omega.{arith}
 use native.Mathlib.Numerals.{add-one}
-use lib.Dec.{eqb}
-use borrow.Author.Tests.{eq-eqb, ne_eqb}
 use lib.ListN.{length, take, drop, get_or, drop_of_length-le}
 use lib.Seq.{drop-cons}
-use Rattle.laws.specs.Prefix.{same_number, same_list}
-use Rattle.laws.proofs.Truth.{clash}
-use Rattle.laws.proofs.Prefix.{number-equality, list-equality}
-use Rattle.data_model.specs.Path.{same_component}
+use Rattle.std.specs.Prelude.{Some, None}
+use Rattle.std.specs.List.{slice_get}
 use Rattle.data_model.specs.Said.{Said, refuses, says}
 use Rattle.data_model.specs.Refusal.{no_key}
 use Rattle.keys.specs.Decode.{Symbol, byte, component_mark, path_mark, mark, token_of}
 use Rattle.keys.specs.Inner.{escape_case}
 use Rattle.keys.specs.declared.token.EscapeCase.{EscapeCase}
 use Rattle.keys.specs.declared.token.EscapeCase.TheVariants as escape
-use Rattle.keys.proofs.Encoding.{pair_is}
 use Rattle.keys.proofs.Reading.{rest}
-
-and-end : (b : Bool) → b ≡ (b && true)
-and-end true = refl
-and-end false = refl
-
--- Two bytes that are a mark, and two that are not.
-mark-is : (b m n : ℕ) → same_component (b ∷ m ∷ []) (0 ∷ n ∷ []) ≡ true → m ≡ n
-mark-is b m n e = let q = (list-equality same_number number-equality).equal (b ∷ m ∷ []) (0 ∷ n ∷ []) e in cc
-
-mark-not : (b m n : ℕ) → b ≡ 0 → same_component (b ∷ m ∷ []) (0 ∷ n ∷ []) ≡ false → m ≡ n → ⊥
-mark-not b m n z e q = clash {b = same_component (b ∷ m ∷ []) (0 ∷ n ∷ [])} (cc ((list-equality same_number number-equality).self (b ∷ m ∷ []))) e
-
-module _ (a b : List ℕ) (m : length a ≡ 2) (n : length b ≡ 2) where
-  pub marks-same : get_or a 0 0 ≡ get_or b 0 0 → eqb (get_or a 1 0) (get_or b 1 0) ≡ same_component a b
-  unfolding same_number same_list
-  marks-same e = rw (pair_is a m, pair_is b n) (rw (eq-eqb (get_or a 0 0) (get_or b 0 0) e) (and-end (eqb (get_or a 1 0) (get_or b 1 0))))
-
-  pub marks-differ : (get_or a 0 0 ≡ get_or b 0 0 → ⊥) → false ≡ same_component a b
-  unfolding same_number same_list
-  marks-differ e = rw (pair_is a m, pair_is b n) (rw (ne_eqb (get_or a 0 0) (get_or b 0 0) e))
 
 -- Which case a byte is: an ordinary one, the last one, or by the byte behind it.
 pub case-ordinary : (b : ℕ) (k : List ℕ) → (b ≡ 0 → ⊥) → escape_case b k ≡ escape.Ordinary b
@@ -49,18 +23,17 @@ unfolding escape_case
 case-ordinary zero k h = absurd (h refl)
 case-ordinary (suc b) k h = refl
 
-pub case-last : (b : ℕ) (k : List ℕ) → b ≡ 0 → length k ≡ 0 → escape_case b k ≡ escape.ZeroLast
+pub case-last : (b : ℕ) (k : List ℕ) → b ≡ 0 → None ≡ slice_get k 0 → escape_case b k ≡ escape.ZeroLast
 unfolding escape_case
 case-last b [] z e = rw z
-case-last b (m ∷ k) z e = absurd (omega arith)
+case-last b (m ∷ k) z e = absurd (let z : ◌≡◌ {A = ℕ} 0 1 = cc in omega arith)
 
-by-mark : (k : List ℕ) → 0 < length k → escape_case 0 k ≡ escape_case 0 (get_or k 0 0 ∷ [])
+by-mark : (m : ℕ) (k : List ℕ) → escape_case 0 (m ∷ k) ≡ escape_case 0 (m ∷ [])
 unfolding escape_case
-by-mark [] h = absurd (omega arith)
-by-mark (zero ∷ k) h = refl
-by-mark (suc zero ∷ k) h = refl
-by-mark (suc (suc zero) ∷ k) h = refl
-by-mark (suc (suc (suc m)) ∷ k) h = refl
+by-mark zero k = refl
+by-mark (suc zero) k = refl
+by-mark (suc (suc zero)) k = refl
+by-mark (suc (suc (suc m))) k = refl
 
 other-mark : (m : ℕ) → (m ≡ 0 → ⊥) → (m ≡ 1 → ⊥) → (m ≡ 2 → ⊥) → escape_case 0 (m ∷ []) ≡ escape.ZeroOther
 unfolding escape_case
@@ -69,19 +42,13 @@ other-mark (suc zero) f g h = absurd (g refl)
 other-mark (suc (suc zero)) f g h = absurd (h refl)
 other-mark (suc (suc (suc m))) f g h = refl
 
--- Whether a byte and the first one behind it are the mark 00 n: t says.
-abbrev Marks : ℕ → List ℕ → ℕ → Bool → Type 0
-Marks b k n t = same_component (b ∷ get_or k 0 0 ∷ []) (0 ∷ n ∷ []) ≡ t
+-- By the first byte behind a 00.
+pub case-mark : (b : ℕ) (k : List ℕ) (m : ℕ) → b ≡ 0 → Some m ≡ slice_get k 0 → escape_case b k ≡ escape_case 0 (m ∷ [])
+case-mark b [] m z e = absurd (let z : ◌≡◌ {A = ℕ} 0 1 = cc in omega arith)
+case-mark b (n ∷ k) m z e = let q : n ≡ m = cc in rw (z, q) (by-mark m k)
 
-module _ (b : ℕ) (k : List ℕ) (z : b ≡ 0) (l : 0 < length k) where
-  here : escape_case b k ≡ escape_case 0 (get_or k 0 0 ∷ [])
-  here = ap (λ (b : ℕ). escape_case b k) z ∙ by-mark k l
-
-  pub case-mark : (n : ℕ) → Marks b k n true → escape_case b k ≡ escape_case 0 (n ∷ [])
-  case-mark n e = here ∙ ap (λ (m : ℕ). escape_case 0 (m ∷ [])) (mark-is b (get_or k 0 0) n e)
-
-  pub case-other : Marks b k 0 false → Marks b k 1 false → Marks b k 2 false → escape_case b k ≡ escape.ZeroOther
-  case-other f g h = here ∙ other-mark (get_or k 0 0) (mark-not b (get_or k 0 0) 0 z f) (mark-not b (get_or k 0 0) 1 z g) (mark-not b (get_or k 0 0) 2 z h)
+pub case-other : (b : ℕ) (k : List ℕ) (m : ℕ) → b ≡ 0 → Some m ≡ slice_get k 0 → (m ≡ 0 → ⊥) → (m ≡ 1 → ⊥) → (m ≡ 2 → ⊥) → escape_case b k ≡ escape.ZeroOther
+case-other b k m z e f g h = case-mark b k m z e ∙ other-mark m f g h
 
 -- The token of each case.
 abbrev pub case_token : EscapeCase → Said Symbol

@@ -6,14 +6,14 @@ use mathlib.Core.List.{List, [], ◌∷◌, ◌++◌, append-nil}
 use native.Mathlib.Omega.{arith}
 use native.Mathlib.Nat.{zero-add}
 use native.Mathlib.Numerals.{add-one}
-use lib.ListN.{length, take, drop, set, length-drop, length-set, take-append-drop, drop_of_length-le}
+use lib.ListN.{length, take, drop, set, length-drop, length-set, take-append-drop}
 use lib.Seq.{take_all, take-suc-set, drop-set-lt, drop-drop, length-take-le, append_snoc}
 use Rattle.laws.specs.Lists.{put}
 use Rattle.keys.specs.Encode.{escaped}
 use Rattle.data_model.specs.Said.{Said, refuses, says}
+use Rattle.data_model.specs.Refusal.{no_key}
 use Rattle.keys.specs.Decode.{Symbol, byte, component_mark, path_mark, Taken, refused, took, more, mark, token_of, by_token, read_component}
 use Rattle.keys.specs.Inner.{part_of, Filled}
-use Rattle.keys.specs.declared.decode.Part.TheVariants as part
 
 -- What a component's reading does, by the token that it meets.
 abbrev pub step_component : ℕ → List ℕ → Said Symbol → Taken (List ℕ)
@@ -101,10 +101,6 @@ reading-none lim k old = record {
 }
 
 module _ (lim : ℕ) (k old bytes : List ℕ) (at n : ℕ) (h : Reading lim k old bytes at n) where
-  pub reading-none-left : length k ≤ at → read_component lim k ≡ refused
-  unfolding more token_of
-  reading-none-left g = h.so_far ∙ ap (λ (x : List ℕ). more (take n bytes ++◌) at (read_component (lim - n) x)) (drop_of_length-le k g) ∙ ap (more (take n bytes ++◌) at) (component-step (lim - n) [])
-
   -- The token at the place settles how reading goes on.
   pub reading-token : (t : Said Symbol) → token_of (drop at k) ≡ t → read_component lim k ≡ more (take n bytes ++◌) at (step_component (lim - n) (drop at k) t)
   reading-token t e = h.so_far ∙ ap (more (take n bytes ++◌) at) (component-step (lim - n) (drop at k) ∙ ap (step_component (lim - n) (drop at k)) e)
@@ -151,14 +147,33 @@ module _ (lim : ℕ) (k old bytes : List ℕ) (at n : ℕ) (h : Reading lim k ol
       same : (x : List ℕ) → take n bytes ++ b ∷ x ≡ take (n + 1) (set bytes n b) ++ x
       same x = rw (add-one, take-suc-set bytes n b r) (sym (append_snoc (take n bytes) b x))
 
-pub part-refused : (t : Taken (List ℕ)) (old new : List ℕ) → t ≡ refused → (part.Refused ≡ part_of t) × Filled (λ c. c) t old new
-unfolding part_of
-part-refused t old new e = subst (λ (t : Taken (List ℕ)). (part.Refused ≡ part_of t) × Filled (λ c. c) t old new) (sym e) (refl, tt)
+-- What two answers of a count and a size have in common.
+abbrev pair_of : Said (ℕ × ℕ) → ℕ × ℕ
+pair_of (says p) = p
+pair_of (refuses n) = (0, 0)
 
-pub part-took : (t : Taken (List ℕ)) (old new c : List ℕ) (n u : ℕ) → t ≡ took c u → n ≡ length c → new ≡ put c old → (part.Took n u ≡ part_of t) × Filled (λ c. c) t old new
+pub same-pair : (n u m v : ℕ) → ◌≡◌ {A = Said (ℕ × ℕ)} (says (n, u)) (says (m, v)) → (n ≡ m) × (u ≡ v)
+same-pair n u m v e = (ap (λ (s : Said (ℕ × ℕ)). (pair_of s).0) e, ap (λ (s : Said (ℕ × ℕ)). (pair_of s).1) e)
+
+-- Whatever refuses a token is 5.
+pub token-refusal : (k : List ℕ) (n : ℕ) → refuses n ≡ token_of k → n ≡ no_key
+unfolding token_of mark
+token-refusal [] n e = cc
+token-refusal (suc b ∷ k) n e = absurd (let z : ◌≡◌ {A = ℕ} 0 1 = cc in omega arith)
+token-refusal (zero ∷ []) n e = cc
+token-refusal (zero ∷ zero ∷ k) n e = absurd (let z : ◌≡◌ {A = ℕ} 0 1 = cc in omega arith)
+token-refusal (zero ∷ suc zero ∷ k) n e = absurd (let z : ◌≡◌ {A = ℕ} 0 1 = cc in omega arith)
+token-refusal (zero ∷ suc (suc zero) ∷ k) n e = absurd (let z : ◌≡◌ {A = ℕ} 0 1 = cc in omega arith)
+token-refusal (zero ∷ suc (suc (suc m)) ∷ k) n e = cc
+
+pub part-refused : (t : Taken (List ℕ)) (old new : List ℕ) → t ≡ refused → (refuses no_key ≡ part_of t) × Filled (λ c. c) t old new
+unfolding part_of
+part-refused t old new e = subst (λ (t : Taken (List ℕ)). (refuses no_key ≡ part_of t) × Filled (λ c. c) t old new) (sym e) (refl, tt)
+
+pub part-took : (t : Taken (List ℕ)) (old new c : List ℕ) (n u : ℕ) → t ≡ took c u → n ≡ length c → new ≡ put c old → (says (n, u) ≡ part_of t) × Filled (λ c. c) t old new
 unfolding part_of
 part-took t old new c n u e l p =
-    subst (λ (t : Taken (List ℕ)). (part.Took n u ≡ part_of t) × Filled (λ c. c) t old new) (sym e) (ap (λ (m : ℕ). part.Took m u) l, p)
+    subst (λ (t : Taken (List ℕ)). (says (n, u) ≡ part_of t) × Filled (λ c. c) t old new) (sym e) (ap (λ (m : ℕ). says (m, u)) l, p)
 
 -- What a component takes is within the bytes, and within its limit.
 abbrev pub Fit : ℕ → ℕ → Taken (List ℕ) → Type 0
@@ -198,12 +213,14 @@ pub record TookIt (t : Taken (List ℕ)) (old new : List ℕ) (n u : ℕ) : Type
   pub long : n ≡ length c
   pub new_is : new ≡ put c old
 
-pub took_it : (t : Taken (List ℕ)) (old new : List ℕ) (n u : ℕ) → part.Took n u ≡ part_of t → Filled (λ c. c) t old new → TookIt t old new n u
+pub took_it : (t : Taken (List ℕ)) (old new : List ℕ) (n u : ℕ) → says (n, u) ≡ part_of t → Filled (λ c. c) t old new → TookIt t old new n u
 unfolding part_of
 took_it refused old new n u e f = absurd (let z : ◌≡◌ {A = ℕ} 0 1 = cc in omega arith)
-took_it (took c v) old new n u e f = record { c = c; is = cc; long = cc; new_is = f }
+took_it (took c v) old new n u e f =
+    let p = same-pair n u (length c) v e in
+    record { c = c; is = ap (took c) (sym p.1); long = p.0; new_is = f }
 
-pub refused-it : (t : Taken (List ℕ)) → part.Refused ≡ part_of t → t ≡ refused
+pub refused-it : (t : Taken (List ℕ)) (n : ℕ) → refuses n ≡ part_of t → (t ≡ refused) × (n ≡ no_key)
 unfolding part_of
-refused-it refused e = refl
-refused-it (took c u) e = absurd (let z : ◌≡◌ {A = ℕ} 0 1 = cc in omega arith)
+refused-it refused n e = (refl, cc)
+refused-it (took c u) n e = absurd (let z : ◌≡◌ {A = ℕ} 0 1 = cc in omega arith)

@@ -6,18 +6,18 @@ use mathlib.Core.List.{List, [], ◌∷◌, ◌++◌, append_assoc, append-nil}
 use mathlib.Core.Bool.{Bool, true, false, cond}
 use native.Mathlib.Omega.{arith}
 use native.Mathlib.Nat.{sub-zero}
-use lib.ListN.{length, drop, set, length-append, length-drop, length-set}
+use lib.ListN.{length, take, drop, set, length-append, length-drop, length-set}
 use lib.Seq.{drop-drop}
 use borrow.Rule.Slice.PartMut.{put_mid, mid_of}
 use Rattle.laws.specs.Lists.{put}
 use Rattle.laws.proofs.Lists.{put-snoc, length-put, wrote-first, wrote-last}
 use Rattle.data_model.specs.Path.{joined, ends_from}
 use Rattle.data_model.specs.Said.{Said, refuses, says}
+use Rattle.data_model.specs.Refusal.{no_key}
 use Rattle.keys.specs.Decode.{Symbol, byte, component_mark, path_mark, Taken, refused, took, more, bind, token_of, ends_path, read_component, read_components}
 use Rattle.keys.specs.Inner.{part_of, Filled}
-use Rattle.keys.specs.declared.decode.Part.TheVariants as part
 use Rattle.data_model.proofs.Values.{joined-more, ends_more, ends-length}
-use Rattle.keys.proofs.Reading.{component-step, Fit, component-fit, component-fits, TookIt, token_size, token-within, more-id, more-more, more_same}
+use Rattle.keys.proofs.Reading.{rest, component-step, Fit, component-fit, component-fits, TookIt, token_size, token-within, more-id, more-more, more_same}
 
 -- A loop that reads components: those read so far, in front of what reading on from `at` gives.
 pub record Walking (mcl : ℕ) (k old-bytes old-ends bytes ends : List ℕ) (at total n : ℕ) : Type 0 where
@@ -153,6 +153,13 @@ module _ (mcl : ℕ) (k ob oe bytes ends : List ℕ) (at total n : ℕ) (h : Wal
           (omega (arith, fits.1, h.low, h.bytes_size))
           refl l).1
 
+-- What a call that is lent the rest of the bytes reads is what the definition reads.
+pub asked : (mcl lim total at : ℕ) (k ob bytes : List ℕ) → lim ≡ min mcl (length bytes - total) → length bytes ≡ length ob
+    → read_component lim (take (length k - at) (drop at k)) ≡ read_component (min mcl (length ob - total)) (drop at k)
+asked mcl lim total at k ob bytes e s =
+    ap (λ (x : List ℕ). read_component lim x) (rest k at)
+    ∙ ap (λ (n : ℕ). read_component n (drop at k)) (e ∙ ap (λ (n : ℕ). min mcl (n - total)) s)
+
 -- The same from what the call answered and wrote: m bytes from u.
 pub walking-took : (mcl : ℕ) (k ob oe bytes ends : List ℕ) (at total n : ℕ) → Walking mcl k ob oe bytes ends at total n
     → (last : List ℕ) (m u : ℕ) → n < length oe → ends_path (token_of (drop at k)) ≡ false
@@ -163,18 +170,18 @@ walking-took mcl k ob oe bytes ends at total n h last m u f e t =
     (walking-more mcl k ob oe bytes ends at total n h t.c last u f e t.is t.new_is)
 
 pub parts-refused : (t : Taken (List (List ℕ))) (ob bytes oe ends : List ℕ) → t ≡ refused
-    → (part.Refused ≡ part_of t) × (Filled joined t ob bytes × Filled (ends_from 0) t oe ends)
+    → (refuses no_key ≡ part_of t) × (Filled joined t ob bytes × Filled (ends_from 0) t oe ends)
 unfolding part_of
 parts-refused t ob bytes oe ends e =
-    subst (λ (t : Taken (List (List ℕ))). (part.Refused ≡ part_of t) × (Filled joined t ob bytes × Filled (ends_from 0) t oe ends)) (sym e) (refl, (tt, tt))
+    subst (λ (t : Taken (List (List ℕ))). (refuses no_key ≡ part_of t) × (Filled joined t ob bytes × Filled (ends_from 0) t oe ends)) (sym e) (refl, (tt, tt))
 
 pub parts-took : (t : Taken (List (List ℕ))) (ob bytes oe ends : List ℕ) (cs : List (List ℕ)) (n u : ℕ) → t ≡ took cs u → n ≡ length cs
     → bytes ≡ put (joined cs) ob → ends ≡ put (ends_from 0 cs) oe
-    → (part.Took n u ≡ part_of t) × (Filled joined t ob bytes × Filled (ends_from 0) t oe ends)
+    → (says (n, u) ≡ part_of t) × (Filled joined t ob bytes × Filled (ends_from 0) t oe ends)
 unfolding part_of
 parts-took t ob bytes oe ends cs n u e l p q =
-    subst (λ (t : Taken (List (List ℕ))). (part.Took n u ≡ part_of t) × (Filled joined t ob bytes × Filled (ends_from 0) t oe ends)) (sym e)
-    (ap (λ (m : ℕ). part.Took m u) l, (p, q))
+    subst (λ (t : Taken (List (List ℕ))). (says (n, u) ≡ part_of t) × (Filled joined t ob bytes × Filled (ends_from 0) t oe ends)) (sym e)
+    (ap (λ (m : ℕ). says (m, u)) l, (p, q))
 
 -- What a path takes is within the bytes.
 abbrev pub PathFit : ℕ → Taken (List (List ℕ)) → Type 0

@@ -1,18 +1,17 @@
 -- Reading a path's bytes, and a key's, back: what an encoder writes is taken, all else is refused with 5.
-use Rattle.std.specs.Prelude.{ℕ, zero, suc, ◌+◌, ◌-◌, ◌*◌, min, List, [], ◌∷◌, ◌++◌, Bool, true, false, cond, length, take, drop, replicate, eqb}
+use Rattle.std.specs.Prelude.{ℕ, zero, suc, ◌+◌, ◌-◌, ◌*◌, min, List, [], ◌∷◌, ◌++◌, Bool, true, false, cond, length, take, drop, replicate, eqb, Result, Ok, Err}
 use Rattle.data_model.specs.Path.{Figures, capacity, Component, Components, path_of}
-use Rattle.data_model.specs.Subspace.{first_subspace}
 use Rattle.keys.specs.Encode.{escaped, Triple}
 use Rattle.data_model.specs.Said.{Said, refuses, says}
-use Rattle.data_model.specs.Refusal.{no_key}
+use Rattle.data_model.specs.Refusal.{no_key, refusal_number}
+use Rattle.data_model.specs.declared.answer.Refusal.{Refusal}
 use Rattle.data_model.specs.declared.parameters.Subspace.{Subspace}
 use Rattle.keys.specs.declared.token.Token.{Token}
 use Rattle.keys.specs.declared.token.Token.TheVariants as token
 use Rattle.keys.specs.declared.decode.Next.{Next}
 use Rattle.keys.specs.declared.decode.Next.TheVariants as next
-use Rattle.keys.specs.declared.decode.ComponentRead.{ComponentRead}
 use Rattle.keys.specs.declared.decode.PathRead.{PathRead}
-use Rattle.keys.specs.declared.decode.Decoded.{Decoded}
+use Rattle.keys.specs.declared.decode.EntryKey.{EntryKey}
 
 -- What stands at a position of a path's bytes: a byte of a component, or an end.
 pub data Symbol : Type 0 where
@@ -20,12 +19,11 @@ pub data Symbol : Type 0 where
   component_mark : Symbol
   path_mark : Symbol
 
--- What each case of a token says: its number and its values.
-unfoldable pub token_says : Token → Said Symbol
-token_says (token.Byte b) = says (byte b)
-token_says token.ComponentEnd = says component_mark
-token_says token.PathEnd = says path_mark
-token_says (token.Refused n) = refuses n
+-- What each case of a token says.
+abbrev pub token_says : Token → Symbol
+token_says (token.Byte b) = byte b
+token_says token.ComponentEnd = component_mark
+token_says token.PathEnd = path_mark
 
 -- The escape table of a 00, by the byte behind it: 00 00 ends a path, 00 01 a component, 00 02 is the byte 00. Else 5.
 unfoldable pub mark : ℕ → Said Symbol
@@ -119,33 +117,31 @@ read_tsp f k =
     whole 24 0 (length k) (λ cs u. record { subspace = subspace_at (drop 8 k); path = cs; timestamp = number k })
     (read_path f (drop 24 k))
 
--- The answers: 5 and all else 0, or refusal 0 and what was read.
-unfoldable pub decoded : Taken Triple → Decoded
-decoded refused = record { refusal = no_key; subspace = first_subspace; path = path_of []; timestamp = 0 }
-decoded (took t u) = record { refusal = 0; subspace = t.subspace; path = path_of t.path; timestamp = t.timestamp }
+-- What a decoder of keys answers: 5, or what was read.
+unfoldable pub decoded : Taken Triple → Said EntryKey
+decoded refused = refuses no_key
+decoded (took t u) = says (record { subspace = t.subspace; path = path_of t.path; timestamp = t.timestamp })
 
--- A path and the position behind it.
-unfoldable pub path_read : ℕ → Taken Components → PathRead
-path_read at refused = record { refusal = no_key; path = path_of []; next = 0 }
-path_read at (took cs u) = record { refusal = 0; path = path_of cs; next = at + u }
+-- What the decoder of a path that begins at a position answers: 5, or the path and the position behind it.
+unfoldable pub path_read : ℕ → Taken Components → Said PathRead
+path_read at refused = refuses no_key
+path_read at (took cs u) = says (record { path = path_of cs; next = at + u })
 
 -- A step in a path: a component, its length and the position behind it; or the position behind the path's end.
 pub data Step : Type 0 where
   component : (len position : ℕ) → Step
   end_of_path : (position : ℕ) → Step
 
--- What each case of a step says: its number and its values; and the whole answer, with the component's bytes.
-unfoldable pub next_says : Next → Said Step
-next_says (next.Component len n) = says (component len n)
-next_says (next.PathEnd n) = says (end_of_path n)
-next_says (next.Refused k) = refuses k
-
+-- A step's answer, with the component's bytes.
 pub record StepRead : Type 0 where
   pub next : Said Step
   pub bytes : List ℕ
 
-unfoldable pub component_says : ComponentRead → StepRead
-component_says c = record { next = next_says c.next; bytes = c.bytes }
+-- What is answered where the next component is read, and what its bytes are: 0 where none was read.
+unfoldable pub component_says : Result Next Refusal → StepRead
+component_says (Ok (next.Component bytes len n)) = record { next = says (component len n); bytes = bytes }
+component_says (Ok (next.PathEnd n)) = record { next = says (end_of_path n); bytes = replicate capacity.mcl 0 }
+component_says (Err r) = record { next = refuses (refusal_number r); bytes = replicate capacity.mcl 0 }
 
 -- The next component and the position behind it, or the path's end. Refused, the bytes are 0.
 unfoldable pub next_component : ℕ → Taken Component → StepRead

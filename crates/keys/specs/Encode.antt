@@ -5,8 +5,6 @@ use Rattle.data_model.specs.Path.{Figures, Component, Components}
 use Rattle.data_model.specs.Said.{Said, refuses, says}
 use Rattle.data_model.specs.Refusal.{short_buffer, illegal_path}
 use Rattle.data_model.specs.declared.parameters.Subspace.{Subspace}
-use Rattle.keys.specs.declared.encode.Encoded.{Encoded}
-use Rattle.keys.specs.declared.encode.Encoded.TheVariants.{Written, Refused}
 
 -- The marks: a component ends 00 01, a path 00 00.
 abbrev pub component_end : List ℕ
@@ -59,10 +57,11 @@ path_key_most f = 2 * f.mpl + 2 * f.mcc + 2
 abbrev pub key_most : Figures → ℕ
 key_most f = 16 + path_key_most f + 8
 
--- What each case of an encoder's answer says: its number, and how many bytes were written.
-unfoldable pub encoded_says : Encoded → Said ℕ
-encoded_says (Written n) = says n
-encoded_says (Refused n) = refuses n
+-- Whether a key may be written: 2 for a buffer that some key would not fit, then 4 for an illegal path.
+unfoldable pub writable : (room legal : Bool) → Said Unit
+writable false legal = refuses short_buffer
+writable true false = refuses illegal_path
+writable true true = says tt
 
 -- The answer and the buffer: 2 for a buffer that some key would not fit, then 4 for an illegal path; a refusal changes nothing.
 unfoldable pub encoded : (room legal : Bool) → List ℕ → Said ℕ

@@ -4,8 +4,8 @@ use Rattle.laws.specs.Lists.{put}
 use Rattle.data_model.specs.Path.{Figures}
 use Rattle.keys.specs.Encode.{Triple}
 use Rattle.keys.specs.Decode.{Taken, refused, took, read_path, number, subspace_at, whole}
-use Rattle.keys.specs.declared.decode.Part.{Part}
-use Rattle.keys.specs.declared.decode.Part.TheVariants as part
+use Rattle.data_model.specs.Said.{Said, refuses, says}
+use Rattle.data_model.specs.Refusal.{no_key}
 use Rattle.keys.specs.declared.token.EscapeCase.{EscapeCase}
 use Rattle.keys.specs.declared.token.EscapeCase.TheVariants as escape
 
@@ -25,9 +25,9 @@ read_key f before behind time k =
     (read_path f (drop before k))
 
 -- How many elements were read, and how many bytes they took.
-unfoldable pub part_of : {A : Type 0} → Taken (List A) → Part
-part_of refused = part.Refused
-part_of (took c u) = part.Took (length c) u
+unfoldable pub part_of : {A : Type 0} → Taken (List A) → Said (ℕ × ℕ)
+part_of refused = refuses no_key
+part_of (took c u) = says (length c, u)
 
 -- A buffer is filled from the front with what was read, if anything was.
 abbrev pub Filled : {A : Type 0} → (A → List ℕ) → Taken A → List ℕ → List ℕ → Type 0

@@ -5,10 +5,10 @@ ghost use Rattle.keys.specs.Decode.{read_path, read_spt, read_tsp, was_read};
 ghost use Rattle.keys.specs.Judge.{takes, fills, bit, marked, ended, closed, sound, others, endings, kept};
 
 use crate::encode::{COMPONENT_END, ESCAPED_ZERO, PATH_END};
-use crate::number::lesser;
 use data_model::path::{MCC, MCL, MPL};
 
 // How many bytes are counted at once.
+// Kept (5): `at + w < length k`: a stretch is read with the byte behind it, which a slice of the stretch would not hold.
 const STRETCH: usize = 32;
 
 // Of a stretch of bytes: whether each 00 stands before a 01 or a 02, how many bytes are not 00, and how many 00 stand before a 01.
@@ -19,34 +19,25 @@ struct Counts {
     ends: usize,
 }
 
-// A test as a number.
-fn one(b: bool) -> u8
-    ensures { (result ≡ bit b) × (result ≤ 1) }
-{
-    if b { 1 } else { 0 }
-}
-
 // Each byte is looked at with the next one only, whatever tokens they are parts of, so that many can be looked at together.
 fn counts_of(k: &[u8], at: usize, w: usize) -> Counts
     requires { (at + w < length k.now) × (w ≤ 32) }
     ensures { result ≡ record { sound = sound w at k.now; others = others w at k.now; ends = endings w at k.now } }
 {
-    let mut j = 0;
     let mut ok = true;
     let mut n: u8 = 0;
     let mut e: u8 = 0;
-    while j < w {
+    for j in 0..w {
         let a = k[at + j];
         let b = k[at + j + 1];
         ok = ok & ((a != 0) | ((b == COMPONENT_END[1]) | (b == ESCAPED_ZERO[1])));
-        n += one(a != 0);
-        e += one((a == COMPONENT_END[0]) & (b == COMPONENT_END[1]));
-        j += 1;
+        n += u8::from(a != 0);
+        e += u8::from((a == COMPONENT_END[0]) & (b == COMPONENT_END[1]));
     }
     Counts {
         sound: ok,
-        others: n as usize,
-        ends: e as usize,
+        others: usize::from(n),
+        ends: usize::from(e),
     }
 }
 
@@ -57,9 +48,10 @@ fn counts_up_to(k: &[u8], at: usize, w: usize) -> Counts
     ensures { result ≡ record { sound = sound w at k.now; others = others w at k.now; ends = endings w at k.now } }
 {
     if w == STRETCH {
-        return counts_of(k, at, STRETCH);
+        counts_of(k, at, STRETCH)
+    } else {
+        counts_of(k, at, w)
     }
-    counts_of(k, at, w)
 }
 
 // The bytes before the end of a component, or all of a stretch in which none ends: how many, and what is counted of them.
@@ -88,23 +80,18 @@ fn counts_to_end(k: &[u8], at: usize, w: usize) -> Front
     requires { at + w < length k.now }
     ensures { (result.w ≤ w) × (endings result.w at k.now ≡ 0) × (result.w < w → ended (at + result.w) k.now ≡ true) × (result.counts ≡ record { sound = sound result.w at k.now; others = others result.w at k.now; ends = endings result.w at k.now }) }
 {
-    let mut j = 0;
     let mut ok = true;
-    let mut n: usize = 0;
-    while j < w {
+    let mut n = 0;
+    for j in 0..w {
         if k[at + j] != 0 {
             n += 1;
-            j += 1;
+        } else if k[at + j + 1] == COMPONENT_END[1] {
+            return front_of(j, ok, n);
         } else {
-            let b = k[at + j + 1];
-            if b == COMPONENT_END[1] {
-                return front_of(j, ok, n);
-            }
-            ok = ok & (b == ESCAPED_ZERO[1]);
-            j += 1;
+            ok = ok & (k[at + j + 1] == ESCAPED_ZERO[1]);
         }
     }
-    front_of(j, ok, n)
+    front_of(w, ok, n)
 }
 
 // What counts on of a component behind a stretch: nothing if some component ended in it.
@@ -126,7 +113,7 @@ fn has_mark(k: &[u8], at: usize, mark: [u8; 2]) -> bool
     requires { at + 2 ≤ length k.now }
     ensures { result ≡ marked mark at k.now }
 {
-    (k[at] == mark[0]) & (k[at + 1] == mark[1])
+    [k[at], k[at + 1]] == mark
 }
 
 // Whether a component ends at a place, and then the path.
@@ -142,14 +129,12 @@ fn to_end(k: &[u8], at: usize, w: usize) -> usize
     requires { at + w < length k.now }
     ensures { (result ≤ w) × (endings result at k.now ≡ 0) × (result < w → ended (at + result) k.now ≡ true) }
 {
-    let mut j = 0;
-    while j < w {
+    for j in 0..w {
         if has_mark(k, at + j, COMPONENT_END) {
             return j;
         }
-        j += 1;
     }
-    j
+    w
 }
 
 // Whether the first n bytes are a path, in stretches. Where each 00 stands before a 01 or a 02 it begins a token, so the bytes that are not
@@ -164,11 +149,12 @@ fn shows_path(k: &[u8], n: usize) -> bool
         return false;
     }
     let stop = n - 4;
-    let mut at: usize = 0;
-    let mut len: usize = 0;
-    let mut others: usize = 0;
-    let mut ends: usize = 0;
+    let mut at = 0;
+    let mut len = 0;
+    let mut others = 0;
+    let mut ends = 0;
     let mut left = stop;
+    // Kept (3): a turn moves on by as many bytes as it counted, which no range tells beforehand.
     while STRETCH <= left {
         let c = counts_of(k, at, STRETCH);
         if passes(c.sound, len + c.others) {
@@ -201,12 +187,13 @@ fn is_path_to(k: &[u8], stop: usize) -> bool
     requires { stop + 2 ≤ length k.now }
     ensures { result ≡ takes (stop + 2) (read_path field k.now) }
 {
-    let mut at: usize = 0;
-    let mut len: usize = 0;
-    let mut total: usize = 0;
-    let mut ends: usize = 0;
+    let mut at = 0;
+    let mut len = 0;
+    let mut total = 0;
+    let mut ends = 0;
+    // Kept (3): a turn moves on by as many bytes as it counted, which no range tells beforehand.
     while at < stop {
-        let w = lesser(STRETCH, stop - at);
+        let w = STRETCH.min(stop - at);
         let c = counts_up_to(k, at, w);
         if c.ends == 0 {
             if !passes(c.sound, len + c.others) {
@@ -217,15 +204,13 @@ fn is_path_to(k: &[u8], stop: usize) -> bool
             at += w;
         } else {
             let f = counts_to_end(k, at, w);
-            let v = f.w;
-            let d = f.counts;
-            if !passes(d.sound, len + d.others) {
+            if !passes(f.counts.sound, len + f.counts.others) {
                 return false;
             }
             len = 0;
-            total += d.others;
+            total += f.counts.others;
             ends += 1;
-            at += v + 2;
+            at += f.w + 2;
         }
     }
     (len == 0) & (total <= MPL) & (ends <= MCC) & has_mark(k, stop, PATH_END)
@@ -236,13 +221,7 @@ fn is_path(k: &[u8], n: usize) -> bool
     requires { n ≤ length k.now }
     ensures { result ≡ takes n (read_path field k.now) }
 {
-    if n < 2 {
-        return false;
-    }
-    if shows_path(k, n) {
-        return true;
-    }
-    is_path_to(k, n - 2)
+    n >= 2 && (shows_path(k, n) || is_path_to(k, n - 2))
 }
 
 // Whether a key is a path with so many bytes before it and so many behind it.
@@ -250,10 +229,7 @@ fn is_key(key: &[u8], before: usize, behind: usize) -> bool
     requires { before + behind ≤ 24 }
     ensures { result ≡ fills before behind (length key.now) (read_path field (drop before key.now)) }
 {
-    if key.len() < before + behind {
-        return false;
-    }
-    is_path(&key[before..], key.len() - before - behind)
+    key.len() >= before + behind && is_path(&key[before..], key.len() - before - behind)
 }
 
 // Whether the bytes are a subspace-first key that an encoder writes.
@@ -264,6 +240,7 @@ pub fn is_spt_key(key: &[u8]) -> bool
 }
 
 // Whether the bytes are a time-first key that an encoder writes.
+// Kept (2): what the two share is `is_key`; the order as a type is the tree's, above.
 pub fn is_tsp_key(key: &[u8]) -> bool
     ensures { result ≡ was_read (read_tsp field key.now) }
 {

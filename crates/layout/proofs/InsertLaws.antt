@@ -11,15 +11,6 @@ use Rattle.layout.specs.Layout.{records, joined, pairs, tree_bytes, dir_numbers,
 use Rattle.layout.proofs.LaidLaws.{Laid, length_pairs, laid_end, joined-append, pairs-append, joined-split, drop-pair}
 use Rattle.layout.proofs.RetainLaws.{pair-front, pair-back, pair-length}
 
--- The sum that the code computes.
-pub end-sum : (k o l : ℕ) (dir : List ℕ) → (k ≡ 0 → ⊥) → o ≡ get_or dir (2 * (k - 1)) 0 → l ≡ get_or dir (2 * (k - 1) + 1) 0 → o + l ≡ end_at k dir
-end-sum zero o l dir h eo el = absurd (h refl)
-end-sum (suc k) o l dir h eo el =
-    let q : suc k - 1 ≡ k = omega arith in
-    let a : o ≡ get_or dir (2 * k) 0 = rw q at eo in
-    let b : l ≡ get_or dir (2 * k + 1) 0 = rw q at el in
-    rw (a, b)
-
 -- How much a record adds.
 pub length_inserted : (at : ℕ) (r : List ℕ) (recs : List (List ℕ)) → length (inserted at r recs) ≡ suc (length recs)
 length_inserted zero r recs = refl

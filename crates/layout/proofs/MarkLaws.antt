@@ -1,6 +1,6 @@
 -- What the marks of a test keep, select, count and find; a mark buffer that is longer than the list; how much is left of joined records.
 -- Assumes nothing.
-use mathlib.Core.Path.{◌≡◌, refl, ap}
+use mathlib.Core.Path.{◌≡◌, refl, sym, ap, ◌∙◌}
 use mathlib.Core.List.Memᴰ.{cases_cons as uncons}
 use mathlib.Core.List.Memᴰ.{head as here}
 use mathlib.Core.List.Memᴰ.{not-nil as none_in}
@@ -8,13 +8,16 @@ use mathlib.Core.List.Memᴰ.{tail as there}
 use mathlib.Core.List.{List, [], ◌∷◌, ◌++◌, map}
 use mathlib.Core.Logic.{⊎_elim}
 use mathlib.Core.Bool.{Bool, true, false, not, cond}
-use Prim.Native.Nat.{ℕ, zero, suc, ◌+◌, ◌*◌, ◌≤◌, ◌<◌}
+use Prim.Native.Nat.{ℕ, zero, suc, ◌+◌, ◌-◌, ◌*◌, ◌≤◌, ◌<◌}
 use native.Mathlib.Omega.{arith}
 use native.Mathlib.Numerals.{add-one}
-use lib.Dec.{eqb}
-use lib.ListN.{length, take, drop, get_or, length-append, drop_of_length-le}
-use lib.Seq.{drop-cons}
-use borrow.Author.Tests.{eq-eqb, ne_eqb}
+use lib.Dec.{eqb, ltb}
+use lib.ListN.{length, take, drop, get_or, length-append, length-drop, drop_of_length-le}
+use lib.Seq.{take_all, drop-cons}
+use borrow.Author.Tests.{eq-eqb, ne_eqb, ltb-false}
+use Rattle.std.specs.Prelude.{Option, Some, None}
+use Rattle.std.specs.List.{count_by, filter, position, position_or_len}
+use Rattle.std.proofs.lemmas.List.Sums.{length-filter}
 use Rattle.laws.specs.Sorted.{◌∈◌, any, keep, Ascends}
 use Rattle.laws.specs.Lists.{put}
 use Rattle.laws.proofs.Truth.{split}
@@ -227,12 +230,6 @@ module _ (ms : List ℕ) (k : ℕ) where
     next-mark : drop k ms ≡ get_or ms k 0 ∷ drop (k + 1) ms
     next-mark = rw (add-one k) (drop-cons ms k 0 h)
 
-    pub first-stop : get_or ms k 0 ≡ 1 → first_mark (drop k ms) ≡ 0
-    first-stop e = rw (next-mark, eq-eqb (get_or ms k 0) 1 e)
-
-    pub first_on : (get_or ms k 0 ≡ 1 → ⊥) → first_mark (drop k ms) ≡ suc (first_mark (drop (k + 1) ms))
-    first_on e = rw (next-mark, ne_eqb (get_or ms k 0) 1 e)
-
     pub count-one : get_or ms k 0 ≡ 1 → count_marks (drop k ms) ≡ suc (count_marks (drop (k + 1) ms))
     count-one e = rw (next-mark, eq-eqb (get_or ms k 0) 1 e)
 
@@ -248,11 +245,58 @@ module _ (ms : List ℕ) (k : ℕ) where
       marked-none e = rw (drop-pair dir k w, next-mark, ne_eqb (get_or ms k 0) 1 e)
 
   module _ (h : length ms ≤ k) where
-    pub first-end : first_mark (drop k ms) ≡ 0
-    first-end = rw (drop_of_length-le ms h)
-
     pub count-end : count_marks (drop k ms) ≡ 0
     count-end = rw (drop_of_length-le ms h)
 
     pub marked-end : (dir : List ℕ) → marked_pairs (drop k ms) (drop (2 * k) dir) ≡ []
     marked-end dir = rw (drop_of_length-le ms h)
+
+-- How many marks the library counts, and where it finds the first.
+pub count-is : (ms : List ℕ) → count_by (λ (m : ℕ). eqb m 1) ms ≡ count_marks ms
+count-is ms = sym (length-filter (λ (m : ℕ). eqb m 1) ms) ∙ ones ms
+  where
+    ones : (l : List ℕ) → length (filter (λ (m : ℕ). eqb m 1) l) ≡ count_marks l
+    ones [] = refl
+    ones (m ∷ l) = split (eqb m 1) (λ q. rw q (ap suc (ones l))) (λ q. rw q (ones l))
+
+first-is : (ms : List ℕ) → position_or_len (λ (m : ℕ). eqb m 1) ms ≡ first_mark ms
+first-is [] = refl
+first-is (m ∷ ms) = split (eqb m 1) (λ q. rw q refl) (λ q. rw q (omega (arith, first-is ms)))
+
+first_most : (ms : List ℕ) → first_mark ms ≤ length ms
+first_most [] = omega arith
+first_most (m ∷ ms) =
+    let h = first_most ms in
+    split (eqb m 1) (λ q. rw q (omega arith)) (λ q. rw q (omega arith))
+
+module _ (ms : List ℕ) (from : ℕ) where
+  behind : position (λ (m : ℕ). eqb m 1) (take (length ms - from) (drop from ms)) ≡ cond (ltb (first_mark (drop from ms)) (length (drop from ms))) (Some (first_mark (drop from ms))) None
+  behind =
+      let w : length (drop from ms) ≤ length ms - from = omega (arith, length-drop from ms) in
+      ap (position λ (m : ℕ). eqb m 1) (take_all (length ms - from) (drop from ms) w)
+      ∙ ap (λ (k : ℕ). cond (ltb k (length (drop from ms))) (Some k) None) (first-is (drop from ms))
+
+  pub marked_at : (k : ℕ) → position (λ (m : ℕ). eqb m 1) (take (length ms - from) (drop from ms)) ≡ Some k → from + k ≡ from + first_mark (drop from ms)
+  marked_at k e =
+      split (ltb (first_mark (drop from ms)) (length (drop from ms)))
+      (λ q. let h : Some (first_mark (drop from ms)) ≡ Some k = sym (behind ∙ rw q refl) ∙ e in ap (from +◌) (sym (some-is h)))
+      (λ q. let h : None ≡ Some k = sym (behind ∙ rw q refl) ∙ e in absurd (none-some h))
+    where
+      inside : Option ℕ → ℕ
+      inside None = 0
+      inside (Some n) = n
+
+      some-is : {a b : ℕ} → Some a ≡ Some b → a ≡ b
+      some-is h = ap inside h
+
+      none-some : {a : ℕ} → None ≡ Some a → ⊥
+      none-some h = let z : ◌≡◌ {A = ℕ} 0 1 = cc in omega arith
+
+  pub marked_nowhere : from ≤ length ms → position (λ (m : ℕ). eqb m 1) (take (length ms - from) (drop from ms)) ≡ None → length ms ≡ from + first_mark (drop from ms)
+  marked_nowhere w e =
+      split (ltb (first_mark (drop from ms)) (length (drop from ms)))
+      (λ q. let h : Some (first_mark (drop from ms)) ≡ None = sym (behind ∙ rw q refl) ∙ e in absurd (some-none h))
+      (λ q. omega (arith, length-drop from ms, first_most (drop from ms), ltb-false _ _ q))
+    where
+      some-none : {a : ℕ} → Some a ≡ None → ⊥
+      some-none h = let z : ◌≡◌ {A = ℕ} 0 1 = cc in omega arith

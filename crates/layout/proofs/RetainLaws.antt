@@ -5,7 +5,7 @@ use mathlib.Core.List.{List, [], ◌∷◌, ◌++◌, append_assoc, append-nil}
 use Prim.Native.Nat.{ℕ, suc, ◌+◌, ◌-◌, ◌*◌, ◌≤◌, ◌<◌}
 use native.Mathlib.Omega.{arith}
 use native.Mathlib.Numerals.{add-one}
-use native.Mathlib.Nat.{add-zero, zero-add}
+use native.Mathlib.Nat.{add-zero, zero-add, sub-zero}
 use lib.ListN.{length, take, drop, get_or, set, replicate, length-append, length-drop, length-set, drop_of_length-le, replicate-append-replicate}
 use lib.Seq.{paste, take-paste, drop-paste, length-paste, length-take-le, drop-drop, take_at, drop_at, drop-cons, get_or-drop, take-suc-set, drop-set-lt}
 use borrow.Author.Tests.{eq-eqb, ne_eqb}
@@ -79,19 +79,14 @@ clear_filled k l t f top h w n e g =
     let s : f - t + (top - f) ≡ top - length k = omega arith in
     rw (e, g, append_assoc, replicate-append-replicate, s)
 
--- A whole buffer cleared.
-pub clear-all : (l : List ℕ) (n : ℕ) → n ≡ length l → cleared 0 n l ≡ filled n []
-clear-all l n e =
-    let z : n - n ≡ 0 = omega arith in
-    clear_filled [] l 0 n n (omega arith) (omega arith) refl refl (drop_of_length-le l {i = n} (omega arith) ∙ ap (λ (x : ℕ). replicate {A = ℕ} x 0) (sym z))
+-- A whole buffer of zeros holds no records.
+pub open-tree : (l s : List ℕ) → s ≡ replicate (length l) 0 → s ≡ tree_bytes (length l) []
+unfolding tree_bytes filled
+open-tree l s e = e ∙ ap (λ (n : ℕ). replicate n 0) (sym (sub-zero (length l)))
 
-pub open-tree : (l : List ℕ) (n : ℕ) → n ≡ length l → cleared 0 n l ≡ tree_bytes (length l) []
-unfolding tree_bytes
-open-tree l n e = clear-all l n e ∙ ap (λ (x : ℕ). filled x []) e
-
-pub open-dir : (l : List ℕ) (n : ℕ) → n ≡ length l → cleared 0 n l ≡ dir_numbers (length l) []
-unfolding dir_numbers
-open-dir l n e = clear-all l n e ∙ ap (λ (x : ℕ). filled x []) e
+pub open-dir : (l s : List ℕ) → s ≡ replicate (length l) 0 → s ≡ dir_numbers (length l) []
+unfolding dir_numbers filled
+open-dir l s e = e ∙ ap (λ (n : ℕ). replicate n 0) (sym (sub-zero (length l)))
 
 -- The pass: ms and rs are the marks and the records still to come, dz and tz what stands behind the pairs and behind the records.
 pub record Moving (kb kn : List ℕ) (kc whole : ℕ) (dz tz ms : List ℕ) (rs : List (List ℕ)) (dir tree : List ℕ) (i n from to : ℕ) : Type 0 where
@@ -283,6 +278,9 @@ module _ {count : ℕ} {marks dir₀ tree₀ dir tree : List ℕ} {i n from to :
             first = v.first;
             moving = rw size_is (held opened e dir' tree' (rw size_is at ed) (rw size_is at et));
           }
+
+  pub pass-fewer : 2 * n ≤ 2 * i
+  pass-fewer = let b = v.moving.fewer in omega arith
 
   module _ (h : i ≡ count) where
     ended : At count marks (records count dir₀ tree₀) dir₀ tree₀ (drop i marks) [] dir tree i n from to

@@ -6,8 +6,9 @@ use Prim.Native.Nat.{ℕ, suc, ◌+◌, ◌≤◌, ◌<◌}
 use native.Mathlib.Omega.{arith}
 use native.Mathlib.Numerals.{add-one}
 use lib.Dec.{eqb}
+use borrow.Author.Tests.{eq-eqb, ne_eqb}
 use lib.ListN.{length, take, drop, set, get_or, length-set, take-append-drop, drop_of_length-le}
-use lib.Seq.{drop-cons, drop-set-lt, take-suc-set, take-append_seam}
+use lib.Seq.{drop-cons, drop-set-lt, set-get_or, take-suc-set, take-append_seam}
 use Rattle.laws.specs.Lists.{put}
 use Rattle.layout.specs.Marks.{marks_of, unmarked}
 use Rattle.layout.proofs.MarkLaws.{length-marks}
@@ -37,8 +38,16 @@ module _ (m₀ other m : List ℕ) (k : ℕ) (v : Unmarking m₀ other m k) wher
       ∙ sym (append_assoc (take k m) (w ∷ []) rest)
       ∙ ap₂ (λ (a b : List ℕ). a ++ unmarked b (drop (suc k) other)) (sym (take-suc-set m k w g)) (sym (drop-set-lt (suc k) m k w (omega arith)))
 
-  pub unmarking-next : k < length other → k < length m → (b : ℕ) → b ≡ cond (eqb (get_or other k 0) 1) 0 (get_or m k 0) → Unmarking m₀ other (set m k b) (k + 1)
+  unmarking-next : k < length other → k < length m → (b : ℕ) → b ≡ cond (eqb (get_or other k 0) 1) 0 (get_or m k 0) → Unmarking m₀ other (set m k b) (k + 1)
   unmarking-next h g b e = record { long = simp length-set v.long; left = rw (e, add-one k) (next-left h g) }
+
+  pub unmarking-one : k < length other → k < length m → get_or other k 0 ≡ 1 → Unmarking m₀ other (set m k 0) (k + 1)
+  unmarking-one h g e = unmarking-next h g 0 (sym (ap (λ (t : Bool). cond t 0 (get_or m k 0)) (eq-eqb _ 1 e)))
+
+  pub unmarking-none : k < length other → k < length m → (get_or other k 0 ≡ 1 → ⊥) → Unmarking m₀ other m (k + 1)
+  unmarking-none h g n =
+      let v = unmarking-next h g (get_or m k 0) (sym (ap (λ (t : Bool). cond t 0 (get_or m k 0)) (ne_eqb _ 1 n))) in
+      rw (set-get_or m k 0) at v
 
   pub unmarking-end : length other ≤ k → m ≡ unmarked m₀ other
   unmarking-end h =

@@ -1,6 +1,5 @@
--- Buffers after a move, a clearing and a writing inside them; zeros; how two lists compare at their first difference.
-use Rattle.std.specs.Prelude.{List, [], ◌∷◌, ◌++◌, Bool, true, cond, ◌&&◌, ℕ, ◌+◌, ◌-◌, length, take, drop, replicate, eqb, ltb}
-use Rattle.laws.specs.Order.{Order, less, same, greater}
+-- Buffers after a move, a clearing and a writing inside them; zeros.
+use Rattle.std.specs.Prelude.{List, [], ◌∷◌, ◌++◌, Bool, true, ◌&&◌, ℕ, ◌+◌, ◌-◌, length, take, drop, replicate, eqb}
 
 -- With the n elements from `from` on written once more from `to` on.
 unfoldable pub moved : ℕ → ℕ → ℕ → List ℕ → List ℕ
@@ -21,10 +20,3 @@ filled n xs = xs ++ replicate (n - length xs) 0
 unfoldable pub all_zero : List ℕ → Bool
 all_zero [] = true
 all_zero (x ∷ xs) = eqb x 0 && all_zero xs
-
--- How two lists compare that differ in their first elements, or of which one has none.
-unfoldable pub by_first : List ℕ → List ℕ → Order
-by_first [] [] = same
-by_first [] (b ∷ l) = less
-by_first (a ∷ k) [] = greater
-by_first (a ∷ k) (b ∷ l) = cond (ltb a b) less greater

@@ -1,8 +1,12 @@
 // The directory: a pair of 32-bit numbers, offset and length, for each record; and the record that a pair cuts out of the bytes.
+// Kept (5): `2 * k + 1 < length dir`: a type for pairs would be a slice of structs, and 01 has numbers.
+// Kept (6): 01 fixes the directory as a lent slice of 32-bit numbers; a slice of structs is what crate pairs writes.
 ghost use Rattle.std.specs.Prelude.{◌≡◌, ◌+◌, ◌*◌, ◌≤◌, ◌<◌, ◌^◌, length, set, get_or, drop};
 ghost use Rattle.laws.specs.Parts.{PartBegins};
-ghost use Rattle.layout.specs.Buffers.{cleared, all_zero};
+ghost use Rattle.layout.specs.Buffers.{all_zero};
 ghost use Rattle.layout.specs.Layout.{CutsOut, record_at, offset_at};
+
+use crate::bytes::all_are;
 
 // The offset in pair k.
 pub fn offset(dir: &[u32], k: usize) -> usize
@@ -27,8 +31,7 @@ pub fn record_at<'a>(tree: &'a [u8], dir: &[u32], k: usize) -> &'a [u8]
     ensures part_begins { PartBegins tree.entry.ref_ptr result.ref_ptr (offset_at k dir.now) }
 {
     let o = offset(dir, k);
-    let e = o + size(dir, k);
-    &tree[o..e]
+    &tree[o..o + size(dir, k)]
 }
 
 // Writes offset o and length l as pair k.
@@ -40,28 +43,10 @@ pub fn put_pair(dir: &mut [u32], k: usize, o: usize, l: usize)
     dir[2 * k + 1] = l as u32;
 }
 
-// Zeroes the numbers from `from` up to `to`.
-pub fn clear_numbers(dir: &mut [u32], from: usize, to: usize)
-    requires { (from ≤ to) × (to ≤ length dir.old) }
-    ensures { dir.new ≡ cleared from to dir.old }
-{
-    let mut i = from;
-    while i < to {
-        dir[i] = 0;
-        i += 1;
-    }
-}
-
 // Whether the numbers from `from` on are zero.
 pub fn zero_numbers(dir: &[u32], from: usize) -> bool
     requires { from ≤ length dir.now }
     ensures { result ≡ all_zero (drop from dir.now) }
 {
-    let mut i = from;
-    let mut ok = true;
-    while i < dir.len() {
-        ok = ok & (dir[i] == 0);
-        i += 1;
-    }
-    ok
+    all_are(&dir[from..], 0)
 }

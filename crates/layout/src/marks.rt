@@ -10,31 +10,17 @@ pub fn first_marked(marks: &[u8], from: usize) -> usize
     requires { from ≤ length marks.now }
     ensures { result ≡ from + first_mark (drop from marks.now) }
 {
-    let mut k = from;
-    while k < marks.len() {
-        if marks[k] == 1 {
-            return k;
-        }
-        k += 1;
+    match marks[from..].iter().position(|mark| *mark == 1) {
+        Some(k) => from + k,
+        None => marks.len(),
     }
-    k
 }
 
 // How many marks are 1.
 pub fn count_marked(marks: &[u8]) -> usize
     ensures { result ≡ count_marks marks.now }
 {
-    let mut k: usize = 0;
-    let mut n: usize = 0;
-    while k < marks.len() {
-        if marks[k] == 1 {
-            n += 1;
-            k += 1;
-        } else {
-            k += 1;
-        }
-    }
-    n
+    marks.iter().filter(|mark| **mark == 1).count()
 }
 
 // Writes the pairs of the marked records at the front of `out`, as they stand and in their order, and answers how many.
@@ -42,25 +28,14 @@ pub fn write_pairs(dir: &[u32], marks: &[u8], out: &mut [u32]) -> usize
     requires { (2 * length marks.now ≤ length dir.now) × (2 * count_marks marks.now ≤ length out.old) }
     ensures { (result ≡ count_marks marks.now) × (out.new ≡ put (marked_pairs marks.now dir.now) out.old) }
 {
-    let mut k: usize = 0;
-    let mut n: usize = 0;
-    while k < marks.len() {
-        if marks[k] == 1 {
+    let mut n = 0;
+    for (k, mark) in marks.iter().enumerate() {
+        if *mark == 1 {
             put_pair(out, n, offset(dir, k), size(dir, k));
             n += 1;
-            k += 1;
-        } else {
-            k += 1;
         }
     }
     n
-}
-
-// A mark, or 0 where another mark is 1.
-fn without(mark: u8, other: u8) -> u8
-    ensures { result ≡ cond (eqb other 1) 0 mark }
-{
-    if other == 1 { 0 } else { mark }
 }
 
 // Zeroes the marks of what `other` marks too. Marks behind the last of `other` stay.
@@ -68,9 +43,9 @@ pub fn unmark(marks: &mut [u8], other: &[u8])
     requires { length other.now ≤ length marks.old }
     ensures { marks.new ≡ unmarked marks.old other.now }
 {
-    let mut k: usize = 0;
-    while k < other.len() {
-        marks[k] = without(marks[k], other[k]);
-        k += 1;
+    for (k, taken) in other.iter().enumerate() {
+        if *taken == 1 {
+            marks[k] = 0;
+        }
     }
 }

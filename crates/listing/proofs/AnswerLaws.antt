@@ -12,7 +12,6 @@ use Rattle.data_model.specs.Path.{Figures, field}
 use Rattle.tree.specs.declared.stored.KeyOrder.TheVariants.{Spt}
 use Rattle.store.specs.Store.{held, Tallied}
 use Rattle.text.specs.Fields.{front}
-use Rattle.text.specs.declared.entry_line.EntryLine.{EntryLine}
 use Rattle.text.proofs.FieldLaws.{front-take}
 use Rattle.text.proofs.LineLaws.{line-cut}
 use Rattle.listing.specs.Input.{newline, ended_lines, begun_line, last_line}
@@ -41,7 +40,7 @@ module _ (f : Figures) where
 module _ (f : Figures) where
   carried-cut : (s : Tallied) (prune l : List ℕ) → line_carried f s prune (take kept_most l) ≡ line_carried f s prune l
   unfolding line_carried
-  carried-cut s prune l = ap (λ (x : EntryLine). carried_by f s prune x x.outcome) (line-cut l kept_most (omega arith))
+  carried-cut s prune l = ap (carried_by f s prune) (line-cut l kept_most (omega arith))
 
   pub lines_cut : (w : Left) (ls : List (List ℕ)) → lines_carried f w (map (take kept_most) ls) ≡ lines_carried f w ls
   unfolding lines_carried

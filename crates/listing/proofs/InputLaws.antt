@@ -1,11 +1,12 @@
 -- A line's buffer as bytes are added to it; lines taken off the front of bytes; the lines of two pieces joined; lines that are cut. Assumes nothing.
-use Prim.Native.Nat.{ℕ, zero, suc, ◌+◌, ◌-◌, ◌≤◌, ◌<◌}
+use Prim.Native.Nat.{min, ℕ, zero, suc, ◌+◌, ◌-◌, ◌≤◌, ◌<◌}
 use mathlib.Core.Path.{◌≡◌, refl, sym, ap, ◌∙◌}
 use mathlib.Core.List.{List, [], ◌∷◌, ◌++◌, map, append_assoc, append-nil}
 use native.Mathlib.Omega.{arith}
 use lib.ListN.{length, take, drop, length-append, length-take}
 use lib.Seq.{take_all, take_at, length-take-le, take-append-add}
-use lib.Dec.{eqb}
+use lib.Dec.{eqb, leb}
+use borrow.Author.Tests.{leb-true, leb-false}
 use borrow.Rule.Slice.PartMut.{put_mid, mid_of}
 use Rattle.laws.specs.Lists.{put}
 use Rattle.laws.proofs.Truth.{split}
@@ -35,6 +36,20 @@ module _ (line bytes last : List ℕ) (n m : ℕ) (h : n ≤ length line) where
       let k : length line ≡ length (take n line) + (length line - n) = omega (arith, length-take-le n line h) in
       added line (take (length line - n) bytes) last n m h e (omega (arith, e, length-take (length line - n) bytes)) l
       ∙ sym (ap (λ (i : ℕ). take i (take n line ++ bytes)) k ∙ take-append-add (take n line) bytes (length line - n))
+
+  -- As many of the bytes as there is room for.
+  pub added-most : (k : ℕ) → k ≡ min (length bytes) (length line - n) → m ≡ length (take k bytes) → last ≡ put (take k bytes) (mid_of n (length line - n) line)
+      → take (n + m) (put_mid n (length line - n) line last) ≡ take (length line) (take n line ++ bytes)
+  added-most k q e l =
+      split (leb (length bytes) (length line - n))
+      (λ b.
+      let f : length bytes ≤ length line - n = leb-true (length bytes) (length line - n) b in
+      let all : take k bytes ≡ bytes = take_all k bytes (omega arith) in
+      added-all f (e ∙ ap length all) (l ∙ ap (λ (x : List ℕ). put x (mid_of n (length line - n) line)) all))
+      (λ b.
+      let f : length line - n < length bytes = leb-false (length bytes) (length line - n) b in
+      let some : k ≡ length line - n = omega arith in
+      added-front f (e ∙ ap (λ (i : ℕ). length (take i bytes)) some) (l ∙ ap (λ (i : ℕ). put (take i bytes) (mid_of n (length line - n) line)) some))
 
 -- The bytes have a newline: the first line ends there, and the rest stands behind it.
 pub ended-more : (line s : List ℕ) → length (front newline s) < length s → ended_lines line s ≡ (line ++ front newline s) ∷ ended_lines [] (drop (suc (length (front newline s))) s)

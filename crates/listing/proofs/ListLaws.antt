@@ -1,12 +1,12 @@
 -- The list of a store as it is written: all records match, and as many as were counted; a line more at each turn. Assumes nothing.
 use Prim.Native.Nat.{ℕ, ◌+◌, ◌-◌, ◌*◌, ◌≤◌, ◌<◌}
-use mathlib.Core.Path.{◌≡◌, refl, sym, ap, subst, ◌∙◌}
+use mathlib.Core.Path.{◌≡◌, refl, sym, ap, subst, ◌∙◌, ap₂}
 use mathlib.Core.List.{List, [], ◌∷◌, ◌++◌, append_assoc}
-use mathlib.Core.Bool.{Bool, true}
+use mathlib.Core.Bool.{Bool, true, false}
 use mathlib.Core.Option.{some}
 use native.Mathlib.Omega.{arith}
 use lib.ListN.{length, drop, length-append}
-use lib.Seq.{drop_at, drop-drop, length-take-le}
+use lib.Seq.{drop_at, drop-drop}
 use lib.Dec.{eqb, ltb}
 use borrow.Author.Tests.{eqb-true, le-ltb}
 use borrow.Rule.Slice.PartMut.{put_mid, mid_of}
@@ -19,10 +19,9 @@ use Rattle.laws.proofs.Lists.{Wrote, wrote-first, wrote-lent, wrote-length, wrot
 use Rattle.data_model.specs.Ignore.{no_flags}
 use Rattle.data_model.specs.Said.{says}
 use Rattle.data_model.specs.Path.{field, legal, joined, is_path, path_of}
-use Rattle.data_model.specs.Range.{times_include, includes, before_end, times_end}
+use Rattle.data_model.specs.Range.{times_include, includes, before_end, end_says}
 use Rattle.data_model.specs.Area.{area_subspace, area_includes}
 use Rattle.data_model.specs.declared.area.Area.{Area}
-use Rattle.keys.specs.Encode.{key_most}
 use Rattle.key_laws.specs.Bytes.{Bytes}
 use Rattle.key_laws.proofs.Fits.{legal-of, components-of, bytes_take}
 use Rattle.tree.specs.Value.{value_length}
@@ -37,10 +36,12 @@ use Rattle.store.specs.Store.{Store, limit_most, tree_room, tree_of, dir_of, hel
 use Rattle.store.specs.Refusal.{store_refusal, unless, ◌or_else◌}
 use Rattle.query.specs.Reading.{read_refusal, area_refusal}
 use Rattle.query.specs.Listing.{area_listed, part_of, area_part}
-use Rattle.query.specs.Count.{area_counted}
+use Rattle.query.specs.Count.{Counted, count_told, area_counted}
+use Rattle.std.specs.Prelude.{Result, Ok, Err}
+use Rattle.std.specs.Result.{result_unwrap_or}
+use Rattle.data_model.specs.declared.answer.Refusal.{Refusal}
 use Rattle.query.specs.Walk.{Walked, turns_on, matching}
-use Rattle.query.specs.declared.answer.Counted.{Counted}
-use Rattle.query.proofs.Tested.{read-tested, formed-spt}
+use Rattle.query.proofs.Tested.{read-tested}
 use Rattle.tree.proofs.TestLaws.{unflagged-area}
 use Rattle.query.proofs.GivenLaws.{answered}
 use Rattle.query.proofs.Walked.{area-lists, area-counts}
@@ -71,7 +72,7 @@ record-lines ns (r ∷ rs) =
 
 -- The area includes everything.
 every-time : (t : ℕ) → times_include every_entry.times t ≡ true
-unfolding times_include includes before_end times_end by_number is_less
+unfolding times_include includes before_end end_says by_number is_less
 every-time t = let a = le-ltb t 0 (omega arith) in split (ltb 0 t) (λ q. rw (a, q)) (λ q. rw (a, q))
 
 every_one : (x : Stored) → listed_in_area every_entry no_flags x ≡ true
@@ -123,6 +124,18 @@ module _ (s : Store) where
           ap (λ (n : ℕ). numbered list_word n ++ record_lines recs) count_held
           ∙ ap (λ (x : List ℕ). numbered list_word (length (held field Spt s)) ++ x) (record-lines s.state.namespace_id recs ∙ ap entry_lines all_held)
 
+-- What a count answers, and 0 where it is refused.
+pub count_or : (r : Result ℕ Refusal) → result_unwrap_or r 0 ≡ (count_told r).count
+count_or (Ok n) = refl
+count_or (Err e) = refl
+
+-- The two flags of an ignore, both unset.
+pub unset : (g : QueryIgnoreParams) → (g.ignore_incomplete_payloads ≡ false) × (g.ignore_empty_payloads ≡ false) → g ≡ no_flags
+unset g h = ap₂ flags h.0 h.1
+  where
+    flags : Bool → Bool → QueryIgnoreParams
+    flags a b = record { ignore_incomplete_payloads = a; ignore_empty_payloads = b }
+
 -- How far the list is written: the records left are as many as are still to come, and walked from the remembered key.
 pub record Listing (s : Store) (area : Area) (ignore : QueryIgnoreParams) (whole old out last : List ℕ) (at left : ℕ) : Type 0 where
   pub rs : List (List ℕ)
@@ -139,25 +152,24 @@ module _ (s : Store) (area : Area) (ignore : QueryIgnoreParams) where
   walked_next last [] w h = absurd (omega arith)
   walked_next last (r ∷ rs) w h = (r, w.0.0)
 
-  -- It is a record: a value, and before it a key that a buffer for a key has room for.
-  given-fits : (last r : List ℕ) → area_listed field s area ignore last ≡ says (some r) → Bytes s.spt → (value_length ≤ length r) × (length (key_of r) ≤ key_most field)
+  -- It is a record, with room for a value.
+  given-fits : (last r : List ℕ) → area_listed field s area ignore last ≡ says (some r) → Bytes s.spt → value_length ≤ length r
   unfolding tree_of
   given-fits last r e bytes =
       let k = answered s (legal field area.path) (listed_in_area area ignore) last (some r) e in
       let f = formed-recorded (k.0.formed Spt) (bytes_take (tree_room field s.state.limit) s.spt bytes) r k.2.among in
       let v = record-forth Spt field s.state.namespace_id r f.0 f.1 in
-      let m = v.most in
       let n = v.least in
-      (omega arith, omega (arith, length-take-le (length r - value_length) r (omega arith)))
+      omega arith
 
   module _ (whole old out last : List ℕ) (at left : ℕ) where
     -- As long as some are left, the part is one of them.
     pub listing-given : Listing s area ignore whole old out last at left → 0 < left → Bytes s.spt → (rec : List ℕ) → rec ≡ area_part field s area ignore last
-        → (value_length ≤ length rec) × (length (key_of rec) ≤ key_most field)
+        → value_length ≤ length rec
     listing-given g h bytes rec er =
         let n = walked_next last g.rs g.walks (omega (arith, g.many)) in
         let e : rec ≡ n.0 = er ∙ ap part_of n.1 in
-        subst (λ (r : List ℕ). (value_length ≤ length r) × (length (key_of r) ≤ key_most field)) (sym e) (given-fits last n.0 n.1 bytes)
+        subst (λ (r : List ℕ). value_length ≤ length r) (sym e) (given-fits last n.0 n.1 bytes)
 
     turn : (rs : List (List ℕ)) → Walk last rs → length rs ≡ left → Wrote whole (record_lines rs) old out at → at + entry_line_most * left ≤ length out → 0 < left
         → (rec : List ℕ) → rec ≡ area_part field s area ignore last → (n : ℕ) (end : List ℕ) → n ≡ length (line_of rec) → n ≤ entry_line_most
@@ -196,7 +208,7 @@ module _ (s : Store) (area : Area) (ignore : QueryIgnoreParams) (ea : area ≡ e
   unfolding held tree_of dir_of
   few-counted =
       let p = (read-tested s (legal field every_entry.path) (passes s z)).0 in
-      let n : length (held field Spt s) ≡ s.state.count = formed-many (formed-spt s p) s.state.namespace_id in
+      let n : length (held field Spt s) ≡ s.state.count = formed-many (p.formed Spt) s.state.namespace_id in
       let h = count_held s z w every-counted in
       (omega (arith, h, n, p.few), omega (arith, h, n, p.few, p.most))
 

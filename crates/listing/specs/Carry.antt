@@ -1,5 +1,5 @@
 -- A line carried out on a store: the answer that is printed, and what the store, its tally and the prune list are afterwards.
-use Rattle.std.specs.Prelude.{ℕ, List, [], ◌∷◌, false, replicate}
+use Rattle.std.specs.Prelude.{ℕ, List, [], ◌∷◌, false, replicate, Result, Ok, Err}
 use Rattle.data_model.specs.Said.{Said, refuses, says}
 use Rattle.data_model.specs.Path.{Figures}
 use Rattle.data_model.specs.Refusal.{illegal_path}
@@ -10,8 +10,8 @@ use Rattle.store.specs.Ingest.{Verdict, succeeds, is-obsolete, is-held, IngestOu
 use Rattle.store.specs.declared.state.State.{State}
 use Rattle.store.specs.declared.ingest.Ingestion.{Ingestion}
 use Rattle.text.specs.EntryLine.{line_read}
-use Rattle.text.specs.declared.path.Outcome.{Outcome}
-use Rattle.text.specs.declared.path.Outcome.TheVariants as outcome
+use Rattle.text.specs.declared.path.FieldError.{FieldError}
+use Rattle.text.specs.declared.path.FieldError.TheVariants.{Illegal, Bad}
 use Rattle.text.specs.declared.entry_line.EntryLine.{EntryLine}
 use Rattle.listing.specs.declared.carry.Answer.{Answer}
 use Rattle.listing.specs.declared.carry.Answer.TheVariants as answer
@@ -40,10 +40,9 @@ answer_of (says is-held) = answer.Held
 answer_of (refuses n) = answer.Refused n
 
 -- The answer to a line that says no entry.
-unfoldable pub answer_without : Outcome → Answer
-answer_without outcome.Good = answer.Bad
-answer_without outcome.Illegal = answer.Refused illegal_path
-answer_without outcome.Bad = answer.Bad
+unfoldable pub answer_without : FieldError → Answer
+answer_without Illegal = answer.Refused illegal_path
+answer_without Bad = answer.Bad
 
 pub record LineOutcome : Type 0 where
   pub answer : Answer
@@ -57,13 +56,12 @@ abbrev pub after_ingest : IngestOutcome → LineOutcome
 after_ingest o = record { answer = answer_of o.answer.verdict; tallied = o.left; prune = o.prune }
 
 -- The entry of a good line is ingested; a line that is answered `bad` or `refused 4` leaves all as it is.
-unfoldable pub carried_by : Figures → Tallied → (prune : List ℕ) → EntryLine → Outcome → LineOutcome
-carried_by f s prune e outcome.Good = after_ingest (ingested f s prune (ingestion_of_line e))
-carried_by f s prune e outcome.Illegal = record { answer = answer_without outcome.Illegal; tallied = s; prune = prune }
-carried_by f s prune e outcome.Bad = record { answer = answer_without outcome.Bad; tallied = s; prune = prune }
+unfoldable pub carried_by : Figures → Tallied → (prune : List ℕ) → Result EntryLine FieldError → LineOutcome
+carried_by f s prune (Ok e) = after_ingest (ingested f s prune (ingestion_of_line e))
+carried_by f s prune (Err why) = record { answer = answer_without why; tallied = s; prune = prune }
 
 unfoldable pub line_carried : Figures → Tallied → (prune line : List ℕ) → LineOutcome
-line_carried f s prune line = carried_by f s prune (line_read line) (line_read line).outcome
+line_carried f s prune line = carried_by f s prune (line_read line)
 
 -- Lines carried out one after another, each on what the one before it left: a store with its tally, and a prune list.
 pub record Left : Type 0 where

@@ -12,7 +12,7 @@ ghost use Rattle.listing.specs.Program.{program_limit, answers_and_list, AfterRe
 use crate::carry::carry_out;
 use crate::list::write_list;
 use crate::say::write_answer;
-use store::state::State;
+use store::state::{State, Store};
 use text::line::{field_end, write_bytes};
 
 // The state that lines leave, and how many bytes their answers have.
@@ -35,12 +35,11 @@ fn append(line: &mut [u8], n: usize, bytes: &[u8]) -> usize
     requires { n ≤ length line.old }
     ensures { (result ≤ length line.old) × (take result line.new ≡ take (length line.old) (take n line.old ++ bytes.now)) }
 {
-    let room = line.len() - n;
-    if room < bytes.len() {
-        return n + write_bytes(&bytes[..room], &mut line[n..]);
-    }
-    n + write_bytes(bytes, &mut line[n..])
+    let taken = bytes.len().min(line.len() - n);
+    n + write_bytes(&bytes[..taken], &mut line[n..])
 }
+
+// Kept (5): the store's buffers are lent one by one: a clause could name what a struct of `&mut` leaves only by the numbers of its parts.
 
 // A line, carried out and answered.
 fn answer_line(
@@ -58,10 +57,10 @@ fn answer_line(
     ensures { (result.written ≤ answer_text_most) × (as_written result spt.new spt_dir.new tsp.new tsp_dir.new tally.new prune.new out.new ≡ lines_written field (leaving given spt.old spt_dir.old tsp.old tsp_dir.old tally.old prune.old) (line.now ∷ []) out.old) }
 {
     let a = carry_out(line, given, spt, spt_dir, tsp, tsp_dir, tally, prune);
-    let answer = a.answer;
-    let state = a.state;
-    let n = write_answer(answer, out);
-    Answered { state, written: n }
+    Answered {
+        state: a.state,
+        written: write_answer(a.answer, out),
+    }
 }
 
 // A part of the input: every line whose newline stands in it, the first of them behind the first so_far bytes of `line`. Of the line
@@ -84,14 +83,14 @@ pub fn answer_part(
 {
     let mut state = given;
     let mut n = so_far;
-    let mut at: usize = 0;
-    let mut to: usize = 0;
+    let mut at = 0;
+    let mut to = 0;
     let mut stop = field_end(bytes, b'\n', 0);
+    // Kept (3): `split` would hand out what stands behind the last newline as it hands out the lines that have ended.
     while stop < bytes.len() {
         let m = append(line, n, &bytes[at..stop]);
-        let l = &line[..m];
         let a = answer_line(
-            l,
+            &line[..m],
             state,
             spt,
             spt_dir,
@@ -101,18 +100,16 @@ pub fn answer_part(
             prune,
             &mut out[to..],
         );
-        let after = a.state;
-        state = after;
+        state = a.state;
         to += a.written;
         n = 0;
         at = stop + 1;
         stop = field_end(bytes, b'\n', at);
     }
-    let kept = append(line, n, &bytes[at..]);
     Part {
         state,
         written: to,
-        kept,
+        kept: append(line, n, &bytes[at..]),
     }
 }
 
@@ -131,7 +128,7 @@ fn answer_last(
     requires { answer_text_most ≤ length out.old }
     ensures { (result.written ≤ answer_text_most) × (as_written result spt.new spt_dir.new tsp.new tsp_dir.new tally.new prune.new out.new ≡ lines_written field (leaving given spt.old spt_dir.old tsp.old tsp_dir.old tally.old prune.old) (last_line line.now) out.old) }
 {
-    if line.len() == 0 {
+    if line.is_empty() {
         return Answered {
             state: given,
             written: 0,
@@ -156,7 +153,12 @@ pub fn answer_end(
     ensures { (result ≡ length (answers_and_list (leaving given spt.old spt_dir.old tsp.old tsp_dir.old tally.old prune.old) (last_line line.now))) × (result ≤ length out.old) × (out.new ≡ put (answers_and_list (leaving given spt.old spt_dir.old tsp.old tsp_dir.old tally.old prune.old) (last_line line.now)) out.old) }
 {
     let a = answer_last(line, given, spt, spt_dir, tsp, tsp_dir, tally, prune, out);
-    let state = a.state;
-    let n = a.written;
-    n + write_list(state, spt, spt_dir, tsp, tsp_dir, &mut out[n..])
+    let store = Store {
+        state: a.state,
+        spt,
+        spt_dir,
+        tsp,
+        tsp_dir,
+    };
+    a.written + write_list(store, &mut out[a.written..])
 }

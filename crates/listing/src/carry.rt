@@ -2,28 +2,34 @@
 ghost use Rattle.std.specs.Prelude.{◌≡◌};
 ghost use Rattle.data_model.specs.Path.{field};
 ghost use Rattle.store.specs.Store.{tallied_of};
-ghost use Rattle.store.specs.Ingest.{verdict_says};
+ghost use Rattle.store.specs.Ingest.{ingested_says};
 ghost use Rattle.listing.specs.Carry.{entry_of_line, ingestion_of_line, answer_of, answer_without, line_outcome, line_carried};
 
-use data_model::answer::ILLEGAL_PATH;
+use data_model::answer::Refusal;
 use data_model::entry::Entry;
 use data_model::entry_origin::EntryOrigin;
 use data_model::parameters::Subspace;
-use keys::number::wide;
-use store::ingest::{IngestVerdict, Ingestion, ingest_entry_numbers};
+use store::ingest::{Ingested, Ingestion, ingest_entry_numbers};
 use store::state::State;
 use text::entry_line::{EntryLine, read_line};
-use text::path::Outcome;
+use text::path::FieldError;
 
-#[derive(Clone, Copy)]
+// What a line is answered.
+#[derive(Clone, Copy, PartialEq, Eq, Debug)]
 pub enum Answer {
+    // The entry was stored.
     Ok,
+    // A newer entry stands in its place.
     Obsolete,
+    // The entry is held already.
     Held,
+    // The line is not of the form.
     Bad,
+    // Kept (1): `answer_of` of the specs is handed a `Said`, whose refusal is a number, and from a number no `Refusal` can be had.
     Refused(u8),
 }
 
+// The answer to a line, and the state that it leaves.
 #[derive(Clone, Copy)]
 pub struct Carried {
     pub answer: Answer,
@@ -34,18 +40,16 @@ pub struct Carried {
 fn entry_of(e: EntryLine) -> Entry
     ensures { result ≡ entry_of_line e }
 {
-    let path = e.path;
-    let digest = e.digest;
     Entry {
         namespace_id: [0; 16],
         subspace_id: Subspace {
             high: 0,
-            low: wide(e.subspace),
+            low: u64::from(e.subspace),
         },
-        path,
+        path: e.path,
         timestamp: e.timestamp,
         payload_length: e.payload_length,
-        payload_digest: [digest; 32],
+        payload_digest: [e.digest; 32],
     }
 }
 
@@ -53,36 +57,51 @@ fn entry_of(e: EntryLine) -> Entry
 fn ingestion_of_line(e: EntryLine) -> Ingestion
     ensures { result ≡ ingestion_of_line e }
 {
-    let entry = entry_of(e);
     Ingestion {
-        entry,
+        entry: entry_of(e),
         token: [0; 64],
         prevent_pruning: false,
         origin: EntryOrigin::Local,
     }
 }
 
-fn answer_of(verdict: IngestVerdict) -> Answer
-    ensures { result ≡ answer_of (verdict_says verdict) }
+// The answer to an ingestion, and the state that it leaves of the one handed in.
+#[tactic(auto, unfolding(crate::specs::Carry::answer_of))]
+fn outcome_of(ingested: Result<Ingested, Refusal>, handed: State) -> Carried
+    ensures { (result.answer ≡ answer_of (ingested_says handed ingested).verdict) × (result.state ≡ (ingested_says handed ingested).state) }
 {
-    match verdict {
-        IngestVerdict::Success(_) => Answer::Ok,
-        IngestVerdict::Obsolete => Answer::Obsolete,
-        IngestVerdict::Held => Answer::Held,
-        IngestVerdict::Refused(n) => Answer::Refused(n),
+    match ingested {
+        Ok(Ingested::Success { state, .. }) => Carried {
+            answer: Answer::Ok,
+            state,
+        },
+        Ok(Ingested::Obsolete { .. }) => Carried {
+            answer: Answer::Obsolete,
+            state: handed,
+        },
+        Ok(Ingested::Held) => Carried {
+            answer: Answer::Held,
+            state: handed,
+        },
+        Err(refusal) => Carried {
+            answer: Answer::Refused(u8::from(refusal)),
+            state: handed,
+        },
     }
 }
 
 // The answer to a line that says no entry.
-fn answer_without(outcome: Outcome) -> Answer
-    ensures { result ≡ answer_without outcome }
+#[tactic(auto, unfolding(crate::specs::Carry::answer_without))]
+fn answer_without(why: FieldError) -> Answer
+    ensures { result ≡ answer_without why }
 {
-    match outcome {
-        Outcome::Good => Answer::Bad,
-        Outcome::Illegal => Answer::Refused(ILLEGAL_PATH),
-        Outcome::Bad => Answer::Bad,
+    match why {
+        FieldError::Illegal => Answer::Refused(u8::from(Refusal::IllegalPath)),
+        FieldError::Bad => Answer::Bad,
     }
 }
+
+// Kept (5): the store's buffers are lent one by one: a clause could name what a struct of `&mut` leaves only by the numbers of its parts.
 
 // Pruning is never prevented; tokens are 0; every entry is filed as local.
 pub fn carry_out(
@@ -97,28 +116,23 @@ pub fn carry_out(
 ) -> Carried
     ensures { line_outcome result spt.new spt_dir.new tsp.new tsp_dir.new tally.new prune.new ≡ line_carried field (tallied_of state spt.old spt_dir.old tsp.old tsp_dir.old tally.old) prune.old line.now }
 {
-    let e = read_line(line);
-    let outcome = e.outcome;
-    if let Outcome::Good = outcome {
-        let given = ingest_entry_numbers(
+    match read_line(line) {
+        Ok(e) => {
+            let ingested = ingest_entry_numbers(
+                state,
+                spt,
+                spt_dir,
+                tsp,
+                tsp_dir,
+                tally,
+                prune,
+                ingestion_of_line(e),
+            );
+            outcome_of(ingested, state)
+        }
+        Err(why) => Carried {
+            answer: answer_without(why),
             state,
-            spt,
-            spt_dir,
-            tsp,
-            tsp_dir,
-            tally,
-            prune,
-            ingestion_of_line(e),
-        );
-        let verdict = given.verdict;
-        let after = given.state;
-        return Carried {
-            answer: answer_of(verdict),
-            state: after,
-        };
-    }
-    Carried {
-        answer: answer_without(outcome),
-        state,
+        },
     }
 }

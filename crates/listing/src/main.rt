@@ -48,48 +48,12 @@ struct Begun {
     kept: usize,
 }
 
-fn tree_bytes() -> [u8; TREE]
-    ensures { length result ≡ tree_room field program_limit }
-{
-    [0; TREE]
-}
-
-fn numbers() -> [u32; NUMBERS]
-    ensures { length result ≡ dir_room program_limit }
-{
-    [0; NUMBERS]
-}
-
-fn tally_bytes() -> [u8; TALLY]
-    ensures { length result ≡ tally_room program_limit }
-{
-    [0; TALLY]
-}
-
-fn read_bytes() -> [u8; READ]
-    ensures { length result ≡ read_most }
-{
-    [0; READ]
-}
-
-// Room for an answer to each byte of a read, should all be newlines.
-fn answer_bytes() -> [u8; ANSWERS]
-    ensures { length result ≡ answer_text_most * read_most }
-{
-    [0; ANSWERS]
-}
-
-fn line_bytes() -> [u8; KEPT]
-    ensures { length result ≡ kept_most }
-{
-    [0; KEPT]
-}
-
 // Reads until the buffer is full or the input has ended; answers how many bytes were read.
 fn read_full<R: Read>(reader: &mut R, bytes: &mut [u8]) -> io::Result<usize>
     ensures { IfOk result (λ n. n ≤ length bytes.new) }
 {
-    let mut done: usize = 0;
+    let mut done = 0;
+    // Kept (3): how many places a turn goes on is what its read says.
     while done < bytes.len() {
         let n = reader.read(&mut bytes[done..])?;
         if n == 0 {
@@ -100,18 +64,9 @@ fn read_full<R: Read>(reader: &mut R, bytes: &mut [u8]) -> io::Result<usize>
     Ok(done)
 }
 
-// How many reads may still come. One that does not fill its buffer was the last: the input has ended.
-fn reads_left(turns: u64, got: usize) -> u64
-    requires { 0 < turns }
-    ensures { (result ≡ cond (ltb got read_most) 0 (turns - 1)) × (result < turns) }
-{
-    if got < READ {
-        return 0;
-    }
-    turns - 1
-}
+// Kept (5): the store's buffers are lent one by one: a clause could name what a struct of `&mut` leaves only by the numbers of its parts.
 
-// Reads the input, and prints the answers to the lines that end in each read.
+// Reads the input, and prints the answers to the lines that end in each read. A read that does not fill its buffer was the last: the input has ended.
 fn answer_reads<R: Input + Print>(
     rt: &R,
     opened: State,
@@ -129,14 +84,13 @@ fn answer_reads<R: Input + Print>(
     ensures err { OnErr result (StoppedByReads (leaving opened spt.old spt_dir.old tsp.old tsp_dir.old tally.old prune.old) spt.new spt_dir.new tsp.new tsp_dir.new tally.new prune.new line.new) }
 {
     let mut state = opened;
-    let mut n: usize = 0;
-    let mut input = read_bytes();
+    let mut kept = 0;
+    let mut input = [0; READ];
     let mut reader = rt.reader();
-    let mut turns: u64 = 0xffff_ffff_ffff_ffff;
-    while 0 < turns {
-        let e = read_full(&mut reader, &mut input)?;
-        let p = answer_part(
-            &input[..e],
+    for _ in 0..u64::MAX {
+        let got = read_full(&mut reader, &mut input)?;
+        let part = answer_part(
+            &input[..got],
             state,
             spt,
             spt_dir,
@@ -145,17 +99,17 @@ fn answer_reads<R: Input + Print>(
             tally,
             prune,
             line,
-            n,
+            kept,
             out,
         );
-        let w = p.written;
-        rt.write_all(&out[..w])?;
-        let after = p.state;
-        state = after;
-        n = p.kept;
-        turns = reads_left(turns, e);
+        rt.write_all(&out[..part.written])?;
+        state = part.state;
+        kept = part.kept;
+        if got < READ {
+            return Ok(Begun { state, kept });
+        }
     }
-    Ok(Begun { state, kept: n })
+    Ok(Begun { state, kept })
 }
 
 // The program over its buffers: the store's, its tally and the prune list, with the limit's room, the line's, and the answers'.
@@ -172,16 +126,15 @@ fn run<R: Input + Print>(
 ) -> io::Result<()>
     requires { (tree_room field program_limit ≤ length spt.old) × (dir_room program_limit ≤ length spt_dir.old) × (tree_room field program_limit ≤ length tsp.old) × (dir_room program_limit ≤ length tsp_dir.old) × (tally_room program_limit ≤ length tally.old) × (dir_room program_limit ≤ length prune.old) × (length line.old ≡ kept_most) × (answer_text_most * read_most ≤ length out.old) }
 {
-    let o = open([0; 16], LIMIT, spt, spt_dir, tsp, tsp_dir, tally);
-    let opened = o.state;
-    let b = answer_reads(
+    let Ok(opened) = open([0; 16], LIMIT, spt, spt_dir, tsp, tsp_dir, tally) else {
+        return Ok(());
+    };
+    let begun = answer_reads(
         rt, opened, spt, spt_dir, tsp, tsp_dir, tally, prune, line, out,
     )?;
-    let state = b.state;
-    let kept = b.kept;
     let n = answer_end(
-        &line[..kept],
-        state,
+        &line[..begun.kept],
+        begun.state,
         spt,
         spt_dir,
         tsp,
@@ -194,14 +147,15 @@ fn run<R: Input + Print>(
 }
 
 fn main(rt: HostRuntime) -> io::Result<()> {
-    let mut spt = tree_bytes();
-    let mut spt_dir = numbers();
-    let mut tsp = tree_bytes();
-    let mut tsp_dir = numbers();
-    let mut tally = tally_bytes();
-    let mut prune = numbers();
-    let mut line = line_bytes();
-    let mut out = answer_bytes();
+    let mut spt = [0; TREE];
+    let mut spt_dir = [0; NUMBERS];
+    let mut tsp = [0; TREE];
+    let mut tsp_dir = [0; NUMBERS];
+    let mut tally = [0; TALLY];
+    let mut prune = [0; NUMBERS];
+    let mut line = [0; KEPT];
+    // Room for an answer to each byte of a read, should all be newlines.
+    let mut out = [0; ANSWERS];
     run(
         &rt,
         &mut spt,

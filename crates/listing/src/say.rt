@@ -12,7 +12,6 @@ ghost use Rattle.listing.specs.Say.{number_most, numbered, answer_text, answer_t
 
 use crate::carry::Answer;
 use data_model::entry::Entry;
-use keys::number::wide;
 use text::decimal::write_number;
 use text::entry_line::write_listed;
 use text::line::write_bytes;
@@ -51,24 +50,22 @@ pub fn write_answer(answer: Answer, out: &mut [u8]) -> usize
         Answer::Obsolete => write_bytes(b"obsolete\n", out),
         Answer::Held => write_bytes(b"held\n", out),
         Answer::Bad => write_bytes(b"bad\n", out),
-        Answer::Refused(n) => write_numbered(b"refused ", wide(n), out),
+        Answer::Refused(n) => write_numbered(b"refused ", u64::from(n), out),
     }
 }
 
 // `S P T L D`: of the subspace its last byte, of the digest its first.
+// Kept (5): `listed_text_most ≤ length out`: the room that a writer asks of the rest of a buffer, which no array type says.
 fn write_entry(e: Entry, out: &mut [u8]) -> usize
     requires { (legal field e.path ≡ true) × (listed_text_most ≤ length out.old) }
     ensures { (result ≡ length (entry_text (entry_of e))) × (result ≤ listed_text_most) × (out.new ≡ put (entry_text (entry_of e)) out.old) }
 {
-    let s = e.subspace_id;
-    let p = e.path;
-    let d = e.payload_digest;
     write_listed(
-        (s.low % 256) as u8,
-        p,
+        (e.subspace_id.low % 256) as u8,
+        e.path,
         e.timestamp,
         e.payload_length,
-        d[0],
+        e.payload_digest[0],
         out,
     )
 }
@@ -79,9 +76,8 @@ fn write_record(rec: &[u8], out: &mut [u8]) -> usize
     ensures { (result ≡ length (record_text rec.now)) × (result ≤ listed_text_most) × (out.new ≡ put (record_text rec.now) out.old) }
 {
     let n = rec.len() - VALUE;
-    let a = stored_in(KeyOrder::Spt, [0; 16], &rec[..n], &rec[n..]);
-    let e = a.entry;
-    write_entry(e, out)
+    let stored = stored_in(KeyOrder::Spt, [0; 16], &rec[..n], &rec[n..]);
+    write_entry(stored.entry, out)
 }
 
 // The same, and the line's end.

@@ -23,8 +23,13 @@ use Rattle.tree.specs.declared.stored.KeyOrder.TheVariants.{Spt}
 use Rattle.tree.proofs.FormedContents.{formed-many}
 use Rattle.store.specs.Store.{Store, limit_most, dir_room, dir_of, held, Tallied}
 use Rattle.store.specs.Refusal.{unless, ◌or_else◌, limit_ok, store_refusal, tallied_refusal}
-use Rattle.store.specs.Ingest.{succeeds, is-held, IngestSaid, Decision, refuse, obsolete, already, take_it, ingest_refusal, judged, MayFile, plain_answer, obsolete_answer, IngestOutcome, ingest_outcome, pruned_pairs, filing, carried, ingested}
+use Rattle.store.specs.Ingest.{succeeds, is-held, IngestSaid, Decision, refuse, obsolete, already, take_it, ingest_refusal, judged, MayFile, plain_answer, obsolete_answer, IngestOutcome, ingest_outcome, ingested_says, verdict_says, pruned_pairs, filing, carried, ingested}
 use Rattle.store.specs.declared.ingest.Ingestion.{Ingestion}
+use Rattle.store.specs.declared.ingest.Ingested.{Ingested}
+use Rattle.store.specs.declared.ingest.Ingested.TheVariants as answer
+use Rattle.store.specs.declared.state.State.{State}
+use Rattle.data_model.specs.declared.answer.Refusal.{Refusal}
+use Rattle.std.specs.Prelude.{Result, Ok, Err}
 use Rattle.store.proofs.CheckLaws.{limit-most}
 use Rattle.store.proofs.IngestLaws.{Ready}
 use Rattle.store.proofs.FileLaws.{may-ready, success-may}
@@ -179,3 +184,10 @@ module _ (w : Tallied) (ps : List Pair) (i : Ingestion) (r : IngestSaid) (a b c 
   pub in-room : (n ≤ limit_most) × (n ≤ length ps)
   unfolding numbers_used
   in-room = let f = layered.few in (omega arith, omega arith)
+
+-- The verdict of an ingestion, with the state that it was handed or without.
+pub verdict-said : (handed : State) (r : Result Ingested Refusal) → verdict_says r ≡ (ingested_says handed r).verdict
+verdict-said handed (Ok (answer.Success state n)) = refl
+verdict-said handed (Ok (answer.Obsolete newer token)) = refl
+verdict-said handed (Ok answer.Held) = refl
+verdict-said handed (Err r) = refl

@@ -1,4 +1,6 @@
 // The thin ingest layer: the pruned pairs go to a lent slice of pair records, over the store's core on numbers. Only the pairs are lent.
+// Kept (5): a clause could name what a struct of `&mut` leaves only by the numbers of its parts, as `t.exit.1.0.now`.
+// Kept (6): the numbers are an array for the most pairs there can be, since there is no heap; how many count is the answer's.
 #![tactic(auto)]
 
 ghost use Rattle.std.specs.Prelude.{◌≡◌, ◌*◌, ◌≤◌, length, take, replicate};
@@ -8,7 +10,8 @@ ghost use Rattle.store.specs.Store.{limit_most, tallied_of};
 ghost use Rattle.store.specs.Ingest.{verdict_says, ingested_says, ingest_outcome, ingested};
 ghost use Rattle.pairs.specs.Pairs.{pairs_of, numbers_of, pruned_count, numbers_used, pairs_outcome, pairs_ingested};
 
-use store::ingest::{IngestVerdict, Ingested, Ingestion, ingest_entry_numbers};
+use data_model::answer::Refusal;
+use store::ingest::{Ingested, Ingestion, ingest_entry_numbers};
 use store::state::{LIMIT_MOST, State};
 
 // Offset and length of a record.
@@ -22,33 +25,29 @@ pub struct Pair {
 // The most numbers of a prune list: two for each entry.
 pub const NUMBERS_MOST: usize = 2 * LIMIT_MOST;
 
-// The core's answer, how many pairs it pruned, and their numbers.
+// The core's answer, and the numbers of the pairs that it pruned.
 #[derive(Clone, Copy)]
 pub struct NumbersIngested {
-    pub ingested: Ingested,
-    pub count: usize,
+    pub ingested: Result<Ingested, Refusal>,
     pub numbers: [u32; NUMBERS_MOST],
 }
 
-fn pruned_count(verdict: IngestVerdict) -> usize
-    ensures { result ≡ pruned_count (verdict_says verdict) }
+// How many pairs an answer says that were pruned: none, unless it is a success.
+pub fn pruned_count(ingested: Result<Ingested, Refusal>) -> usize
+    ensures { result ≡ pruned_count (verdict_says ingested) }
 {
-    match verdict {
-        IngestVerdict::Success(n) => n,
-        IngestVerdict::Obsolete => 0,
-        IngestVerdict::Held => 0,
-        IngestVerdict::Refused(_) => 0,
+    match ingested {
+        Ok(Ingested::Success { pruned, .. }) => pruned,
+        _ => 0,
     }
 }
 
 // How many numbers a prune list of some pairs has, as far as an entry may need them.
+#[tactic(auto, unfolding(crate::specs::Pairs::numbers_used))]
 fn numbers_used(pairs: usize) -> usize
     ensures { (result ≡ numbers_used pairs) × (result ≤ 2 * limit_most) }
 {
-    if pairs < LIMIT_MOST {
-        return 2 * pairs;
-    }
-    NUMBERS_MOST
+    2 * pairs.min(LIMIT_MOST)
 }
 
 // The core, on as many numbers as the pairs have room for: its refusal 2 is theirs.
@@ -62,7 +61,7 @@ pub fn ingest_with_room(
     room: usize,
     ingestion: Ingestion,
 ) -> NumbersIngested
-    ensures { (ingest_outcome (ingested_says result.ingested) spt.new spt_dir.new tsp.new tsp_dir.new tally.new (take (numbers_used room) result.numbers) ≡ ingested field (tallied_of state spt.old spt_dir.old tsp.old tsp_dir.old tally.old) (replicate (numbers_used room) 0) ingestion) × (result.count ≡ pruned_count (verdict_says result.ingested.verdict)) }
+    ensures { ingest_outcome (ingested_says state result.ingested) spt.new spt_dir.new tsp.new tsp_dir.new tally.new (take (numbers_used room) result.numbers) ≡ ingested field (tallied_of state spt.old spt_dir.old tsp.old tsp_dir.old tally.old) (replicate (numbers_used room) 0) ingestion }
 {
     let mut numbers = [0u32; NUMBERS_MOST];
     let n = numbers_used(room);
@@ -76,34 +75,19 @@ pub fn ingest_with_room(
         &mut numbers[..n],
         ingestion,
     );
-    let verdict = ingested.verdict;
-    let count = pruned_count(verdict);
-    NumbersIngested {
-        ingested,
-        count,
-        numbers,
-    }
+    NumbersIngested { ingested, numbers }
 }
 
-// An answer, its count, and the numbers of its pairs.
-fn in_numbers(ingested: Ingested, pairs: [Pair; LIMIT_MOST]) -> NumbersIngested
-    ensures { (result.ingested ≡ ingested) × (result.numbers ≡ numbers_of pairs) × (result.count ≡ pruned_count (verdict_says result.ingested.verdict)) }
+// An answer, and the numbers of its pairs.
+fn in_numbers(ingested: Result<Ingested, Refusal>, pairs: [Pair; LIMIT_MOST]) -> NumbersIngested
+    ensures { (result.ingested ≡ ingested) × (result.numbers ≡ numbers_of pairs) }
 {
     let mut numbers = [0u32; NUMBERS_MOST];
-    let mut k = 0;
-    while k < LIMIT_MOST {
-        let pair = pairs[k];
-        numbers[2 * k] = pair.offset;
-        numbers[2 * k + 1] = pair.length;
-        k += 1;
+    for k in 0..LIMIT_MOST {
+        numbers[2 * k] = pairs[k].offset;
+        numbers[2 * k + 1] = pairs[k].length;
     }
-    let verdict = ingested.verdict;
-    let count = pruned_count(verdict);
-    NumbersIngested {
-        ingested,
-        count,
-        numbers,
-    }
+    NumbersIngested { ingested, numbers }
 }
 
 // The first n pairs are those that the numbers spell.
@@ -111,13 +95,11 @@ fn write_pairs(numbers: [u32; NUMBERS_MOST], pairs: &mut [Pair], n: usize)
     requires { (n ≤ limit_most) × (n ≤ length pairs.old) }
     ensures { pairs.new ≡ put (pairs_of (take (2 * n) numbers)) pairs.old }
 {
-    let mut k = 0;
-    while k < n {
+    for k in 0..n {
         pairs[k] = Pair {
             offset: numbers[2 * k],
             length: numbers[2 * k + 1],
         };
-        k += 1;
     }
 }
 
@@ -131,8 +113,8 @@ pub fn ingest_entry(
     tally: &mut [u8],
     pairs: &mut [Pair],
     ingestion: Ingestion,
-) -> Ingested
-    ensures { pairs_outcome (ingested_says result) spt.new spt_dir.new tsp.new tsp_dir.new tally.new pairs.new ≡ pairs_ingested field (tallied_of state spt.old spt_dir.old tsp.old tsp_dir.old tally.old) pairs.old ingestion }
+) -> Result<Ingested, Refusal>
+    ensures { pairs_outcome (ingested_says state result) spt.new spt_dir.new tsp.new tsp_dir.new tally.new pairs.new ≡ pairs_ingested field (tallied_of state spt.old spt_dir.old tsp.old tsp_dir.old tally.old) pairs.old ingestion }
 {
     let r = ingest_with_room(
         state,
@@ -144,7 +126,7 @@ pub fn ingest_entry(
         pairs.len(),
         ingestion,
     );
-    write_pairs(r.numbers, pairs, r.count);
+    write_pairs(r.numbers, pairs, pruned_count(r.ingested));
     r.ingested
 }
 
@@ -159,7 +141,7 @@ pub fn ingest_entry_by_value(
     pairs: [Pair; LIMIT_MOST],
     ingestion: Ingestion,
 ) -> NumbersIngested
-    ensures { (pairs_outcome (ingested_says result.ingested) spt.new spt_dir.new tsp.new tsp_dir.new tally.new (pairs_of result.numbers) ≡ pairs_ingested field (tallied_of state spt.old spt_dir.old tsp.old tsp_dir.old tally.old) pairs ingestion) × (result.count ≡ pruned_count (verdict_says result.ingested.verdict)) }
+    ensures { pairs_outcome (ingested_says state result.ingested) spt.new spt_dir.new tsp.new tsp_dir.new tally.new (pairs_of result.numbers) ≡ pairs_ingested field (tallied_of state spt.old spt_dir.old tsp.old tsp_dir.old tally.old) pairs ingestion }
 {
     let mut lent = pairs;
     let ingested = ingest_entry(

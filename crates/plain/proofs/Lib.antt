@@ -1,3 +1,4 @@
 pub mod SaysOnce
 pub mod RowLaws
 mod RangeBack
+mod Unlooked

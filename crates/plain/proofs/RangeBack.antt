@@ -1,40 +1,36 @@
 -- A 3d range that was told and is handed in again is the same range. Assumes nothing.
-use Prim.Native.Nat.{ℕ}
 use mathlib.Core.Path.{◌≡◌, refl, ap, ◌∙◌}
-use mathlib.Core.Bool.{Bool, true, false}
+use Prim.Native.Nat.{ℕ}
+use mathlib.Core.List.{[]}
+use Rattle.data_model.specs.Path.{path_of}
+use Rattle.data_model.specs.Subspace.{first_subspace}
 use Rattle.data_model.specs.declared.parameters.Subspace.{Subspace}
 use Rattle.data_model.specs.declared.path.Path.{Path}
 use Rattle.data_model.specs.declared.range.RangeEnd.{RangeEnd}
-use Rattle.data_model.specs.declared.range.RangeEnd.TheVariants as times
-use Rattle.data_model.specs.declared.range.SubspaceEnd.{SubspaceEnd}
-use Rattle.data_model.specs.declared.range.SubspaceEnd.TheVariants as ends
-use Rattle.data_model.specs.declared.range.SubspaceRange.{SubspaceRange}
-use Rattle.data_model.specs.declared.range.TimesRange.{TimesRange}
-use Rattle.data_model.specs.declared.range.PathRange.{PathRange}
+use Rattle.data_model.specs.declared.range.RangeEnd.TheVariants.{Closed, Open}
 use Rattle.data_model.specs.declared.range_3d.Range3d.{Range3d}
-use Rattle.plain.specs.Input.{times_of, subspaces_of, paths_of, range_of}
-use Rattle.plain.specs.RangeAnswer.{plain_times, plain_subspaces, plain_paths, plain_range}
+use Rattle.plain.specs.Input.{end_of, range_of}
+use Rattle.plain.specs.RangeAnswer.{plain_end, plain_range}
 
-times-end : (s : ℕ) (e : RangeEnd) → times_of (plain_times (record { start = s; end = e })) ≡ record { start = s; end = e }
-times-end s (times.Closed e) = refl
-times-end s times.Open = refl
+-- Whatever an open end is told as.
+end-back : {A : Type 0} (none : A) (e : RangeEnd A) → end_of (plain_end e none).1 (plain_end e none).0 ≡ e
+end-back none (Closed e) = refl
+end-back none Open = refl
 
-subspaces-end : (s : Subspace) (e : SubspaceEnd) → subspaces_of (plain_subspaces (record { start = s; end = e })) ≡ record { start = s; end = e }
-subspaces-end s (ends.Closed e) = refl
-subspaces-end s ends.Open = refl
-
-paths-open : (a b : Path) (o : Bool) → paths_of (plain_paths (record { start = a; end = b; «open» = o })) ≡ record { start = a; end = b; «open» = o }
-paths-open a b true = refl
-paths-open a b false = refl
-
-abbrev three_of : SubspaceRange → PathRange → TimesRange → Range3d
-three_of s p t = record { subspaces = s; paths = p; times = t }
+abbrev with_ends : Range3d → RangeEnd Subspace → RangeEnd Path → RangeEnd ℕ → Range3d
+with_ends r s p t = record {
+  subspaces = record { start = r.subspaces.start; end = s };
+  paths = record { start = r.paths.start; end = p };
+  times = record { start = r.times.start; end = t };
+}
 
 pub range_back : (r : Range3d) → range_of (plain_range r) ≡ r
 range_back r =
-    let s = r.subspaces in
-    let p = r.paths in
-    let t = r.times in
-    ap (λ (x : SubspaceRange). three_of x (paths_of (plain_paths p)) (times_of (plain_times t))) (subspaces-end s.start s.end)
-    ∙ ap (λ (x : PathRange). three_of s x (times_of (plain_times t))) (paths-open p.start p.end p.«open»)
-    ∙ ap (three_of s p) (times-end t.start t.end)
+    let s = r.subspaces.end in
+    let p = r.paths.end in
+    let t = r.times.end in
+    let p' = end_of (plain_end p (path_of [])).1 (plain_end p (path_of [])).0 in
+    let t' = end_of (plain_end t 0).1 (plain_end t 0).0 in
+    ap (λ (x : RangeEnd Subspace). with_ends r x p' t') (end-back first_subspace s)
+    ∙ ap (λ (x : RangeEnd Path). with_ends r s x t') (end-back (path_of []) p)
+    ∙ ap (with_ends r s p) (end-back 0 t)

@@ -2,7 +2,7 @@
 use Rattle.data_model.specs.Origin.{origin_kind, origin_session}
 use Rattle.data_model.specs.declared.entry_origin.EntryOrigin.{EntryOrigin}
 use Rattle.tree.specs.declared.stored.LengthyAuthorisedEntry.{LengthyAuthorisedEntry}
-use Rattle.query.specs.declared.answer.EntryFound.{EntryFound}
+use Rattle.query.specs.Lookup.{EntryFound}
 use Rattle.plain.specs.declared.input.PlainOrigin.{PlainOrigin}
 use Rattle.plain.specs.declared.found.PlainLengthyEntry.{PlainLengthyEntry}
 use Rattle.plain.specs.declared.found.PlainEntryFound.{PlainEntryFound}

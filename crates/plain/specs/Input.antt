@@ -1,6 +1,7 @@
 -- What the plain values that a caller hands in stand for. No value is left without a meaning: every byte but 0 means yes.
-use Rattle.std.specs.Prelude.{ℕ, List, Bool, not, cond, eqb}
+use Rattle.std.specs.Prelude.{ℕ, List, Bool, not, cond, eqb, Option, Some, None}
 use Rattle.data_model.specs.declared.parameters.Subspace.{Subspace}
+use Rattle.data_model.specs.declared.path.Path.{Path}
 use Rattle.data_model.specs.declared.area.Area.{Area}
 use Rattle.data_model.specs.declared.area.AreaSubspace.{AreaSubspace}
 use Rattle.data_model.specs.declared.area.AreaSubspace.TheVariants.{Any, Id}
@@ -8,11 +9,9 @@ use Rattle.data_model.specs.declared.area_of_interest.AreaOfInterest.{AreaOfInte
 use Rattle.data_model.specs.declared.entry.Entry.{Entry}
 use Rattle.data_model.specs.declared.entry_origin.EntryOrigin.{EntryOrigin}
 use Rattle.data_model.specs.declared.entry_origin.EntryOrigin.TheVariants.{Local, Remote}
-use Rattle.data_model.specs.declared.range.TimesRange.{TimesRange}
-use Rattle.data_model.specs.declared.range.RangeEnd.TheVariants as times
-use Rattle.data_model.specs.declared.range.SubspaceRange.{SubspaceRange}
-use Rattle.data_model.specs.declared.range.SubspaceEnd.TheVariants as ends
-use Rattle.data_model.specs.declared.range.PathRange.{PathRange}
+use Rattle.data_model.specs.declared.range.Range.{Range}
+use Rattle.data_model.specs.declared.range.RangeEnd.{RangeEnd}
+use Rattle.data_model.specs.declared.range.RangeEnd.TheVariants.{Closed, Open}
 use Rattle.data_model.specs.declared.range_3d.Range3d.{Range3d}
 use Rattle.data_model.specs.declared.query_ignore_params.QueryIgnoreParams.{QueryIgnoreParams}
 use Rattle.store.specs.declared.ingest.Ingestion.{Ingestion}
@@ -29,21 +28,29 @@ use Rattle.plain.specs.declared.input.PlainOrigin.{PlainOrigin}
 abbrev pub is_yes : ℕ → Bool
 is_yes n = not (eqb n 0)
 
+-- A value beside a yes or no: it, or none.
+abbrev pub given : {A : Type 0} → ℕ → A → Option A
+given flag x = cond (is_yes flag) (Some x) None
+
 -- An area's subspace: any, or the one that is named.
 abbrev pub area_subspace_of : ℕ → Subspace → AreaSubspace
 area_subspace_of any id = cond (is_yes any) Any (Id id)
 
--- A range of times: open, or closed at the end that is named.
-abbrev pub times_of : PlainTimes → TimesRange
-times_of t = record { start = t.start; end = cond (is_yes t.«open») times.Open (times.Closed t.end) }
+-- The end of a range: open, or closed at the end that is named.
+abbrev pub end_of : {A : Type 0} → ℕ → A → RangeEnd A
+end_of flag end = cond (is_yes flag) Open (Closed end)
 
--- A range of subspaces: open, or closed at the end that is named.
-abbrev pub subspaces_of : PlainSubspaces → SubspaceRange
-subspaces_of s = record { start = s.start; end = cond (is_yes s.«open») ends.Open (ends.Closed s.end) }
+-- A range of times.
+abbrev pub times_of : PlainTimes → Range ℕ
+times_of t = record { start = t.start; end = end_of t.«open» t.end }
 
--- A range of paths, which has its yes or no beside the end.
-abbrev pub paths_of : PlainPaths → PathRange
-paths_of p = record { start = p.start; end = p.end; «open» = is_yes p.«open» }
+-- A range of subspaces.
+abbrev pub subspaces_of : PlainSubspaces → Range Subspace
+subspaces_of s = record { start = s.start; end = end_of s.«open» s.end }
+
+-- A range of paths.
+abbrev pub paths_of : PlainPaths → Range Path
+paths_of p = record { start = p.start; end = end_of p.«open» p.end }
 
 -- An area, with its subspace and its times read.
 abbrev pub area_of : PlainArea → Area

@@ -1,6 +1,9 @@
 pub mod Input
 pub mod Answer
+pub mod KeyAnswer
+pub mod Change
 pub mod Found
 pub mod RangeAnswer
 pub mod Part
 pub mod Rows
+pub mod Unlooked

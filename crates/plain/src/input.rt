@@ -1,6 +1,9 @@
 // Values that a caller hands in, and what they stand for.
+// Kept (1): C has no enum with values, so a yes or no stands beside the value of an end, a subspace, an origin or a digest that may be absent.
+// Kept (4): `is_yes` reads a byte that C hands in, of which more than one means yes.
+// Kept (2): an exported function takes no generic struct, so the three ranges are structs apart; `end_of` reads the end of each.
 ghost use Rattle.std.specs.Prelude.{◌≡◌};
-ghost use Rattle.plain.specs.Input.{is_yes, area_subspace_of, times_of, subspaces_of, paths_of, area_of, range_of, interest_of, ignore_of, origin_in, ingestion_of};
+ghost use Rattle.plain.specs.Input.{is_yes, given, end_of, times_of, subspaces_of, paths_of, area_of, range_of, interest_of, ignore_of, origin_in, ingestion_of};
 
 use data_model::area::{Area, AreaSubspace};
 use data_model::area_of_interest::AreaOfInterest;
@@ -9,7 +12,7 @@ use data_model::entry_origin::EntryOrigin;
 use data_model::parameters::Subspace;
 use data_model::path::Path;
 use data_model::query_ignore_params::QueryIgnoreParams;
-use data_model::range::{PathRange, RangeEnd, SubspaceEnd, SubspaceRange, TimesRange};
+use data_model::range::{Range, RangeEnd};
 use data_model::range_3d::Range3d;
 use pairs::Pair;
 use store::ingest::Ingestion;
@@ -52,6 +55,7 @@ pub struct PlainArea {
     pub times: PlainTimes,
 }
 
+// A range of subspaces, of paths and of times.
 #[repr(C)]
 #[derive(Clone, Copy)]
 pub struct PlainRange {
@@ -99,127 +103,126 @@ pub fn is_yes(flag: u8) -> bool
     flag != 0
 }
 
-// The subspace of an area: any, or the one that is named.
-fn area_subspace_of(any: u8, id: Subspace) -> AreaSubspace
-    ensures { result ≡ area_subspace_of any id }
+// The value that is handed in beside a yes or no: none if that is no.
+pub fn given<T: Copy>(flag: u8, value: T) -> Option<T>
+    ensures { result ≡ given flag value }
 {
-    if is_yes(any) {
-        return AreaSubspace::Any;
+    if is_yes(flag) { Some(value) } else { None }
+}
+
+// The end of a range that is handed in beside a yes or no: none if that is yes.
+fn end_of<T: Copy>(flag: u8, end: T) -> RangeEnd<T>
+    ensures { result ≡ end_of flag end }
+{
+    if is_yes(flag) {
+        RangeEnd::Open
+    } else {
+        RangeEnd::Closed(end)
     }
-    AreaSubspace::Id(id)
 }
 
 // The range of times that plain times stand for.
-fn times_of(t: PlainTimes) -> TimesRange
-    ensures { result ≡ times_of t }
-{
-    if is_yes(t.open) {
-        return TimesRange {
-            start: t.start,
-            end: RangeEnd::Open,
-        };
-    }
-    TimesRange {
-        start: t.start,
-        end: RangeEnd::Closed(t.end),
+impl From<PlainTimes> for Range<u64> {
+    ghost from_gives = { λ plain range. range ≡ times_of plain };
+
+    fn from(plain: PlainTimes) -> Range<u64> {
+        Range {
+            start: plain.start,
+            end: end_of(plain.open, plain.end),
+        }
     }
 }
 
 // The range of subspaces that plain subspaces stand for.
-fn subspaces_of(s: PlainSubspaces) -> SubspaceRange
-    ensures { result ≡ subspaces_of s }
-{
-    let start = s.start;
-    let end = s.end;
-    if is_yes(s.open) {
-        return SubspaceRange {
-            start,
-            end: SubspaceEnd::Open,
-        };
-    }
-    SubspaceRange {
-        start,
-        end: SubspaceEnd::Closed(end),
+impl From<PlainSubspaces> for Range<Subspace> {
+    ghost from_gives = { λ plain range. range ≡ subspaces_of plain };
+
+    fn from(plain: PlainSubspaces) -> Range<Subspace> {
+        Range {
+            start: plain.start,
+            end: end_of(plain.open, plain.end),
+        }
     }
 }
 
 // The range of paths that plain paths stand for.
-fn paths_of(p: PlainPaths) -> PathRange
-    ensures { result ≡ paths_of p }
-{
-    let start = p.start;
-    let end = p.end;
-    PathRange {
-        start,
-        end,
-        open: is_yes(p.open),
+impl From<PlainPaths> for Range<Path> {
+    ghost from_gives = { λ plain range. range ≡ paths_of plain };
+
+    fn from(plain: PlainPaths) -> Range<Path> {
+        Range {
+            start: plain.start,
+            end: end_of(plain.open, plain.end),
+        }
     }
 }
 
 // The area that a plain area stands for.
-pub fn area_of(a: PlainArea) -> Area
-    ensures { result ≡ area_of a }
-{
-    let id = a.subspace;
-    let subspace = area_subspace_of(a.any_subspace, id);
-    let path = a.path;
-    let t = a.times;
-    let times = times_of(t);
-    Area {
-        subspace,
-        path,
-        times,
+impl From<PlainArea> for Area {
+    ghost from_gives = { λ plain area. area ≡ area_of plain };
+
+    fn from(plain: PlainArea) -> Area {
+        Area {
+            subspace: if is_yes(plain.any_subspace) {
+                AreaSubspace::Any
+            } else {
+                AreaSubspace::Id(plain.subspace)
+            },
+            path: plain.path,
+            times: plain.times.into(),
+        }
     }
 }
 
 // The 3d range that a plain range stands for.
-pub fn range_of(x: PlainRange) -> Range3d
-    ensures { result ≡ range_of x }
-{
-    let s = x.subspaces;
-    let p = x.paths;
-    let t = x.times;
-    let subspaces = subspaces_of(s);
-    let paths = paths_of(p);
-    let times = times_of(t);
-    Range3d {
-        subspaces,
-        paths,
-        times,
+impl From<PlainRange> for Range3d {
+    ghost from_gives = { λ plain range. range ≡ range_of plain };
+
+    fn from(plain: PlainRange) -> Range3d {
+        Range3d {
+            subspaces: plain.subspaces.into(),
+            paths: plain.paths.into(),
+            times: plain.times.into(),
+        }
     }
 }
 
 // The area of interest that a plain one stands for.
-pub fn interest_of(i: PlainInterest) -> AreaOfInterest
-    ensures { result ≡ interest_of i }
-{
-    let a = i.area;
-    let area = area_of(a);
-    AreaOfInterest {
-        area,
-        max_count: i.max_count,
-        max_size: i.max_size,
+impl From<PlainInterest> for AreaOfInterest {
+    ghost from_gives = { λ plain interest. interest ≡ interest_of plain };
+
+    fn from(plain: PlainInterest) -> AreaOfInterest {
+        AreaOfInterest {
+            area: plain.area.into(),
+            max_count: plain.max_count,
+            max_size: plain.max_size,
+        }
     }
 }
 
 // The flags of a query that plain ones stand for.
-pub fn ignore_of(i: PlainIgnore) -> QueryIgnoreParams
-    ensures { result ≡ ignore_of i }
-{
-    QueryIgnoreParams {
-        ignore_incomplete_payloads: is_yes(i.incomplete_payloads),
-        ignore_empty_payloads: is_yes(i.empty_payloads),
+impl From<PlainIgnore> for QueryIgnoreParams {
+    ghost from_gives = { λ plain ignore. ignore ≡ ignore_of plain };
+
+    fn from(plain: PlainIgnore) -> QueryIgnoreParams {
+        QueryIgnoreParams {
+            ignore_incomplete_payloads: is_yes(plain.incomplete_payloads),
+            ignore_empty_payloads: is_yes(plain.empty_payloads),
+        }
     }
 }
 
 // The origin that a plain one stands for.
-fn origin_in(o: PlainOrigin) -> EntryOrigin
-    ensures { result ≡ origin_in o }
-{
-    if is_yes(o.remote) {
-        return EntryOrigin::Remote(o.session);
+impl From<PlainOrigin> for EntryOrigin {
+    ghost from_gives = { λ plain origin. origin ≡ origin_in plain };
+
+    fn from(plain: PlainOrigin) -> EntryOrigin {
+        if is_yes(plain.remote) {
+            EntryOrigin::Remote(plain.session)
+        } else {
+            EntryOrigin::Local
+        }
     }
-    EntryOrigin::Local
 }
 
 // What an ingestion is handed: an entry, its token, the byte that prevents pruning, and the origin.
@@ -231,11 +234,10 @@ pub fn ingestion_of(
 ) -> Ingestion
     ensures { result ≡ ingestion_of entry token prevent_pruning from }
 {
-    let origin = origin_in(from);
     Ingestion {
         entry,
         token,
         prevent_pruning: is_yes(prevent_pruning),
-        origin,
+        origin: from.into(),
     }
 }

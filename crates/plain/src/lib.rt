@@ -3,8 +3,10 @@
 #![tactic(auto)]
 
 pub mod answer;
+pub mod change;
 pub mod found;
 pub mod input;
+pub mod key_answer;
 pub mod part;
 pub mod range_answer;
 pub mod rows;

@@ -12,9 +12,7 @@ pub fn write_rows(numbers: [u32; NUMBERS_MOST], rows: &mut [[u32; 2]], n: usize)
     requires { (n ≤ limit_most) × (n ≤ length rows.old) }
     ensures { map pair_of rows.new ≡ put (pairs_of (take (2 * n) numbers)) (map pair_of rows.old) }
 {
-    let mut k = 0;
-    while k < n {
+    for k in 0..n {
         rows[k] = [numbers[2 * k], numbers[2 * k + 1]];
-        k += 1;
     }
 }

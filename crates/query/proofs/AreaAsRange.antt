@@ -13,7 +13,7 @@ use Rattle.laws.specs.Sorted.{◌∈◌, keep}
 use Rattle.layout.specs.Layout.{records}
 use Rattle.data_model.specs.Path.{Figures, Components, field, legal, components, is_path, path_of}
 use Rattle.data_model.specs.Above.{above}
-use Rattle.data_model.specs.Range.{legal_range}
+use Rattle.data_model.specs.Range.{legal_range, legal_end}
 use Rattle.data_model.specs.Refusal.{no_key}
 use Rattle.data_model.specs.Area.{paths_up_to, area_range}
 use Rattle.data_model.specs.declared.area.Area.{Area}
@@ -57,7 +57,7 @@ held-lawful o s p b x m =
     rw k.2 (record-forth o field s.state.namespace_id k.0 r.0 r.1).lawful
 
 up-to-legal : (f : Figures) (cs : Components) (r : Option Components) → is_path f cs ≡ true → ((q : Components) → r ≡ some q → legal f (path_of q) ≡ true) → legal_range f (paths_up_to cs r) ≡ true
-unfolding legal_range paths_up_to
+unfolding legal_range paths_up_to legal_end
 up-to-legal f cs none h l = ap₂ ◌&&◌ (legal-of f cs h) refl
 up-to-legal f cs (some q) h l = ap₂ ◌&&◌ (legal-of f cs h) (l q refl)
 

@@ -22,7 +22,7 @@ use Rattle.data_model.specs.Ignore.{no_flags}
 use Rattle.data_model.specs.Said.{Said, refuses, says}
 use Rattle.data_model.specs.Path.{field, cut, components, legal, joined, ends_from, is_path, value_of, path_of, by_bytes}
 use Rattle.data_model.specs.Subspace.{first_subspace}
-use Rattle.data_model.specs.Range.{before_end, includes, times_end, times_include, legal_range}
+use Rattle.data_model.specs.Range.{before_end, includes, end_says, times_include, legal_range}
 use Rattle.data_model.specs.Area.{area_subspace, area_includes}
 use Rattle.data_model.specs.declared.entry_origin.EntryOrigin.TheVariants.{Local}
 use Rattle.data_model.specs.declared.range.RangeEnd.TheVariants as times
@@ -42,11 +42,11 @@ use Rattle.store.specs.Open.{empty_state, nothing}
 use Rattle.store.specs.Ingest.{filed_in, filed}
 use Rattle.store.proofs.Meaning.{SoundHeld, sound-nothing, sound-filed}
 use Rattle.store.proofs.Lifted.{Fit, list_of, bears-held, bears-well, holding-bears, holding-roomy}
-use Rattle.store.proofs.CheckLaws.{Passed, refuses-none}
+use Rattle.store.proofs.CheckLaws.{Passed}
 use Rattle.query.specs.Reading.{is_remembered, area_list_refusal}
 use Rattle.query.specs.Listing.{spt_records, key_above, qualifies, step, listed}
 use Rattle.query.specs.EarlyFinish.{Wanted, of_area, of_range, refusal_of, is_wanted, Comes, RightAnswer, EarlyFinish}
-use Rattle.query.proofs.Tested.{read-passes, list-passes, list-tested}
+use Rattle.query.proofs.Tested.{store-passes, read-passes, list-passes, list-tested}
 use Rattle.query.proofs.StartLaws.{refused_keys, start-above}
 use Rattle.query.proofs.GivenLaws.{step_is}
 
@@ -178,11 +178,11 @@ legal-all = legal-of field [] (unfold is_path all joined in refl)
 not-refused : area_list_refusal field one-held everything [] ≡ 0
 unfolding holding limit_ok is_remembered
 not-refused =
-    let e = refuses-none one-held true refl roomy-one refl well in
-    rw legal-all (sym (list-passes one-held true [] 0 (read-passes one-held true 0 e refl refl) refl refl))
+    let e = store-passes one-held refl roomy-one well in
+    rw legal-all (sym (list-passes one-held true [] (read-passes one-held true e refl) refl))
 
 wants-zeros : listed_in_area everything no_flags zeros ≡ true
-unfolding listed_in_area in_area let_through area_includes area_subspace components cut path_of value_of ends_from joined prefix_of times_include includes times_end before_end is_less by_number
+unfolding listed_in_area in_area let_through area_includes area_subspace components cut path_of value_of ends_from joined prefix_of times_include includes end_says before_end is_less by_number
 wants-zeros = refl
 
 comes-zeros : (r : List ℕ) × Comes one-held (of_area everything no_flags) [] r

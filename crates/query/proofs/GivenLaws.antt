@@ -8,12 +8,11 @@ use native.Mathlib.Omega.{arith}
 use lib.ListN.{length, take, drop, length-drop}
 use lib.Seq.{take-take, length-take-le}
 use lib.Dec.{eqb}
-use borrow.Author.Tests.{lt-ltb, le-ltb, eqb-true, eqb-false, eq-eqb, ne_eqb}
-use Rattle.laws.specs.Parts.{PartBegins}
+use borrow.Author.Tests.{lt-ltb, le-ltb, eqb-true, eqb-false, eq-eqb}
 use Rattle.laws.specs.Sorted.{◌∈◌}
-use Rattle.laws.proofs.Truth.{split}
+use Rattle.laws.proofs.Truth.{split, clash}
 use Rattle.laws.proofs.First.{LeastIs, least-is}
-use Rattle.layout.specs.Layout.{records, record_at, offset_at, length_at}
+use Rattle.layout.specs.Layout.{record_at, offset_at, length_at}
 use Rattle.layout.proofs.LaidLaws.{records-get}
 use Rattle.data_model.specs.Said.{Said, refuses, says, number_of}
 use Rattle.data_model.specs.Path.{field}
@@ -23,12 +22,17 @@ use Rattle.tree.specs.Value.{value_length}
 use Rattle.tree.specs.declared.stored.KeyOrder.TheVariants.{Spt}
 use Rattle.tree.proofs.FormedLaws.{formed-count, formed-record, record-long}
 use Rattle.tree.proofs.SearchLaws.{key-place}
-use Rattle.store.specs.Store.{Store, tree_room, dir_room, tree_of, dir_of}
+use Rattle.store.specs.Store.{Store, tree_room, tree_of, dir_of}
 use Rattle.store.proofs.CheckLaws.{Passed}
 use Rattle.query.specs.Reading.{list_refusal}
-use Rattle.query.specs.Listing.{spt_records, qualifies, step_in, step, listed, is_found, part_of, offset_of, step_told, step_says, place_among, step_at}
-use Rattle.query.specs.declared.answer.ListingStep.{ListingStep}
+use Rattle.query.specs.Listing.{spt_records, qualifies, step_in, step, listed, part_of, offset_of, step_told, place_among, step_at}
+use Rattle.query.specs.Listing.{ListingStep, part_told}
+use Rattle.query.specs.declared.answer.Part.{Part}
+use Rattle.std.specs.Prelude.{Some, None, Ok, Err}
+use Rattle.data_model.specs.Refusal.{refusal_number}
+use Rattle.data_model.specs.declared.answer.Refusal.{Refusal}
 use Rattle.query.proofs.Tested.{list-tested}
+use Rattle.store.proofs.CheckLaws.{number-some}
 use Rattle.query.proofs.StepLaws.{key-weak}
 
 -- A part of a beginning is a part of the whole.
@@ -87,20 +91,6 @@ module _ (count : ℕ) (dir : List ℕ) (k : ℕ) where
   unfolding step_at
   at_none h = rw (le-ltb k count h) refl
 
--- What the numbers of a step say.
-module _ (t : ListingStep) where
-  pub says-refused : (t.refusal ≡ 0 → ⊥) → refuses t.refusal ≡ step_says t
-  unfolding step_says
-  says-refused h = rw (ne_eqb t.refusal 0 h) refl
-
-  pub says-found : t.refusal ≡ 0 → t.found ≡ true → says true ≡ step_says t
-  unfolding step_says
-  says-found z e = rw (eq-eqb t.refusal 0 z, e) refl
-
-  pub says-finished : t.refusal ≡ 0 → t.found ≡ false → says false ≡ step_says t
-  unfolding step_says
-  says-finished z e = rw (eq-eqb t.refusal 0 z, e) refl
-
 -- What is shorter than a value has no key.
 pub key-short : (r : List ℕ) → length r < value_length → [] ≡ key_of r
 key-short r h = let z : length r - value_length ≡ 0 = omega arith in ap (λ (n : ℕ). take n r) (sym z)
@@ -126,26 +116,17 @@ module _ (s : Store) (p : Passed s) (test : Stored → Bool) (last : List ℕ) w
   pub step-at : (k : ℕ) → k ≡ place_among (spt_records field s) (step field s test last) → step_at s.state.count (dir_of Spt s) k ≡ step_told field s (says (step field s test last))
   step-at = step-told (step field s test last) step_is
 
--- The records, as the inner functions have them.
-abbrev pub in_room : Store → List (List ℕ)
-in_room s = records s.state.count (take (dir_room s.state.limit) s.spt_dir) (take (tree_room field s.state.limit) s.spt)
-
--- A step by its tests: the test of the paths answered t, and the tests all together n.
-module _ (s : Store) (t b : Bool) (q : t ≡ b) (test : Stored → Bool) (last : List ℕ) (n : ℕ) (e : n ≡ list_refusal field s t last) where
-  refusal : list_refusal field s b last ≡ n
-  refusal = ap (λ (x : Bool). list_refusal field s x last) (sym q) ∙ sym e
-
-  pub step-tested : n ≡ 0 → Passed s × (b ≡ true)
-  step-tested z = let k = list-tested s b last (refusal ∙ z) in (k.0, k.1)
-
-  pub step-refused : (n ≡ 0 → ⊥) → record { refusal = n; found = false; offset = 0; length = 0 } ≡ step_told field s (listed field s (list_refusal field s b last) test last)
+-- A step by its tests.
+module _ (s : Store) (b : Bool) (test : Stored → Bool) (last : List ℕ) where
+  pub step_refused : (r : Refusal) → refusal_number r ≡ list_refusal field s b last
+      → record { refusal = refusal_number r; found = false; offset = 0; length = 0 } ≡ step_told field s (listed field s (list_refusal field s b last) test last)
   unfolding listed number_of
-  step-refused h = rw (refusal, ne_eqb n 0 h) refl
+  step_refused r e = rw (← e, number-some r) refl
 
-  pub step_given : n ≡ 0 → (k : ℕ) → k ≡ place_among (in_room s) (step_in field s.state.namespace_id test last (in_room s)) → (r : ListingStep) → r ≡ step_at s.state.count (take (dir_room s.state.limit) s.spt_dir) k
+  pub step_given : 0 ≡ list_refusal field s b last → (k : ℕ) → k ≡ place_among (spt_records field s) (step field s test last) → (r : ListingStep) → r ≡ step_at s.state.count (dir_of Spt s) k
       → r ≡ step_told field s (listed field s (list_refusal field s b last) test last)
-  unfolding listed tree_of dir_of
-  step_given z k ek r er = er ∙ step-at s (step-tested z).0 test last k ek ∙ ap (step_told field s) (rw (refusal, z) refl)
+  unfolding listed
+  step_given z k ek r er = er ∙ step-at s (list-tested s b last (sym z)).0 test last k ek ∙ ap (step_told field s) (rw (← z) refl)
 
 -- What is answered, refused or not.
 module _ (s : Store) (b : Bool) (test : Stored → Bool) (last : List ℕ) where
@@ -172,33 +153,49 @@ module _ (s : Store) (b : Bool) (test : Stored → Bool) (last : List ℕ) where
   lies (says none) e = (omega arith, refl)
   lies (refuses n) e = (omega arith, refl)
 
-  pub part-inside : (t : ListingStep) → t ≡ step_told field s answer → t.offset + t.length ≤ length s.spt
-  part-inside t e = rw e (lies answer refl).0
+  pub part_inside : (p : Part) → part_told (Ok (Some p)) ≡ step_told field s answer → p.offset + p.length ≤ length s.spt
+  part_inside p e = let l = (lies answer refl).0 in let o = ap (λ (t : ListingStep). t.offset) e in let n = ap (λ (t : ListingStep). t.length) e in omega arith
 
-  pub part_bytes : (t : ListingStep) → t ≡ step_told field s answer → take t.length (drop t.offset s.spt) ≡ part_of answer
-  part_bytes t e = rw e (lies answer refl).1
-
-  -- What the second call says of the same step.
-  told-found : (a : Said (Option (List ℕ))) → ((n : ℕ) → a ≡ refuses n → n ≡ 0 → ⊥) → step_says (step_told field s a) ≡ is_found a
-  unfolding step_says number_of
-  told-found (says (some r)) h = refl
-  told-found (says none) h = refl
-  told-found (refuses n) h = rw (ne_eqb n 0 (h n refl)) refl
-
+  -- What is told of a step gives the answer itself.
   refused-not-0 : (n : ℕ) → answer ≡ refuses n → n ≡ 0 → ⊥
   unfolding listed
   refused-not-0 n e z = split (eqb (list_refusal field s b last) 0)
       (λ q. let w : says (step field s test last) ≡ refuses n = rw q at e in let y : ◌≡◌ {A = ℕ} 0 1 = cc in omega arith)
       (λ q. let w : refuses (list_refusal field s b last) ≡ refuses n = rw q at e in let g : list_refusal field s b last ≡ n = cc in eqb-false (list_refusal field s b last) 0 q (g ∙ z))
 
-  pub found-told : (t : ListingStep) → t ≡ step_told field s answer → step_says t ≡ is_found answer
-  found-told t e = ap step_says e ∙ told-found answer refused-not-0
+  numbered : {G : Type 0} (r : Refusal) → refusal_number r ≡ 0 → G
+  numbered r e = clash (eq-eqb (refusal_number r) 0 e) (number-some r)
+
+  told-refused : (r : Refusal) (a : Said (Option (List ℕ))) → part_told (Err r) ≡ step_told field s a → refuses (refusal_number r) ≡ a
+  unfolding number_of
+  told-refused r (says (some x)) q = numbered r (ap (λ (t : ListingStep). t.refusal) q)
+  told-refused r (says none) q = numbered r (ap (λ (t : ListingStep). t.refusal) q)
+  told-refused r (refuses n) q = ap (λ (t : ListingStep). refuses t.refusal) q
+
+  pub given_refused : (r : Refusal) → part_told (Err r) ≡ step_told field s answer → refuses (refusal_number r) ≡ answer
+  given_refused r = told-refused r answer
+
+  told-none : (a : Said (Option (List ℕ))) → ((n : ℕ) → a ≡ refuses n → n ≡ 0 → ⊥) → part_told (Ok None) ≡ step_told field s a → says none ≡ a
+  unfolding number_of
+  told-none (says (some x)) h q = clash (ap (λ (t : ListingStep). t.found) q) refl
+  told-none (says none) h q = refl
+  told-none (refuses n) h q = absurd (h n refl (sym (ap (λ (t : ListingStep). t.refusal) q)))
+
+  pub given_none : part_told (Ok None) ≡ step_told field s answer → says none ≡ answer
+  given_none = told-none answer refused-not-0
+
+  told-some : (a : Said (Option (List ℕ))) → answer ≡ a → (p : Part) → part_told (Ok (Some p)) ≡ step_told field s a → says (some (take p.length (drop p.offset s.spt))) ≡ a
+  told-some (says (some x)) e p q =
+      let o : p.offset ≡ offset_of field s (says (some x)) = ap (λ (t : ListingStep). t.offset) q in
+      let n : p.length ≡ length x = ap (λ (t : ListingStep). t.length) q in
+      rw (o, n, (lies (says (some x)) e).1) refl
+  told-some (says none) e p q = clash (ap (λ (t : ListingStep). t.found) (sym q)) refl
+  told-some (refuses n) e p q = clash (ap (λ (t : ListingStep). t.found) (sym q)) refl
+
+  pub given_some : (p : Part) → part_told (Ok (Some p)) ≡ step_told field s answer → says (some (take p.length (drop p.offset s.spt))) ≡ answer
+  given_some = told-some answer refl
 
 -- The number of what a step answers is the refusal, 0 for none.
 pub listed-number : (s : Store) (refusal : ℕ) (test : Stored → Bool) (last : List ℕ) → number_of (listed field s refusal test last) ≡ refusal
 unfolding listed number_of
 listed-number s refusal test last = split (eqb refusal 0) (λ q. rw q (sym (eqb-true refusal 0 q))) (λ q. rw q)
-
--- Where a part begins, by the step.
-pub begins-told : (s : Store) (a : Said (Option (List ℕ))) (t : ListingStep) → t ≡ step_told field s a → (whole part : ℕ × ℕ) → PartBegins whole part t.offset → PartBegins whole part (offset_of field s a)
-begins-told s a t e whole part h = subst (λ (x : ListingStep). PartBegins whole part x.offset) e h

@@ -33,15 +33,15 @@ key-remembered [] e = refl
 key-remembered (b ∷ k) e = e
 
 -- The test of what is remembered, by its length.
-pub remember-empty : (k : List ℕ) → length k ≡ 0 → true ≡ is_remembered field k
+pub remember_empty : (k : List ℕ) → length k ≡ 0 → true ≡ is_remembered field k
 unfolding is_remembered
-remember-empty [] e = refl
-remember-empty (b ∷ k) e = absurd (omega arith)
+remember_empty [] e = refl
+remember_empty (b ∷ k) e = absurd (omega arith)
 
-pub remember-key : (k : List ℕ) → (length k ≡ 0 → ⊥) → (t : Bool) → t ≡ is_key Spt field k → t ≡ is_remembered field k
+pub remember_key : (k : List ℕ) → (length k ≡ 0 → ⊥) → (t : Bool) → t ≡ is_key Spt field k → t ≡ is_remembered field k
 unfolding is_remembered
-remember-key [] h t e = absurd (h refl)
-remember-key (b ∷ k) h t e = e
+remember_key [] h t e = absurd (h refl)
+remember_key (b ∷ k) h t e = e
 
 -- What may not be remembered is not empty, and the key of no triple within the figures.
 pub refused_keys : (k : List ℕ) → Bytes k → (is_remembered field k ≡ false) ↔ ((k ≡ [] → ⊥) × ((t : Triple) → is_path field t.path ≡ true → Sized t → spt_key t ≡ k → ⊥))

@@ -1,67 +1,47 @@
 -- The tests that every call that only reads begins with: which refusal comes of which, what is known where nothing is refused, and the
 -- answer of each call, refused or not, by what its inner function answers. Assumes nothing.
 use Prim.Native.Nat.{ℕ}
-use mathlib.Core.Path.{◌≡◌, sym, ap, ◌∙◌}
+use mathlib.Core.Path.{◌≡◌, refl}
 use mathlib.Core.List.{List}
-use mathlib.Core.Bool.{Bool, true, false}
+use mathlib.Core.Bool.{Bool, true, ◌&&◌}
 use native.Mathlib.Omega.{arith}
-use lib.ListN.{length, take}
-use borrow.Author.Tests.{ne_eqb}
+use lib.ListN.{length}
 use Rattle.laws.specs.Sorted.{keep}
+use Rattle.data_model.specs.Said.{refuses, says}
 use Rattle.data_model.specs.Path.{field, legal, components}
 use Rattle.data_model.specs.Area.{area_range, area_range_answer, empty_range}
 use Rattle.data_model.specs.declared.path.Path.{Path}
 use Rattle.data_model.specs.declared.parameters.Subspace.{Subspace}
 use Rattle.data_model.specs.declared.area.Area.{Area}
-use Rattle.data_model.specs.declared.area.AreaRange.{AreaRange}
 use Rattle.data_model.specs.declared.area_of_interest.AreaOfInterest.{AreaOfInterest}
 use Rattle.tree.specs.Stored.{Stored}
-use Rattle.tree.specs.Tree.{Formed, Ordered}
 use Rattle.data_model.specs.declared.query_ignore_params.QueryIgnoreParams.{QueryIgnoreParams}
 use Rattle.tree.specs.declared.stored.KeyOrder.TheVariants.{Spt, Tsp}
-use Rattle.store.specs.Store.{Store, tree_room, dir_room, tree_of, dir_of, held}
-use Rattle.store.specs.Refusal.{unless, ◌or_else◌, store_refusal}
+use Rattle.tree.specs.declared.stored.KeyOrder.{KeyOrder}
+use Rattle.laws.proofs.Truth.{and-true}
+use Rattle.store.specs.Store.{well_formed_store, Store, tree_of, dir_of, held}
+use Rattle.store.specs.Refusal.{unless, ◌or_else◌, limit_ok, roomy, store_refusal}
 use Rattle.store.specs.Change.{in_tree}
-use Rattle.store.proofs.CheckLaws.{or-none, unless-none, Passed, passed}
-use Rattle.query.specs.Reading.{read_refusal, is_remembered, list_refusal}
+use Rattle.store.proofs.CheckLaws.{or-none, unless-none, Passed, passed, number-some}
+use Rattle.query.specs.Reading.{read_refusal, area_refusal, is_remembered, list_refusal}
+use Rattle.data_model.specs.Refusal.{refusal_number}
+use Rattle.data_model.specs.declared.answer.Refusal.{Refusal}
+use Rattle.data_model.specs.declared.range_3d.Range3d.{Range3d}
 use Rattle.query.specs.Count.{counted}
 use Rattle.query.specs.Lookup.{not_found, found_in, entry_found}
 use Rattle.query.specs.Interest.{interest_time, starting_at, interest_range}
-use Rattle.query.specs.declared.answer.EntryFound.{EntryFound}
-use Rattle.query.specs.declared.answer.InterestRange.{InterestRange}
+use Rattle.query.specs.Lookup.{EntryFound}
 
--- Which refusal comes of which test.
-module _ (s : Store) (paths : Bool) (n : ℕ) (e : n ≡ store_refusal field s true) where
-  pub read-early : (n ≡ 0 → ⊥) → n ≡ read_refusal field s paths
-  unfolding read_refusal ◌or_else◌
-  read-early h = rw (← e, ne_eqb n 0 h)
-
-  pub read-path : n ≡ 0 → paths ≡ false → 4 ≡ read_refusal field s paths
-  unfolding read_refusal ◌or_else◌ unless
-  read-path z l = rw (← e, z, l)
-
-  pub read-passes : n ≡ 0 → paths ≡ true → 0 ≡ read_refusal field s paths
-  unfolding read_refusal ◌or_else◌ unless
-  read-passes z l = rw (← e, z, l)
+-- Where a first test refuses nothing, two refuse what the second does.
+pub second_refused : (m n k : ℕ) → 0 ≡ m → k ≡ n → k ≡ (m or_else n)
+unfolding ◌or_else◌
+second_refused m n k e f = rw (← e) f
 
 pub read-tested : (s : Store) (b : Bool) → read_refusal field s b ≡ 0 → Passed s × (b ≡ true)
 unfolding read_refusal
 read-tested s b z = let k = or-none (store_refusal field s true) (unless b 4) z in ((passed s true k.0).0, unless-none b 4 (omega arith) k.1)
 
 -- A step of a listing: the same, and then the key that it remembers.
-module _ (s : Store) (paths : Bool) (last : List ℕ) (n : ℕ) (e : n ≡ read_refusal field s paths) where
-  pub list-early : (n ≡ 0 → ⊥) → n ≡ list_refusal field s paths last
-  unfolding list_refusal ◌or_else◌
-  list-early h = rw (← e, ne_eqb n 0 h)
-
-  pub list-no-key : n ≡ 0 → is_remembered field last ≡ false → 5 ≡ list_refusal field s paths last
-  unfolding list_refusal ◌or_else◌ unless
-  list-no-key z k = rw (← e, z, k)
-
-  pub list-passes : n ≡ 0 → is_remembered field last ≡ true → 0 ≡ list_refusal field s paths last
-  unfolding list_refusal ◌or_else◌ unless
-  list-passes z k = rw (← e, z, k)
-
 pub list-tested : (s : Store) (b : Bool) (last : List ℕ) → list_refusal field s b last ≡ 0 → Passed s × (b ≡ true) × (is_remembered field last ≡ true)
 unfolding list_refusal
 list-tested s b last z =
@@ -69,61 +49,70 @@ list-tested s b last z =
     let r = read-tested s b k.0 in
     (r.0, r.1, unless-none (is_remembered field last) 5 (omega arith) k.1)
 
--- The trees in their rooms, as the inner functions have them.
-abbrev pub held_spt : Store → List Stored
-held_spt s = in_tree Spt s.state.namespace_id s.state.count (take (dir_room s.state.limit) s.spt_dir) (take (tree_room field s.state.limit) s.spt)
+-- Nothing is refused.
+pub store-passes : (s : Store) → limit_ok s.state.limit ≡ true → roomy field s.state.limit s ≡ true → well_formed_store field s ≡ true → 0 ≡ store_refusal field s true
+unfolding store_refusal unless ◌or_else◌
+store-passes s l m n = rw (l, m, n) refl
 
-abbrev pub held_tsp : Store → List Stored
-held_tsp s = in_tree Tsp s.state.namespace_id s.state.count (take (dir_room s.state.limit) s.tsp_dir) (take (tree_room field s.state.limit) s.tsp)
+pub read-passes : (s : Store) (paths : Bool) → 0 ≡ store_refusal field s true → paths ≡ true → 0 ≡ read_refusal field s paths
+unfolding read_refusal unless
+read-passes s paths e l = second_refused (store_refusal field s true) _ 0 e (rw l refl)
 
-pub formed-spt : (s : Store) → Passed s → Formed Spt s.state.count (take (dir_room s.state.limit) s.spt_dir) (take (tree_room field s.state.limit) s.spt)
-unfolding tree_of dir_of
-formed-spt s p = p.formed Spt
+pub list-passes : (s : Store) (paths : Bool) (last : List ℕ) → 0 ≡ read_refusal field s paths → is_remembered field last ≡ true → 0 ≡ list_refusal field s paths last
+unfolding list_refusal unless
+list-passes s paths last e k = second_refused (read_refusal field s paths) _ 0 e (rw k refl)
 
-pub ordered-spt : (s : Store) → Passed s → Ordered Spt s.state.count (take (dir_room s.state.limit) s.spt_dir) (take (tree_room field s.state.limit) s.spt)
-unfolding tree_of dir_of
-ordered-spt s p = p.ordered Spt
+-- A store that is not refused can be cut to its limit's room.
+pub cuts : (s : Store) (b : Bool) → read_refusal field s b ≡ 0 → (limit_ok s.state.limit ≡ true) × (roomy field s.state.limit s ≡ true)
+unfolding read_refusal store_refusal
+cuts s b z =
+    let k = or-none (store_refusal field s true) (unless b 4) z in
+    let l = or-none (unless (limit_ok s.state.limit) 1) _ k.0 in
+    let m = or-none (unless (roomy field s.state.limit s && true) 2) _ l.1 in
+    (unless-none _ 1 (omega arith) l.0, (and-true _ true (unless-none _ 2 (omega arith) m.0)).0)
 
-pub formed-tsp : (s : Store) → Passed s → Formed Tsp s.state.count (take (dir_room s.state.limit) s.tsp_dir) (take (tree_room field s.state.limit) s.tsp)
-unfolding tree_of dir_of
-formed-tsp s p = p.formed Tsp
+pub list-cuts : (s : Store) (b : Bool) (last : List ℕ) → list_refusal field s b last ≡ 0 → (limit_ok s.state.limit ≡ true) × (roomy field s.state.limit s ≡ true)
+unfolding list_refusal
+list-cuts s b last z = cuts s b (or-none (read_refusal field s b) (unless (is_remembered field last) 5) z).0
 
--- A call's test of its paths answered t, and the tests all together n.
-module _ (s : Store) (t b : Bool) (q : t ≡ b) (n : ℕ) (e : n ≡ read_refusal field s t) where
-  refusal : read_refusal field s b ≡ n
-  refusal = ap (read_refusal field s) (sym q) ∙ sym e
+-- The entries of a tree, as the inner functions have them.
+abbrev pub tree_in : KeyOrder → Store → List Stored
+tree_in o s = in_tree o s.state.namespace_id s.state.count (dir_of o s) (tree_of field o s)
 
-  pub tested : n ≡ 0 → Passed s × (b ≡ true)
-  tested z = read-tested s b (refusal ∙ z)
-
-  pub count-refused : (test : Stored → Bool) → (n ≡ 0 → ⊥) → record { refusal = n; count = 0 } ≡ counted field s (read_refusal field s b) test
+-- What the calls answer, refused or not.
+module _ (s : Store) (b : Bool) (test : Stored → Bool) where
+  pub count_refused : (r : Refusal) → refusal_number r ≡ read_refusal field s b → record { refusal = refusal_number r; count = 0 } ≡ counted field s (read_refusal field s b) test
   unfolding counted
-  count-refused test h = rw (refusal, ne_eqb n 0 h)
+  count_refused r e = rw (← e, number-some r)
 
-  pub count-done : (test : Stored → Bool) → n ≡ 0 → (m : ℕ) → m ≡ length (keep test (held_spt s)) → record { refusal = 0; count = m } ≡ counted field s (read_refusal field s b) test
-  unfolding counted held tree_of dir_of
-  count-done test z m em = rw (refusal, z, em)
+  pub count-done : 0 ≡ read_refusal field s b → (m : ℕ) → m ≡ length (keep test (tree_in Spt s)) → record { refusal = 0; count = m } ≡ counted field s (read_refusal field s b) test
+  unfolding counted held
+  count-done z m em = rw (← z, em)
 
-module _ (s : Store) (subspace : Subspace) (path : Path) (ignore : QueryIgnoreParams) (t : Bool) (q : t ≡ legal field path) (n : ℕ) (e : n ≡ read_refusal field s t) where
-  pub entry-refused : (n ≡ 0 → ⊥) → (r : EntryFound) → r ≡ not_found n → r ≡ entry_found field s subspace path ignore
+module _ (s : Store) (subspace : Subspace) (path : Path) (ignore : QueryIgnoreParams) where
+  pub entry_refused : (r : Refusal) → refusal_number r ≡ read_refusal field s (legal field path) → not_found (refusal_number r) ≡ entry_found field s subspace path ignore
   unfolding entry_found
-  entry-refused h r er = rw (refusal s t (legal field path) q n e, ne_eqb n 0 h) er
+  entry_refused r e = rw (← e, number-some r)
 
-  pub entry_found_lem : n ≡ 0 → (r : EntryFound) → r ≡ found_in subspace (components path) ignore (held_spt s) → r ≡ entry_found field s subspace path ignore
-  unfolding entry_found held tree_of dir_of
-  entry_found_lem z r er = rw (refusal s t (legal field path) q n e, z) er
+  pub entry-done : 0 ≡ read_refusal field s (legal field path) → (r : EntryFound) → r ≡ found_in subspace (components path) ignore (tree_in Spt s) → r ≡ entry_found field s subspace path ignore
+  unfolding entry_found held
+  entry-done z r er = rw (← z) er
 
-module _ (s : Store) (a : AreaOfInterest) (t : Bool) (q : t ≡ legal field a.area.path) (n : ℕ) (e : n ≡ read_refusal field s t) where
-  pub interest-refused : (n ≡ 0 → ⊥) → (r : InterestRange) → r ≡ record { refusal = n; range = empty_range } → r ≡ interest_range field s a
+module _ (s : Store) (a : AreaOfInterest) where
+  pub interest_refused : (r : Refusal) → refusal_number r ≡ area_refusal field s a.area → record { refusal = refusal_number r; range = empty_range } ≡ interest_range field s a
   unfolding interest_range
-  interest-refused h r er = rw (refusal s t (legal field a.area.path) q n e, ne_eqb n 0 h) er
+  interest_refused r e = rw (← e, number-some r)
 
-  pub interest-done : n ≡ 0 → (time : ℕ) → time ≡ interest_time a (held_tsp s) → (r : InterestRange) → r ≡ record { refusal = 0; range = starting_at time (area_range field a.area) }
-      → r ≡ interest_range field s a
-  unfolding interest_range held tree_of dir_of
-  interest-done z time et r er = rw (refusal s t (legal field a.area.path) q n e, z, ← et) er
+  pub interest-done : 0 ≡ area_refusal field s a.area → (time : ℕ) → time ≡ interest_time a (tree_in Tsp s) → (r : Range3d) → r ≡ area_range field a.area
+      → record { refusal = 0; range = starting_at time r } ≡ interest_range field s a
+  unfolding interest_range held
+  interest-done z time et r er = rw (← z, er, ← et)
 
--- An area's range, with another start of its times.
-pub range-from : (area : Area) → legal field area.path ≡ true → (w : AreaRange) → w ≡ area_range_answer field area → w.range ≡ area_range field area
+-- An area whose path is legal has its range.
+pub range_is : (area : Area) → legal field area.path ≡ true → (r : Range3d) → says r ≡ area_range_answer field area → r ≡ area_range field area
 unfolding area_range_answer
-range-from area l w e = ap (λ (x : AreaRange). x.range) e ∙ rw l
+range_is area l r e = let w : says r ≡ says (area_range field area) = rw l at e in cc
+
+pub range_given : {G : Type 0} (area : Area) → legal field area.path ≡ true → (n : ℕ) → refuses n ≡ area_range_answer field area → G
+unfolding area_range_answer
+range_given area l n e = absurd (let w : refuses n ≡ says (area_range field area) = rw l at e in let z : ◌≡◌ {A = ℕ} 0 1 = cc in omega arith)

@@ -18,7 +18,7 @@ use Rattle.laws.specs.Sorted.{◌∈◌, keep, Ascends}
 use Rattle.laws.proofs.Truth.{split, and-true, not-true}
 use Rattle.laws.proofs.Sorted.{keep-view, keep-ascends}
 use Rattle.data_model.specs.Path.{field, components, is_prefix}
-use Rattle.data_model.specs.Range.{times_include, subspaces_include, paths_include, includes, before_end, times_end}
+use Rattle.data_model.specs.Range.{times_include, subspaces_include, paths_include, includes, before_end, end_says}
 use Rattle.data_model.specs.Range3d.{range_includes}
 use Rattle.data_model.specs.Area.{area_subspace, area_includes, area_range}
 use Rattle.data_model.specs.declared.range.RangeEnd.{RangeEnd}
@@ -47,7 +47,7 @@ unfolding in_area area_includes times_include includes
 in-time area x e =
     let t = x.entry.rank.timestamp in
     let before = not (is_less (by_number t area.times.start)) in
-    let rest = before_end by_number t (times_end area.times.end) in
+    let rest = before_end by_number t (end_says area.times.end) in
     let prefix = is_prefix (components area.path) x.entry.path in
     let a = (and-true (area_subspace area.subspace x.entry.subspace) (prefix && (before && rest)) e).1 in
     let b = (and-true prefix (before && rest) a).1 in
@@ -71,7 +71,7 @@ interest-late a tsp =
     (λ x m. in-time a.area x (keep-view (in_area a.area) tsp (reverse-in (keep (in_area a.area) tsp) m)).1)
 
 -- Times that start later.
-later : (start t ts : ℕ) (end : RangeEnd) → start ≤ t → times_include (record { start = t; end = end }) ts ≡ (leb t ts && times_include (record { start = start; end = end }) ts)
+later : (start t ts : ℕ) (end : RangeEnd ℕ) → start ≤ t → times_include (record { start = t; end = end }) ts ≡ (leb t ts && times_include (record { start = start; end = end }) ts)
 unfolding times_include includes
 later start t ts end h = split (leb t ts)
     (λ q. let w = leb-true t ts q in rw (q, number-below ts t, number-below ts start, le-ltb ts t w, le-ltb ts start (omega arith)))

@@ -43,7 +43,7 @@ use Rattle.query.specs.Listing.{spt_records, key_above, qualifies, step_in, list
 use Rattle.query.specs.Count.{counted, area_counted, summarised}
 use Rattle.query.specs.Lookup.{not_found, found_of, entry_found}
 use Rattle.query.specs.Walk.{Steps, Walked, turns_on, matching, Lists, Finds}
-use Rattle.query.specs.declared.answer.EntryFound.{EntryFound}
+use Rattle.query.specs.Lookup.{EntryFound}
 use Rattle.query.proofs.Tested.{read-tested, list-passes}
 use Rattle.query.proofs.MarkedLaws.{keep_same}
 use Rattle.query.proofs.StartLaws.{record-remembered, start-above}
@@ -105,7 +105,7 @@ module _ (s : Store) (b : Bool) (test : Stored → Bool) (z : read_refusal field
       → steps s last ≡ says (first_that wants rest)
   unfolding listed step_in
   answers last k pre rest e low high =
-      let n = list-passes s b last 0 (sym z) refl k in
+      let n = list-passes s b last (sym z) k in
       let f : least_that key_below (may last) recs ≡ first_that wants rest
       = least_first key_below key-weak (may last) recs ascends ∙ ap (first_that (may last)) e ∙ first-behind (may last) pre rest low
       ∙ first_alike (may last) wants rest (λ r m. ap (◌&& wants r) (high r m)) in

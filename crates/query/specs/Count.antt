@@ -1,7 +1,9 @@
 -- Counts: how many entries of the store an area or a 3d range includes, whatever is available of their payloads.
-use Rattle.std.specs.Prelude.{ℕ, Bool, cond, length, eqb}
+use Rattle.std.specs.Prelude.{ℕ, Bool, cond, length, eqb, Result, Ok, Err}
 use Rattle.laws.specs.Sorted.{keep}
 use Rattle.data_model.specs.Path.{Figures}
+use Rattle.data_model.specs.Refusal.{refusal_number}
+use Rattle.data_model.specs.declared.answer.Refusal.{Refusal}
 use Rattle.data_model.specs.declared.area.Area.{Area}
 use Rattle.data_model.specs.declared.range_3d.Range3d.{Range3d}
 use Rattle.tree.specs.Stored.{Stored}
@@ -9,7 +11,16 @@ use Rattle.tree.specs.Matching.{in_area, in_range}
 use Rattle.tree.specs.declared.stored.KeyOrder.TheVariants.{Spt}
 use Rattle.store.specs.Store.{Store, held}
 use Rattle.query.specs.Reading.{area_refusal, range_refusal}
-use Rattle.query.specs.declared.answer.Counted.{Counted}
+
+-- A count told in numbers: refusal 0 and the count; or the refusal and 0.
+pub record Counted : Type 0 where
+  pub refusal : ℕ
+  pub count : ℕ
+
+-- What the answer of a count tells.
+abbrev pub count_told : Result ℕ Refusal → Counted
+count_told (Ok n) = record { refusal = 0; count = n }
+count_told (Err r) = record { refusal = refusal_number r; count = 0 }
 
 unfoldable pub counted : Figures → Store → (refusal : ℕ) → (Stored → Bool) → Counted
 counted f s refusal test =

@@ -1,8 +1,10 @@
 -- The 3d range of an area of interest: that of its area, the times starting where the limits have it.
-use Rattle.std.specs.Prelude.{ℕ, ◌+◌, ◌<◌, ◌≡◌, ◌⊎◌, List, [], ◌∷◌, ◌++◌, reverse, cond, eqb, length}
+use Rattle.std.specs.Prelude.{ℕ, ◌+◌, ◌<◌, ◌≡◌, ◌⊎◌, List, [], ◌∷◌, ◌++◌, reverse, cond, eqb, length, Result, Ok, Err}
 use Rattle.laws.specs.Sorted.{keep}
 use Rattle.data_model.specs.Path.{Figures}
 use Rattle.data_model.specs.Area.{area_range, empty_range}
+use Rattle.data_model.specs.Refusal.{refusal_number}
+use Rattle.data_model.specs.declared.answer.Refusal.{Refusal}
 use Rattle.data_model.specs.declared.area_of_interest.AreaOfInterest.{AreaOfInterest}
 use Rattle.data_model.specs.declared.range_3d.Range3d.{Range3d}
 use Rattle.tree.specs.Stored.{Stored}
@@ -11,7 +13,16 @@ use Rattle.tree.specs.Interest.{no_limit, interest_from}
 use Rattle.tree.specs.declared.stored.KeyOrder.TheVariants.{Tsp}
 use Rattle.store.specs.Store.{Store, held}
 use Rattle.query.specs.Reading.{area_refusal}
-use Rattle.query.specs.declared.answer.InterestRange.{InterestRange}
+
+-- The range of an area of interest told with a number: refusal 0 and the range; or the refusal and the range that includes nothing.
+pub record InterestRange : Type 0 where
+  pub refusal : ℕ
+  pub range : Range3d
+
+-- What the answer of `area_of_interest_to_range` tells.
+abbrev pub range_told : Result Range3d Refusal → InterestRange
+range_told (Ok r) = record { refusal = 0; range = r }
+range_told (Err n) = record { refusal = refusal_number n; range = empty_range }
 
 -- The matches are met from the last in time-first order, as the code goes; `Starts` says what time that is.
 abbrev pub interest_time : AreaOfInterest → (tsp : List Stored) → ℕ

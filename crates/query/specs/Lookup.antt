@@ -1,9 +1,12 @@
 -- The entry at a subspace and path, if the flags let it through.
-use Rattle.std.specs.Prelude.{ℕ, List, true, false, cond, replicate, eqb}
+use Rattle.std.specs.Prelude.{ℕ, Bool, List, true, false, cond, replicate, eqb, Some, None, Result, Ok, Err}
+use Rattle.std.specs.Prelude.{Option as Optional}
 use Rattle.std.proofs.Math.Option.{Option, some, none}
 use Rattle.laws.specs.First.{first_that}
 use Rattle.data_model.specs.Path.{Figures, Components, components, legal}
 use Rattle.data_model.specs.Entry.{no_entry}
+use Rattle.data_model.specs.Refusal.{refusal_number}
+use Rattle.data_model.specs.declared.answer.Refusal.{Refusal}
 use Rattle.data_model.specs.declared.entry_origin.EntryOrigin.TheVariants.{Local}
 use Rattle.data_model.specs.declared.path.Path.{Path}
 use Rattle.data_model.specs.declared.parameters.Subspace.{Subspace}
@@ -14,7 +17,13 @@ use Rattle.tree.specs.declared.stored.KeyOrder.TheVariants.{Spt}
 use Rattle.tree.specs.declared.stored.LengthyAuthorisedEntry.{LengthyAuthorisedEntry}
 use Rattle.store.specs.Store.{Store, held}
 use Rattle.query.specs.Reading.{read_refusal}
-use Rattle.query.specs.declared.answer.EntryFound.{EntryFound}
+
+-- What a lookup tells: refusal 0, whether there is an entry, and it with its token, available length and origin; where there is none or the call is refused all else
+-- is 0, and the origin local.
+pub record EntryFound : Type 0 where
+  pub refusal : ℕ
+  pub found : Bool
+  pub lengthy : LengthyAuthorisedEntry
 
 -- All 0, which is a local origin.
 abbrev pub no_lengthy : LengthyAuthorisedEntry
@@ -22,6 +31,12 @@ no_lengthy = record { entry = no_entry; token = replicate 64 0; available = 0; o
 
 abbrev pub not_found : (refusal : ℕ) → EntryFound
 not_found refusal = record { refusal = refusal; found = false; lengthy = no_lengthy }
+
+-- What the answer of a lookup tells.
+abbrev pub entry_told : Result (Optional LengthyAuthorisedEntry) Refusal → EntryFound
+entry_told (Ok (Some x)) = record { refusal = 0; found = true; lengthy = x }
+entry_told (Ok None) = not_found 0
+entry_told (Err r) = not_found (refusal_number r)
 
 -- What stands there, or nothing.
 unfoldable pub found_of : QueryIgnoreParams → Option Stored → EntryFound

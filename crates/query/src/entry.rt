@@ -1,107 +1,55 @@
 // The entry at a subspace and path.
-ghost use Rattle.std.specs.Prelude.{◌≡◌, true, ◌≤◌};
+// Kept (5): `IsFormed tree`, `tree.count ≤ limit_most`: as in tree/src/stored, the functions there are for trees that are yet to be tested too.
+ghost use Rattle.std.specs.Prelude.{◌≡◌, true, ◌≤◌, Ok};
 ghost use Rattle.data_model.specs.Path.{field, legal, components};
-ghost use Rattle.tree.specs.Tree.{Formed};
-ghost use Rattle.tree.specs.declared.stored.KeyOrder.TheVariants.{Spt};
-ghost use Rattle.store.specs.Store.{store_of, limit_most};
-ghost use Rattle.store.specs.Change.{in_tree};
-ghost use Rattle.query.specs.Lookup.{not_found, found_in, entry_found};
+ghost use Rattle.store.specs.Store.{limit_most};
+ghost use Rattle.store.specs.Lent.{lent};
+ghost use Rattle.query.specs.Lookup.{entry_told, found_in, entry_found};
+ghost use Rattle.tree.specs.Lent.{IsFormed, contents_in};
 
-use crate::answer::EntryFound;
 use crate::check::read_refusal;
-use data_model::entry::Entry;
-use data_model::entry_origin::EntryOrigin;
+use data_model::answer::Refusal;
 use data_model::parameters::Subspace;
 use data_model::path::Path;
 use data_model::query_ignore_params::QueryIgnoreParams;
-use store::state::{LIMIT_MOST, RECORD_MOST, State};
-use tree::by_value::{is_legal, zero_entry};
-use tree::entries::mark_at;
-use tree::marks::first_marked;
+use store::place::place_at;
+use store::state::Store;
+use tree::by_value::is_legal;
 use tree::matching::let_through;
-use tree::stored::{KeyOrder, LengthyAuthorisedEntry, stored_at};
+use tree::stored::{LengthyAuthorisedEntry, Tree};
 
-fn not_found(refusal: u8) -> EntryFound
-    ensures { result ≡ not_found refusal }
-{
-    let none = zero_entry();
-    EntryFound {
-        refusal,
-        found: false,
-        lengthy: LengthyAuthorisedEntry {
-            entry: none,
-            token: [0; 64],
-            available: 0,
-            origin: EntryOrigin::Local,
-        },
-    }
-}
-
-// Over the subspace-first tree in its room.
+// What stands at a place of a tree, if the flags let it through.
 fn find_entry(
+    tree: Tree,
     namespace: [u8; 16],
-    count: usize,
-    spt: &[u8],
-    spt_dir: &[u32],
     subspace: Subspace,
     path: Path,
     ignore: QueryIgnoreParams,
-) -> EntryFound
-    requires { (Formed Spt count spt_dir.now spt.now) × (count ≤ limit_most) × (legal field path ≡ true) }
-    ensures { result ≡ found_in subspace (components path) ignore (in_tree Spt namespace count spt_dir.now spt.now) }
+) -> Option<LengthyAuthorisedEntry>
+    requires { (IsFormed tree) × (tree.count ≤ limit_most) × (legal field path ≡ true) }
+    ensures { entry_told (Ok result) ≡ found_in subspace (components path) ignore (contents_in tree.entry namespace) }
 {
-    let mut marks = [0u8; LIMIT_MOST];
-    mark_at(
-        KeyOrder::Spt,
-        count,
-        spt_dir,
-        spt,
-        subspace,
-        path,
-        &mut marks,
-    );
-    let k = first_marked(&marks[..count], 0);
-    if count <= k {
-        return not_found(0);
-    }
-    let lengthy = stored_at(KeyOrder::Spt, namespace, spt_dir, spt, k);
-    if let_through(ignore, lengthy) {
-        return EntryFound {
-            refusal: 0,
-            found: true,
-            lengthy,
-        };
-    }
-    not_found(0)
+    let k = place_at(tree, subspace, path)?;
+    let lengthy = tree.stored_at(namespace, k);
+    let_through(ignore, lengthy).then_some(lengthy)
 }
 
 // The entry, its token, available length and origin; or none.
+#[tactic(auto, using(crate::proofs::Tested::entry_refused))]
 pub fn entry(
-    state: State,
-    spt: &[u8],
-    spt_dir: &[u32],
-    tsp: &[u8],
-    tsp_dir: &[u32],
+    store: Store,
     subspace: Subspace,
     path: Path,
     ignore: QueryIgnoreParams,
-) -> EntryFound
-    ensures { result ≡ entry_found field (store_of state spt.now spt_dir.now tsp.now tsp_dir.now) subspace path ignore }
+) -> Result<Option<LengthyAuthorisedEntry>, Refusal>
+    ensures { entry_told result ≡ entry_found field (lent store.entry) subspace path ignore }
 {
-    let refusal = read_refusal(state, spt, spt_dir, tsp, tsp_dir, is_legal(path));
-    if refusal != 0 {
-        return not_found(refusal);
-    }
-    let namespace = state.namespace_id;
-    let t = RECORD_MOST * state.limit;
-    let d = 2 * state.limit;
-    find_entry(
-        namespace,
-        state.count,
-        &spt[..t],
-        &spt_dir[..d],
+    read_refusal(store, is_legal(path))?;
+    Ok(find_entry(
+        store.spt(),
+        store.state.namespace_id,
         subspace,
         path,
         ignore,
-    )
+    ))
 }

@@ -7,6 +7,7 @@ pub mod answer;
 pub mod check;
 pub mod count;
 pub mod entry;
+pub mod grouping;
 pub mod interest;
 pub mod listing;
 pub mod step;

@@ -1,72 +1,80 @@
 // Values of a line's fields, counted from 0. What is missing or not of the form is 0. Every call has the same places: 1 namespace, 2 subspace (high,
 // low), 4 path (bytes, eight ends, count), 14 timestamp or first time, 15 payload length or end of the times, 16 digest, 17 token, 18 any subspace or
 // open subspaces, 19 open times, 20 second subspace, 22 second path, 32 open paths; from 33 on stands what only some calls have.
-ghost use Rattle.std.specs.Prelude.{◌≤◌, ◌<◌};
+ghost use Rattle.std.specs.Prelude.{◌<◌, ◌≤◌, length};
 
 use data_model::entry::Entry;
 use data_model::parameters::Subspace;
 use data_model::path::Path;
 use plain::input::{PlainArea, PlainOrigin, PlainRange, PlainTimes};
-use text::hex::{is_hex, read_hex};
+use text::hex::{HexError, digit_value, read_hex};
 use text::line::nth_field;
+
+// The k-th field.
+fn text_at(q: &[u8], k: usize) -> &[u8] {
+    nth_field(q, b' ', k)
+}
 
 // The number that the last 16 digits of a field spell.
 pub fn number(q: &[u8], k: usize) -> u64 {
-    let s = nth_field(q, 32, k);
-    let mut x: u64 = 0;
-    let mut i: usize = 0;
-    while i < s.len() {
-        x = x % 0x1000_0000_0000_0000 * 16 + text::hex::digit_value(s[i]) as u64 % 16;
-        i += 1;
-    }
-    x
+    text_at(q, k).iter().fold(0, |x, &b| {
+        x % 0x1000_0000_0000_0000 * 16 + u64::from(digit_value(b)) % 16
+    })
 }
 
+// A number's last byte.
 pub fn flag(q: &[u8], k: usize) -> u8 {
     (number(q, k) % 256) as u8
 }
 
+// The bytes of a field, and zeros behind them.
+fn bytes<const N: usize>(q: &[u8], k: usize) -> [u8; N] {
+    let mut out = [0; N];
+    let _ = read_hex(text_at(q, k), &mut out);
+    out
+}
+
+// The namespace.
 pub fn namespace(q: &[u8]) -> [u8; 16] {
-    let mut out = [0u8; 16];
-    read_hex(nth_field(q, 32, 1), &mut out);
-    out
+    bytes(q, 1)
 }
 
+// The digest.
 pub fn digest(q: &[u8]) -> [u8; 32] {
-    let mut out = [0u8; 32];
-    read_hex(nth_field(q, 32, 16), &mut out);
-    out
+    bytes(q, 16)
 }
 
+// The token.
 pub fn token(q: &[u8]) -> [u8; 64] {
-    let mut out = [0u8; 64];
-    read_hex(nth_field(q, 32, 17), &mut out);
-    out
+    bytes(q, 17)
 }
 
+// A subspace, from field k on.
 pub fn subspace(q: &[u8], k: usize) -> Subspace
     requires { k < 99 }
 {
-    let high = number(q, k);
-    let low = number(q, k + 1);
-    Subspace { high, low }
+    Subspace {
+        high: number(q, k),
+        low: number(q, k + 1),
+    }
 }
 
+// A path, from field k on.
 pub fn path(q: &[u8], k: usize) -> Path
     requires { k < 99 }
 {
-    let mut bytes = [0u8; 128];
-    read_hex(nth_field(q, 32, k), &mut bytes);
-    let mut ends = [0usize; 8];
-    let mut i: usize = 0;
-    while i < 8 {
+    let mut ends = [0; 8];
+    for i in 0..8 {
         ends[i] = number(q, k + 1 + i) as usize;
-        i += 1;
     }
-    let count = number(q, k + 9) as usize;
-    Path { bytes, ends, count }
+    Path {
+        bytes: bytes(q, k),
+        ends,
+        count: number(q, k + 9) as usize,
+    }
 }
 
+// The entry.
 pub fn entry(q: &[u8]) -> Entry {
     Entry {
         namespace_id: namespace(q),
@@ -89,22 +97,19 @@ pub fn origin(q: &[u8]) -> PlainOrigin {
 // How many bytes of a remembered key are read: two more than any key has.
 pub const LAST_MOST: usize = 300;
 
-// The key that a listing remembers, field 35, into a buffer; answers how many bytes it has, 0 for what is not of the form.
-pub fn last(q: &[u8], out: &mut [u8]) -> usize
-    ensures { result ≤ 300 }
+// The key that a listing remembers, field 35, read into a buffer; empty for what is not of the form, and zeros for what is too long.
+pub fn last<'a>(q: &[u8], out: &'a mut [u8; LAST_MOST]) -> &'a [u8]
+    ensures { length result.now ≤ 300 }
 {
-    let s = nth_field(q, 32, 35);
-    if !is_hex(s) {
-        return 0;
-    }
-    read_hex(s, out);
-    let n = s.len() / 2;
-    if LAST_MOST < n {
-        return LAST_MOST;
-    }
-    n
+    let n = match read_hex(text_at(q, 35), out) {
+        Ok(n) => n.min(LAST_MOST),
+        Err(HexError::Bad) => 0,
+        Err(HexError::Short) => LAST_MOST,
+    };
+    &out[..n]
 }
 
+// The times.
 fn times(q: &[u8]) -> PlainTimes {
     PlainTimes {
         start: number(q, 14),
@@ -113,6 +118,7 @@ fn times(q: &[u8]) -> PlainTimes {
     }
 }
 
+// The area.
 pub fn area(q: &[u8]) -> PlainArea {
     PlainArea {
         any_subspace: flag(q, 18),
@@ -136,6 +142,7 @@ pub fn kept(q: &[u8]) -> PlainArea {
     }
 }
 
+// The range.
 pub fn range(q: &[u8]) -> PlainRange {
     PlainRange {
         subspaces: plain::input::PlainSubspaces {

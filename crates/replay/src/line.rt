@@ -1,37 +1,32 @@
 // Lines read, and fields told, each behind a space. Numbers are in hex; bytes two digits each, without the zeros at the end, `-` if that is nothing.
 ghost use Rattle.std.specs.Prelude.{◌≤◌, length};
 
-use keys::number::wide;
 use std::io;
 use std::io::Read;
 
-// The next byte of the input; 256 at its end.
-fn next_char<R: Read>(reader: &mut R) -> io::Result<u64> {
-    let mut b = [0u8; 1];
-    if reader.read(&mut b)? == 0 {
-        return Ok(256);
-    }
-    Ok(wide(b[0]))
+// The next byte of the input; none at its end.
+fn next_byte<R: Read>(reader: &mut R) -> io::Result<Option<u8>> {
+    let mut b = [0];
+    let n = reader.read(&mut b)?;
+    Ok(if n == 0 { None } else { Some(b[0]) })
 }
 
 // Reads a line and a space behind it, as far as the buffer goes; false at the input's end.
 pub fn read_line<R: Read>(reader: &mut R, q: &mut [u8]) -> io::Result<bool> {
-    let mut n: usize = 0;
-    while n < q.len() {
-        let c = next_char(reader)?;
-        if 255 < c {
+    for place in q {
+        let Some(b) = next_byte(reader)? else {
             return Ok(false);
-        }
-        if c == 10 {
-            q[n] = 32;
+        };
+        if b == b'\n' {
+            *place = b' ';
             return Ok(true);
         }
-        q[n] = (c % 256) as u8;
-        n += 1;
+        *place = b;
     }
     Ok(true)
 }
 
+// A number.
 pub fn tell(rt: &impl Print, x: u64) -> io::Result<()> {
     print!(rt; " {x:x}")
 }
@@ -40,53 +35,40 @@ pub fn tell(rt: &impl Print, x: u64) -> io::Result<()> {
 fn used(s: &[u8]) -> usize
     ensures { result ≤ length s.now }
 {
-    let mut n = s.len();
-    while 0 < n {
-        if s[n - 1] != 0 {
-            return n;
-        }
-        n -= 1;
+    match s.iter().rposition(|&b| b != 0) {
+        Some(last) => last + 1,
+        None => 0,
     }
-    n
 }
 
+// Bytes, without the zeros at the end.
 pub fn tell_bytes(rt: &impl Print, s: &[u8]) -> io::Result<()> {
     print!(rt; " ")?;
     let n = used(s);
     if n == 0 {
         print!(rt; "-")?;
     }
-    let mut i: usize = 0;
-    while i < n {
-        let x = s[i];
+    for x in &s[..n] {
         print!(rt; "{x:02x}")?;
-        i += 1;
     }
     Ok(())
-}
-
-fn wide_number(x: u32) -> u64 {
-    x as u64
 }
 
 // The numbers that are not 0, each behind its place.
 pub fn tell_numbers(rt: &impl Print, s: &[u32]) -> io::Result<()> {
-    let mut i: usize = 0;
-    while i < s.len() {
-        if s[i] != 0 {
+    for (i, &x) in s.iter().enumerate() {
+        if x != 0 {
             tell(rt, i as u64)?;
-            tell(rt, wide_number(s[i]))?;
+            tell(rt, u64::from(x))?;
         }
-        i += 1;
     }
     Ok(())
 }
 
+// Eight sizes.
 pub fn tell_sizes(rt: &impl Print, s: &[usize; 8]) -> io::Result<()> {
-    let mut i: usize = 0;
-    while i < 8 {
-        tell(rt, s[i] as u64)?;
-        i += 1;
+    for &x in s {
+        tell(rt, x as u64)?;
     }
     Ok(())
 }

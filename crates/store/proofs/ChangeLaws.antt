@@ -4,7 +4,7 @@ use mathlib.Core.Path.{◌≡◌, refl, sym, ap, ap₂, subst, ◌∙◌}
 use mathlib.Core.List.Memᴰ.{head as here}
 use mathlib.Core.List.Memᴰ.{tail as there}
 use mathlib.Core.List.{List, [], ◌∷◌, ◌++◌, map, append_assoc, append-nil}
-use mathlib.Core.Bool.{Bool, true, false, not, cond, ◌&&◌}
+use mathlib.Core.Bool.{Bool, true, false, not, ◌&&◌}
 use native.Mathlib.Omega.{arith}
 use native.Mathlib.Nat.{mul-suc}
 use lib.ListN.{length, take, drop, replicate, length-append}
@@ -184,28 +184,25 @@ and-all : (b : Bool) → (b && true) ≡ b
 and-all true = refl
 and-all false = refl
 
-pub if-protected : {protects legal : Bool} → protects ≡ true → cond protects legal true ≡ true → legal ≡ true
-if-protected {protects} {legal} t e = rw t at e
-
-module _ (g : QueryIgnoreParams) (e : g ≡ no_flags) (area protected : Area) (protects : Bool) (l : List Stored) where
-  pub unprotected-marks : protects ≡ false → (m m₀ : List ℕ) → m ≡ put (marks_of (listed_in_area area g) l) m₀ → m ≡ put (marks_of (is_forgotten area protects protected) l) m₀
+module _ (g : QueryIgnoreParams) (e : g ≡ no_flags) (area protected : Area) (l : List Stored) where
+  pub unprotected-marks : (m m₀ : List ℕ) → m ≡ put (marks_of (listed_in_area area g) l) m₀ → m ≡ put (marks_of (is_forgotten area false protected) l) m₀
   unfolding is_forgotten
-  unprotected-marks f m m₀ q = q ∙ ap (λ (p : Stored → Bool). put (marks_of p l) m₀) (λ i x. alike x i)
+  unprotected-marks m m₀ q = q ∙ ap (λ (p : Stored → Bool). put (marks_of p l) m₀) (λ i x. alike x i)
     where
-      alike : (x : Stored) → listed_in_area area g x ≡ (in_area area x && not (cond protects (in_area protected x) false))
-      alike x = unflagged-area g e area x ∙ rw f (sym (and-all (in_area area x)))
+      alike : (x : Stored) → listed_in_area area g x ≡ (in_area area x && not false)
+      alike x = unflagged-area g e area x ∙ sym (and-all (in_area area x))
 
-  pub protected-marks : protects ≡ true → (count : ℕ) → length l ≡ count → (m m₁ m₀ shield s₀ : List ℕ) → m₁ ≡ put (marks_of (listed_in_area area g) l) m₀
-      → shield ≡ put (marks_of (listed_in_area protected g) l) s₀ → m ≡ unmarked m₁ (take count shield) → m ≡ put (marks_of (is_forgotten area protects protected) l) m₀
+  pub protected-marks : (count : ℕ) → length l ≡ count → (m m₁ m₀ shield s₀ : List ℕ) → m₁ ≡ put (marks_of (listed_in_area area g) l) m₀
+      → shield ≡ put (marks_of (listed_in_area protected g) l) s₀ → m ≡ unmarked m₁ (take count shield) → m ≡ put (marks_of (is_forgotten area true protected) l) m₀
   unfolding is_forgotten
-  protected-marks t count n m m₁ m₀ shield s₀ q r z =
+  protected-marks count n m m₁ m₀ shield s₀ q r z =
       z
       ∙ ap₂ (λ (a b : List ℕ). unmarked a (take count b)) q r
       ∙ marks-unmarked (listed_in_area area g) (listed_in_area protected g) l count m₀ s₀ (sym n)
       ∙ ap (λ (p : Stored → Bool). put (marks_of p l) m₀) (λ i x. alike x i)
     where
-      alike : (x : Stored) → (listed_in_area area g x && not (listed_in_area protected g x)) ≡ (in_area area x && not (cond protects (in_area protected x) false))
-      alike x = rw t (ap₂ (λ (a b : Bool). a && not b) (unflagged-area g e area x) (unflagged-area g e protected x))
+      alike : (x : Stored) → (listed_in_area area g x && not (listed_in_area protected g x)) ≡ (in_area area x && not (in_area protected x))
+      alike x = ap₂ (λ (a b : Bool). a && not b) (unflagged-area g e area x) (unflagged-area g e protected x)
 
 -- What the marks of a test leave.
 module _ {o : KeyOrder} {count : ℕ} {dir tree : List ℕ} (v : Whole o count dir tree) (bytes : Bytes tree) (ns : List ℕ) (p : Stored → Bool)

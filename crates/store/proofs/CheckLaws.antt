@@ -1,7 +1,7 @@
 -- The tests that every call on a store begins with, as facts: what they say where they hold, and which refusal comes of which. Assumes
 -- nothing.
 use Prim.Native.Nat.{ℕ, ◌*◌, ◌≤◌, ◌<◌, ◌^◌, ◌/◌}
-use mathlib.Core.Path.{◌≡◌, sym, ap₂, ◌∙◌}
+use mathlib.Core.Path.{◌≡◌, refl, sym, ap₂, ◌∙◌}
 use mathlib.Core.List.{List}
 use mathlib.Core.Bool.{Bool, true, false, not, ◌&&◌}
 use native.Mathlib.Omega.{arith}
@@ -12,6 +12,9 @@ use borrow.Author.Tests.{leb-true, le-leb, lt-leb, eq-eqb, eqb-true}
 use Rattle.laws.proofs.Truth.{split, clash, and-true, not-true, not-false, alike}
 use Rattle.layout.specs.Layout.{records}
 use Rattle.data_model.specs.Path.{field}
+use Rattle.data_model.specs.Refusal.{refusal_number}
+use Rattle.data_model.specs.declared.answer.Refusal.{Refusal}
+use Rattle.data_model.specs.declared.answer.Refusal.TheVariants as refusal
 use Rattle.key_laws.specs.Bytes.{Bytes}
 use Rattle.tree.specs.Stored.{contents}
 use Rattle.tree.specs.Tree.{well_formed, Formed, Ordered, Whole, within}
@@ -78,27 +81,24 @@ module _ (s : Store) where
   unfolding well_formed_store well_formed_tree held well_formed_trees
   store-well h t e = simp (le-leb s.state.count s.state.limit h) e
 
-  -- Which refusal comes of which test.
-  module _ (b : Bool) where
-    pub refuses-limit : limit_ok s.state.limit ≡ false → 1 ≡ store_refusal field s b
-    unfolding store_refusal unless ◌or_else◌
-    refuses-limit l = simp l
+-- The number of a refusal is not 0: the first of two refusals is this one.
+pub number-some : (r : Refusal) → eqb (refusal_number r) 0 ≡ false
+number-some refusal.BadLimit = refl
+number-some refusal.ShortBuffer = refl
+number-some refusal.NotWellFormed = refl
+number-some refusal.IllegalPath = refl
+number-some refusal.NoKey = refl
+number-some refusal.OtherNamespace = refl
+number-some refusal.PruningPrevented = refl
+number-some refusal.Full = refl
+number-some refusal.OtherDigest = refl
+number-some refusal.WrongTally = refl
+number-some refusal.AbsentEntry = refl
+number-some refusal.TooMuchAvailable = refl
 
-    pub refuses-room : limit_ok s.state.limit ≡ true → roomy field s.state.limit s ≡ false → 2 ≡ store_refusal field s b
-    unfolding store_refusal unless ◌or_else◌
-    refuses-room l r = simp (l, r)
-
-    pub refuses-others : limit_ok s.state.limit ≡ true → roomy field s.state.limit s ≡ true → b ≡ false → 2 ≡ store_refusal field s b
-    unfolding store_refusal unless ◌or_else◌
-    refuses-others l r e = simp (l, r, e)
-
-    pub refuses-store : limit_ok s.state.limit ≡ true → roomy field s.state.limit s ≡ true → b ≡ true → well_formed_store field s ≡ false → 3 ≡ store_refusal field s b
-    unfolding store_refusal unless ◌or_else◌
-    refuses-store l r e w = simp (l, r, e, w)
-
-    pub refuses-none : limit_ok s.state.limit ≡ true → roomy field s.state.limit s ≡ true → b ≡ true → well_formed_store field s ≡ true → 0 ≡ store_refusal field s b
-    unfolding store_refusal unless ◌or_else◌
-    refuses-none l r e w = simp (l, r, e, w)
+pub early : (r : Refusal) (m n : ℕ) → refusal_number r ≡ m → refusal_number r ≡ m or_else n
+unfolding ◌or_else◌
+early r m n e = rw (← e, number-some r)
 
 -- No refusal: each test held.
 pub or-none : (m n : ℕ) → m or_else n ≡ 0 → (m ≡ 0) × (n ≡ 0)
@@ -141,7 +141,7 @@ module _ (s : Store) where
       let k5 = and-true d p k4.1 in
       (leb-true s.state.count s.state.limit k1.0, k2.0, k3.0, k4.0, k5.0, k5.1)
 
-  room_small : s.state.limit ≤ limit_most → Rooms field s → (o : KeyOrder) → length (tree_of field o s) < 2 ^ 32
+  pub room_small : s.state.limit ≤ limit_most → Rooms field s → (o : KeyOrder) → length (tree_of field o s) < 2 ^ 32
   unfolding tree_of
   room_small m r Spt = let l = r.spt in omega (arith, length-take-le (tree_room field s.state.limit) s.spt l)
   room_small m r Tsp = let l = r.tsp in omega (arith, length-take-le (tree_room field s.state.limit) s.tsp l)
@@ -176,3 +176,12 @@ module _ (s : Store) where
       let l = limit-most s.state.limit (unless-none (limit_ok s.state.limit) 1 (omega arith) k1.0) in
       let r = and-true (roomy field s.state.limit s) b (unless-none (roomy field s.state.limit s && b) 2 (omega arith) k2.0) in
       (passed-make l.0 l.1 (rooms field s r.0) (unless-none (well_formed_store field s) 3 (omega arith) k2.1), r.1)
+
+-- So each buffer may be cut to the limit's room.
+pub cut-asks : (s : Store) → Passed s → (limit_ok s.state.limit ≡ true) × (roomy field s.state.limit s ≡ true)
+unfolding limit_ok roomy
+cut-asks s v =
+    let r = v.room in (
+      simp (le-leb 1 s.state.limit v.least, le-leb s.state.limit limit_most v.most),
+      simp (le-leb (tree_room field s.state.limit) (length s.spt) r.spt, le-leb (dir_room s.state.limit) (length s.spt_dir) r.spt_dir, le-leb (tree_room field s.state.limit) (length s.tsp) r.tsp, le-leb (dir_room s.state.limit) (length s.tsp_dir) r.tsp_dir),
+    )

@@ -19,14 +19,13 @@ use Rattle.data_model.specs.Entry.{Entry}
 use Rattle.tree.specs.Stored.{Stored, contents, lengthy}
 use Rattle.tree.specs.Tree.{Formed}
 use Rattle.tree.specs.Matching.{outdates, removes, repeats}
-use Rattle.tree.specs.declared.stored.KeyOrder.TheVariants.{Spt}
+use Rattle.tree.specs.declared.stored.KeyOrder.{KeyOrder}
 use Rattle.tree.specs.declared.stored.LengthyAuthorisedEntry.{LengthyAuthorisedEntry}
 use Rattle.tree.proofs.FormedContents.{formed-many}
 use Rattle.data_model.specs.Refusal.{pruning_prevented, full}
-use Rattle.store.specs.Ingest.{place_decided, removed_from, outdated_at, verdict_says, ingested_says, obsolete_answer}
+use Rattle.data_model.specs.Said.{refuses, says}
+use Rattle.store.specs.Ingest.{place_decided, removed_from, outdated_at, is-obsolete, obsolete_answer}
 use Rattle.store.specs.declared.state.State.{State}
-use Rattle.store.specs.declared.ingest.Ingested.{Ingested}
-use Rattle.store.specs.declared.ingest.IngestVerdict.TheVariants as verdict
 use Rattle.store.specs.declared.decide.PlaceDecision.TheVariants as place
 
 -- The marks of a list at the front of a buffer.
@@ -50,47 +49,43 @@ pub marks-few : (n : ℕ) (marks : List ℕ) → n ≤ length marks → count_ma
 marks-few n marks h = omega (arith, count_most (take n marks), length-take-le n marks h)
 
 -- The decision, by the first mark of what outdates an entry and the number of marks of what it removes.
-module _ {count : ℕ} {dir tree : List ℕ} (v : Formed Spt count dir tree) (ns : List ℕ) (limit : ℕ) (e : Entry) (prevent : Bool) where
+module _ {o : KeyOrder} {count : ℕ} {dir tree : List ℕ} (v : Formed o count dir tree) (ns : List ℕ) (limit : ℕ) (e : Entry) (prevent : Bool) where
   abbrev all : List Stored
-  all = contents Spt field ns (records count dir tree)
+  all = contents o field ns (records count dir tree)
 
   module _ (marks old : List ℕ) (em : marks ≡ put (marks_of (outdates e) all) old) (k : ℕ) (ek : k ≡ 0 + first_mark (drop 0 (take count marks))) where
     at_first : k ≡ outdated_at all e
     at_first = marks-first (outdates e) all count (formed-many v ns) marks old em k ek
 
-    pub decided-old : k < count → place.Old k ≡ place_decided limit all e prevent
+    pub decided-old : k < count → says (place.Old k) ≡ place_decided limit all e prevent
     unfolding place_decided
     decided-old h = rw (← at_first, lt-ltb k (length all) (omega (arith, formed-many v ns)))
 
     none : count ≤ k → ltb (outdated_at all e) (length all) ≡ false
     none h = le-ltb (outdated_at all e) (length all) (omega (arith, at_first, formed-many v ns))
 
-    pub decided-already : count ≤ k → any (repeats e) all ≡ true → place.Already ≡ place_decided limit all e prevent
+    pub decided-already : count ≤ k → any (repeats e) all ≡ true → says place.Already ≡ place_decided limit all e prevent
     unfolding place_decided
     decided-already h a = rw (none h, a)
 
-    module _ (h : count ≤ k) (a : any (repeats e) all ≡ false) (removed old₂ : List ℕ) (er : removed ≡ put (marks_of (removes e) all) old₂) (n : ℕ) (en : n ≡ count_marks (take count removed))
-        (t : Bool) (et : t ≡ (prevent && ltb 0 n)) where
+    module _ (h : count ≤ k) (a : any (repeats e) all ≡ false) (removed old₂ : List ℕ) (er : removed ≡ put (marks_of (removes e) all) old₂) (n : ℕ) (en : n ≡ count_marks (take count removed)) where
       number : removed_from all e ≡ n
       number = sym (marks-number (removes e) all count (formed-many v ns) removed old₂ er n en)
 
-      pub decided-prevented : t ≡ true → place.Refuse pruning_prevented ≡ place_decided limit all e prevent
+      pub decided-prevented : (prevent && ltb 0 n) ≡ true → refuses pruning_prevented ≡ place_decided limit all e prevent
       unfolding place_decided
-      decided-prevented q = rw (none h, a, number, ← et, q)
+      decided-prevented q = rw (none h, a, number, q)
 
-      pub decided-full : t ≡ false → limit ≤ count - n → place.Refuse full ≡ place_decided limit all e prevent
+      pub decided-full : (prevent && ltb 0 n) ≡ false → limit ≤ count - n → refuses full ≡ place_decided limit all e prevent
       unfolding place_decided
-      decided-full q g = rw (none h, a, number, ← et, q, formed-many v ns, le-leb limit (count - n) g)
+      decided-full q g = rw (none h, a, number, q, formed-many v ns, le-leb limit (count - n) g)
 
-      pub decided-take : t ≡ false → count - n < limit → place.Take n ≡ place_decided limit all e prevent
+      pub decided-take : (prevent && ltb 0 n) ≡ false → count - n < limit → says (place.Take n) ≡ place_decided limit all e prevent
       unfolding place_decided
-      decided-take q g = rw (none h, a, number, ← et, q, formed-many v ns, lt-leb limit (count - n) g)
+      decided-take q g = rw (none h, a, number, q, formed-many v ns, lt-leb limit (count - n) g)
 
--- What is handed out with an obsolete verdict.
-pub answer-obsolete : (s : State) (x : Stored) (a : LengthyAuthorisedEntry) → a ≡ lengthy x
-    → ingested_says (record { verdict = verdict.Obsolete; state = s; newer = a.entry; token = a.token }) ≡ obsolete_answer s x
-unfolding verdict_says lengthy
-answer-obsolete s x a e = ap (λ (b : LengthyAuthorisedEntry). ingested_says (obsolete_of b)) e
-  where
-    obsolete_of : LengthyAuthorisedEntry → Ingested
-    obsolete_of b = record { verdict = verdict.Obsolete; state = s; newer = b.entry; token = b.token }
+-- The same on the values of an answer: the newer entry and its token are those of what is stored.
+pub shown : (s : State) (x : Stored) (a : LengthyAuthorisedEntry) → a ≡ lengthy x
+    → record { verdict = says is-obsolete; state = s; newer = a.entry; token = a.token } ≡ obsolete_answer s x
+unfolding lengthy
+shown s x a e = ap (λ (b : LengthyAuthorisedEntry). record { verdict = says is-obsolete; state = s; newer = b.entry; token = b.token }) e

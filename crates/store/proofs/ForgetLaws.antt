@@ -10,17 +10,17 @@ use mathlib.Core.Bool.{Bool, true, false, not, cond, ◌&&◌}
 use native.Mathlib.Omega.{arith}
 use lib.ListN.{length, take, drop, get_or}
 use lib.Seq.{drop-cons}
-use borrow.Author.Tests.{ne_eqb}
-use Rattle.laws.specs.Lists.{put}
 use Rattle.laws.specs.Prefix.{same_number, same_list}
 use Rattle.laws.specs.Sorted.{◌∈◌, any, all, keep}
-use Rattle.laws.proofs.Truth.{clash, refute, and-true, alike}
+use Rattle.laws.proofs.Truth.{split, clash, refute, and-true, alike}
 use Rattle.laws.proofs.Sorted.{any-view, any-make, any_none, all-view, keep-both}
 use Rattle.layout.specs.Layout.{records, record_at}
 use Rattle.layout.specs.Marks.{marks_of, first_mark}
 use Rattle.layout.proofs.LaidLaws.{record-in}
-use Rattle.layout.proofs.MarkLaws.{first_holds, first-none}
-use Rattle.data_model.specs.Path.{Components, field, legal, components, same_path}
+use Rattle.layout.proofs.MarkLaws.{first_holds}
+use Rattle.data_model.specs.Refusal.{refusal_number}
+use Rattle.data_model.specs.declared.answer.Refusal.{Refusal}
+use Rattle.data_model.specs.Path.{Figures, Components, field, legal, components, same_path}
 use Rattle.data_model.specs.Subspace.{same_subspace}
 use Rattle.data_model.specs.Entry.{entry_of, rank_of}
 use Rattle.data_model.specs.declared.path.Path.{Path}
@@ -45,10 +45,12 @@ use Rattle.store.specs.Refusal.{unless, ◌or_else◌, tallied_refusal}
 use Rattle.store.specs.Forget.{without, store_without, tallied_without, unexpected, forget_entry_refusal, forget_entry_outcome, entry_forgotten, forget_area_refusal, forget_area_outcome, area_forgotten}
 use Rattle.store.specs.declared.state.State.{State}
 use Rattle.store.specs.Change.{in_tree, Changed}
-use Rattle.store.proofs.CheckLaws.{or-none, unless-none, Passed}
+use Rattle.std.proofs.Common.{Some, None, Option, is_some, unwrap_or}
+use Rattle.store.specs.Change.{first_place}
+use Rattle.store.proofs.PlaceLaws.{place-none, place-some}
+use Rattle.store.proofs.CheckLaws.{or-none, unless-none, Passed, number-some}
 use Rattle.store.proofs.FitLaws.{fit-without}
 use Rattle.store.proofs.TalliedLaws.{TalliedPassed, tallied-passed, passed-fit, retally-asks, retallied}
-use Rattle.store.proofs.DecideLaws.{marks-first}
 use Rattle.store.proofs.HoldingLaws.{store-holds}
 
 -- One place.
@@ -93,68 +95,49 @@ module _ (s : Subspace) (p : Components) where
         let a = and-true (stands_at s p k.0) (q k.0) k.2 in
         ap q (only_one l h x k.0 m k.1 e a.0) ∙ a.1)
 
--- The first mark of a place, in either tree: none stands there, or the one at the mark.
-module _ {o : KeyOrder} {count : ℕ} {dir tree : List ℕ} (v : Formed o count dir tree) (ns : List ℕ) (s : Subspace) (p : Components) (marks old : List ℕ)
-    (em : marks ≡ put (marks_of (stands_at s p) (in_tree o ns count dir tree)) old) (k : ℕ) (ek : k ≡ 0 + first_mark (drop 0 (take count marks))) where
-  pub at_first : k ≡ first_mark (marks_of (stands_at s p) (in_tree o ns count dir tree))
-  at_first = marks-first (stands_at s p) (in_tree o ns count dir tree) count (formed-many v ns) marks old em k ek
+-- The place of the first that stands at one, in either tree: none does, or the one at the place.
+module _ {o : KeyOrder} {count : ℕ} {dir tree : List ℕ} (v : Formed o count dir tree) (ns : List ℕ) (s : Subspace) (p : Components) where
+  pub none_first : None ≡ first_place (stands_at s p) (in_tree o ns count dir tree) → any (stands_at s p) (in_tree o ns count dir tree) ≡ false
+  none_first e = place-none (stands_at s p) (in_tree o ns count dir tree) e
 
-  pub none_first : count ≤ k → any (stands_at s p) (in_tree o ns count dir tree) ≡ false
-  none_first h = first-none (stands_at s p) (in_tree o ns count dir tree) (omega (arith, at_first, formed-many v ns))
+  module _ (k : ℕ) (e : Some k ≡ first_place (stands_at s p) (in_tree o ns count dir tree)) where
+    pub at_first : (k < length (in_tree o ns count dir tree)) × (k ≡ first_mark (marks_of (stands_at s p) (in_tree o ns count dir tree)))
+    at_first = place-some (stands_at s p) (in_tree o ns count dir tree) k e
 
-  module _ (h : k < count) where
+    pub first-inside : k < count
+    first-inside = omega (arith, at_first.0, formed-many v ns)
+
     abbrev x : Stored
     x = stored o field ns (record_at k dir tree)
 
     pub is-first : get_or (in_tree o ns count dir tree) k x ≡ x
     is-first =
         let l = in_tree o ns count dir tree in
-        let e : get_or l k x ∷ drop (suc k) l ≡ x ∷ drop (k + 1) l = sym (drop-cons l k x (omega (arith, formed-many v ns))) ∙ formed-next v ns k h in
+        let e : get_or l k x ∷ drop (suc k) l ≡ x ∷ drop (k + 1) l = sym (drop-cons l k x (omega (arith, at_first.0))) ∙ formed-next v ns k first-inside in
         cc
 
     pub stands-first : stands_at s p x ≡ true
     stands-first =
         let l = in_tree o ns count dir tree in
-        let f : stands_at s p (get_or l (first_mark (marks_of (stands_at s p) l)) x) ≡ true = first_holds (stands_at s p) l x (omega (arith, at_first, formed-many v ns)) in
-        ap (stands_at s p) (sym is-first) ∙ ap (λ (j : ℕ). stands_at s p (get_or l j x)) at_first ∙ f
+        let f : stands_at s p (get_or l (first_mark (marks_of (stands_at s p) l)) x) ≡ true = first_holds (stands_at s p) l x (omega (arith, at_first.0, at_first.1)) in
+        ap (stands_at s p) (sym is-first) ∙ ap (λ (j : ℕ). stands_at s p (get_or l j x)) at_first.1 ∙ f
 
     pub in-first : x ∈ in_tree o ns count dir tree
-    in-first = contents-in o field ns (records count dir tree) (record-in count k dir tree v.few h)
+    in-first = contents-in o field ns (records count dir tree) (record-in count k dir tree v.few first-inside)
 
 -- So a digest that is expected there is another, or none is.
-module _ {count : ℕ} {dir tree : List ℕ} (v : Formed Spt count dir tree) (ns : List ℕ) (s : Subspace) (p : Components) (digest : List ℕ) (marks old : List ℕ)
-    (em : marks ≡ put (marks_of (stands_at s p) (in_tree Spt ns count dir tree)) old) (k : ℕ) (ek : k ≡ 0 + first_mark (drop 0 (take count marks))) where
-  pub digest-absent : count ≤ k → false ≡ any (unexpected s p true digest) (in_tree Spt ns count dir tree)
+module _ {o : KeyOrder} {count : ℕ} {dir tree : List ℕ} (v : Formed o count dir tree) (ns : List ℕ) (s : Subspace) (p : Components) (digest : List ℕ) where
+  pub digest-absent : None ≡ first_place (stands_at s p) (in_tree o ns count dir tree) → false ≡ any (unexpected s p true digest) (in_tree o ns count dir tree)
   unfolding unexpected
-  digest-absent h = sym (none-such s p (λ (y : Stored). not (same_list same_number y.entry.rank.payload_digest digest)) (in_tree Spt ns count dir tree) (none_first v ns s p marks old em k ek h))
+  digest-absent e = sym (none-such s p (λ (y : Stored). not (same_list same_number y.entry.rank.payload_digest digest)) (in_tree o ns count dir tree) (none_first v ns s p e))
 
-  pub digest-there : no_address_twice (in_tree Spt ns count dir tree) ≡ true → k < count → (a : LengthyAuthorisedEntry) → stored_of a ≡ stored Spt field ns (record_at k dir tree)
-      → (t : Bool) → t ≡ same_list same_number a.entry.payload_digest digest → not t ≡ any (unexpected s p true digest) (in_tree Spt ns count dir tree)
+  pub digest-there : (k : ℕ) → Some k ≡ first_place (stands_at s p) (in_tree o ns count dir tree) → no_address_twice (in_tree o ns count dir tree) ≡ true
+      → (a : LengthyAuthorisedEntry) → stored_of a ≡ stored o field ns (record_at k dir tree)
+      → (t : Bool) → t ≡ same_list same_number a.entry.payload_digest digest → not t ≡ any (unexpected s p true digest) (in_tree o ns count dir tree)
   unfolding stored_of entry_of rank_of unexpected
-  digest-there once h a q t e =
+  digest-there k e once a q t r =
       let other : Stored → Bool = λ y. not (same_list same_number y.entry.rank.payload_digest digest) in
-      ap not e ∙ ap other q ∙ one-such s p other (in_tree Spt ns count dir tree) once _ (in-first v ns s p marks old em k ek h) (stands-first v ns s p marks old em k ek h)
-
--- The refusals of an entry's forgetting.
-module _ (w : Tallied) (subspace : Subspace) (path : Path) (expects : Bool) (digest : List ℕ) (n : ℕ) (e : n ≡ tallied_refusal field w true) where
-  abbrev other : Bool
-  other = any (unexpected subspace (components path) expects digest) (held field Spt w.store)
-
-  pub entry-early : (n ≡ 0 → ⊥) → n ≡ forget_entry_refusal field w subspace path expects digest
-  unfolding forget_entry_refusal ◌or_else◌
-  entry-early h = rw (← e, ne_eqb n 0 h)
-
-  pub entry-path : n ≡ 0 → legal field path ≡ false → 4 ≡ forget_entry_refusal field w subspace path expects digest
-  unfolding forget_entry_refusal ◌or_else◌ unless
-  entry-path z l = rw (← e, z, l)
-
-  pub entry_other : n ≡ 0 → legal field path ≡ true → other ≡ true → 9 ≡ forget_entry_refusal field w subspace path expects digest
-  unfolding forget_entry_refusal ◌or_else◌ unless
-  entry_other z l o = rw (← e, z, l, o)
-
-  pub entry-passes : n ≡ 0 → legal field path ≡ true → other ≡ false → 0 ≡ forget_entry_refusal field w subspace path expects digest
-  unfolding forget_entry_refusal ◌or_else◌ unless
-  entry-passes z l o = rw (← e, z, l, o)
+      ap not r ∙ ap other q ∙ one-such s p other (in_tree o ns count dir tree) once _ (in-first v ns s p k e) (stands-first v ns s p k e)
 
 -- Where no digest is expected none is another.
 pub unasked : (s : Subspace) (p : Components) (digest : List ℕ) (l : List Stored) → any (unexpected s p false digest) l ≡ false
@@ -163,72 +146,77 @@ unasked s p digest l = refute (any (unexpected s p false digest) l) λ e.
     let k = any-view (unexpected s p false digest) l e in
     clash (and-true (stands_at s p k.0) false k.2).1 refl
 
-module _ (w : Tallied) (subspace : Subspace) (path : Path) (expects : Bool) (digest : List ℕ) (n : ℕ) (e : n ≡ forget_entry_refusal field w subspace path expects digest) where
-  pub entry-refused : (n ≡ 0 → ⊥) → forget_entry_outcome (record { refusal = n; state = w.store.state }) w.store.spt w.store.spt_dir w.store.tsp w.store.tsp_dir w.tally ≡ entry_forgotten field w subspace path expects digest
+module _ (w : Tallied) (subspace : Subspace) (path : Path) (expects : Bool) (digest : List ℕ) where
+  pub entry-refused : (r : Refusal) → refusal_number r ≡ forget_entry_refusal field w subspace path expects digest
+      → forget_entry_outcome (record { refusal = refusal_number r; state = w.store.state }) w.store.spt w.store.spt_dir w.store.tsp w.store.tsp_dir w.tally ≡ entry_forgotten field w subspace path expects digest
   unfolding entry_forgotten
-  entry-refused h = rw (← e, ne_eqb n 0 h)
+  entry-refused r e = rw (← e, number-some r)
 
-  pub entry-tested : n ≡ 0 → (tallied_refusal field w true ≡ 0) × (legal field path ≡ true)
-  unfolding forget_entry_refusal
-  entry-tested z =
-      let k = or-none (tallied_refusal field w true) (unless (legal field path) 4 or_else unless (not (any (unexpected subspace (components path) expects digest) (held field Spt w.store))) 9) (sym e ∙ z) in
-      let j = or-none (unless (legal field path) 4) (unless (not (any (unexpected subspace (components path) expects digest) (held field Spt w.store))) 9) k.1 in
-      (k.0, unless-none (legal field path) 4 (omega arith) j.0)
+  module _ (z : 0 ≡ forget_entry_refusal field w subspace path expects digest) where
+    pub entry-tested : (tallied_refusal field w true ≡ 0) × (legal field path ≡ true)
+    unfolding forget_entry_refusal
+    entry-tested =
+        let other = unless (not (any (unexpected subspace (components path) expects digest) (held field Spt w.store))) 9 in
+        let k = or-none (tallied_refusal field w true) (unless (legal field path) 4 or_else other) (sym z) in
+        (k.0, unless-none (legal field path) 4 (omega arith) (or-none (unless (legal field path) 4) other k.1).0)
 
-  pub entry_done : n ≡ 0 → (r : State) (a b c d t : List ℕ) → tallied_of r a b c d t ≡ tallied_without field (stands_at subspace (components path)) w
-      → forget_entry_outcome (record { refusal = 0; state = r }) a b c d t ≡ entry_forgotten field w subspace path expects digest
-  unfolding entry_forgotten
-  entry_done z r a b c d t g =
-      let v : forget_entry_refusal field w subspace path expects digest ≡ 0 = sym e ∙ z in
-      rw v (λ i. record { answer = record { refusal = 0; state = (g i).store.state }; left = g i })
+    pub entry_done : (r : State) (a b c d t : List ℕ) → tallied_of r a b c d t ≡ tallied_without field (stands_at subspace (components path)) w
+        → forget_entry_outcome (record { refusal = 0; state = r }) a b c d t ≡ entry_forgotten field w subspace path expects digest
+    unfolding entry_forgotten
+    entry_done r a b c d t g =
+        let v : forget_entry_refusal field w subspace path expects digest ≡ 0 = sym z in
+        rw v (λ i. record { answer = record { refusal = 0; state = (g i).store.state }; left = g i })
 
--- The refusals of an area's forgetting, and the same again.
-module _ (w : Tallied) (area : Area) (protects : Bool) (protected : Area) (n : ℕ) (e : n ≡ tallied_refusal field w true) where
-  abbrev legal_areas : Bool
-  legal_areas = legal field area.path && cond protects (legal field protected.path) true
+-- Where no digest is expected, none is looked at.
+pub entry-unlooked : (f : Figures) (w : Tallied) (subspace : Subspace) (path : Path) (digest digest' : List ℕ)
+    → entry_forgotten f w subspace path false digest ≡ entry_forgotten f w subspace path false digest'
+unfolding entry_forgotten forget_entry_refusal unexpected
+entry-unlooked f w subspace path digest digest' = refl
 
-  pub area-early : (n ≡ 0 → ⊥) → n ≡ forget_area_refusal field w area protects protected
-  unfolding forget_area_refusal ◌or_else◌
-  area-early h = rw (← e, ne_eqb n 0 h)
+-- Where no area is protected, the area itself stands for it.
+pub kept-legal : (area : Area) (protected : Option Area) → legal field area.path ≡ true → cond (is_some protected) (legal field (unwrap_or protected area).path) true ≡ true
+    → legal field (unwrap_or protected area).path ≡ true
+kept-legal area (Some kept) l k = k
+kept-legal area None l k = l
 
-  pub area-path : n ≡ 0 → legal_areas ≡ false → 4 ≡ forget_area_refusal field w area protects protected
-  unfolding forget_area_refusal ◌or_else◌ unless
-  area-path z l = rw (← e, z, l)
-
-  pub area-passes : n ≡ 0 → legal_areas ≡ true → 0 ≡ forget_area_refusal field w area protects protected
-  unfolding forget_area_refusal ◌or_else◌ unless
-  area-passes z l = rw (← e, z, l)
-
-module _ (w : Tallied) (area : Area) (protects : Bool) (protected : Area) (n : ℕ) (e : n ≡ forget_area_refusal field w area protects protected) where
-  pub area-refused : (n ≡ 0 → ⊥) → forget_area_outcome (record { refusal = n; state = w.store.state; forgotten = 0 }) w.store.spt w.store.spt_dir w.store.tsp w.store.tsp_dir w.tally ≡ area_forgotten field w area protects protected
+-- The same of an area.
+module _ (w : Tallied) (area : Area) (protects : Bool) (protected : Area) where
+  pub area-refused : (r : Refusal) → refusal_number r ≡ forget_area_refusal field w area protects protected
+      → forget_area_outcome (record { refusal = refusal_number r; state = w.store.state; forgotten = 0 }) w.store.spt w.store.spt_dir w.store.tsp w.store.tsp_dir w.tally ≡ area_forgotten field w area protects protected
   unfolding area_forgotten
-  area-refused h = rw (← e, ne_eqb n 0 h)
+  area-refused r e = rw (← e, number-some r)
 
-  pub area-tested : n ≡ 0 → (tallied_refusal field w true ≡ 0) × (legal field area.path ≡ true) × (cond protects (legal field protected.path) true ≡ true)
-  unfolding forget_area_refusal
-  area-tested z =
-      let k = or-none (tallied_refusal field w true) (unless (legal field area.path && cond protects (legal field protected.path) true) 4) (sym e ∙ z) in
-      let l = and-true (legal field area.path) (cond protects (legal field protected.path) true) (unless-none (legal field area.path && cond protects (legal field protected.path) true) 4 (omega arith) k.1) in
-      (k.0, l.0, l.1)
+  module _ (z : 0 ≡ forget_area_refusal field w area protects protected) where
+    pub area-tested : (tallied_refusal field w true ≡ 0) × (legal field area.path ≡ true) × (cond protects (legal field protected.path) true ≡ true)
+    unfolding forget_area_refusal
+    area-tested =
+        let k = or-none (tallied_refusal field w true) (unless (legal field area.path && cond protects (legal field protected.path) true) 4) (sym z) in
+        let l = and-true (legal field area.path) (cond protects (legal field protected.path) true) (unless-none (legal field area.path && cond protects (legal field protected.path) true) 4 (omega arith) k.1) in
+        (k.0, l.0, l.1)
 
-  module _ (z : n ≡ 0) (r : State) (a b c d : List ℕ) (g : store_of r a b c d ≡ store_without field (is_forgotten area protects protected) w.store) where
-    area-count : length (keep (is_forgotten area protects protected) (held field Spt w.store)) + r.count ≡ w.store.state.count
-    unfolding holding without held_by held tree_of dir_of
-    area-count =
-        let m : r.count ≡ length (keep (λ (x : Stored). not (is_forgotten area protects protected x)) (held field Spt w.store)) = ap (λ (t : Store). t.state.count) g in
-        let f = formed-many ((tallied-passed w true (area-tested z).0).0.passes.formed Spt) w.store.state.namespace_id in
-        omega (arith, keep-both (is_forgotten area protects protected) (held field Spt w.store))
+    module _ (r : State) (a b c d : List ℕ) (g : store_of r a b c d ≡ store_without field (is_forgotten area protects protected) w.store) where
+      area-count : length (keep (is_forgotten area protects protected) (held field Spt w.store)) + r.count ≡ w.store.state.count
+      unfolding holding without held_by held tree_of dir_of
+      area-count =
+          let m : r.count ≡ length (keep (λ (x : Stored). not (is_forgotten area protects protected x)) (held field Spt w.store)) = ap (λ (t : Store). t.state.count) g in
+          let f = formed-many ((tallied-passed w true area-tested.0).0.passes.formed Spt) w.store.state.namespace_id in
+          omega (arith, keep-both (is_forgotten area protects protected) (held field Spt w.store))
 
-    pub area-left : r.count ≤ w.store.state.count
-    area-left = omega (arith, area-count)
+      pub area-left : r.count ≤ w.store.state.count
+      area-left = omega (arith, area-count)
 
-    pub area-done : (t : List ℕ) → tallied_of r a b c d t ≡ tallied_without field (is_forgotten area protects protected) w
-        → forget_area_outcome (record { refusal = 0; state = r; forgotten = w.store.state.count - r.count }) a b c d t ≡ area_forgotten field w area protects protected
-    unfolding area_forgotten
-    area-done t q =
-        let v : forget_area_refusal field w area protects protected ≡ 0 = sym e ∙ z in
-        let m : w.store.state.count - r.count ≡ length (keep (is_forgotten area protects protected) (held field Spt w.store)) = omega (arith, area-count) in
-        rw v (λ i. record { answer = record { refusal = 0; state = (q i).store.state; forgotten = m i }; left = q i })
+      pub area-done : (t : List ℕ) → tallied_of r a b c d t ≡ tallied_without field (is_forgotten area protects protected) w
+          → forget_area_outcome (record { refusal = 0; state = r; forgotten = w.store.state.count - r.count }) a b c d t ≡ area_forgotten field w area protects protected
+      unfolding area_forgotten
+      area-done t q =
+          let v : forget_area_refusal field w area protects protected ≡ 0 = sym z in
+          let m : w.store.state.count - r.count ≡ length (keep (is_forgotten area protects protected) (held field Spt w.store)) = omega (arith, area-count) in
+          rw v (λ i. record { answer = record { refusal = 0; state = (q i).store.state; forgotten = m i }; left = q i })
+
+-- Where no area is protected, none is looked at.
+pub area-unlooked : (f : Figures) (w : Tallied) (area protected protected' : Area) → area_forgotten f w area false protected ≡ area_forgotten f w area false protected'
+unfolding area_forgotten forget_area_refusal is_forgotten
+area-unlooked f w area protected protected' = refl
 
 -- What a change of both trees of a store leaves of it: what a test holds of is gone.
 pub left-without : (s : Store) (p : Stored → Bool) → Passed s → (m k : ℕ) (r : State) → r ≡ state_with s.state m → (spt spt_dir tsp tsp_dir : List ℕ)
@@ -251,15 +239,9 @@ digest-long {count} {dir} {tree} v b ns k h a q =
     ap (λ (y : Stored). length y.entry.rank.payload_digest) q
     ∙ (record-forth Spt field ns (record_at k dir tree) (at-bytes k dir tree b) (formed-record v k h)).lawful.digest
 
--- Where a digest is expected it was looked for in the subspace-first tree.
-pub asked : (s : Store) (subspace : Subspace) (p : Components) (expects : Bool) (digest : List ℕ) → expects ≡ true → (t b : Bool)
-    → t ≡ any (unexpected subspace p true digest) (in_tree Spt s.state.namespace_id s.state.count (take (dir_room s.state.limit) s.spt_dir) (take (tree_room field s.state.limit) s.spt))
-    → t ≡ b → any (unexpected subspace p expects digest) (held field Spt s) ≡ b
-unfolding held tree_of dir_of
-asked s subspace p expects digest x t b e q = ap (λ (y : Bool). any (unexpected subspace p y digest) (held field Spt s)) x ∙ sym e ∙ q
-
-pub unasked-in : (s : Store) (subspace : Subspace) (p : Components) (expects : Bool) (digest : List ℕ) → expects ≡ false → any (unexpected subspace p expects digest) (held field Spt s) ≡ false
-unasked-in s subspace p expects digest x = ap (λ (y : Bool). any (unexpected subspace p y digest) (held field Spt s)) x ∙ unasked subspace p digest (held field Spt s)
+-- Where no digest is expected, none is another.
+pub unasked-in : (s : Store) (subspace : Subspace) (p : Components) (digest : List ℕ) → any (unexpected subspace p false digest) (held field Spt s) ≡ false
+unasked-in s subspace p digest = unasked subspace p digest (held field Spt s)
 
 -- The tally of what is left without what a test holds of: what writing it asks, and that it is then the definition's.
 module _ (w : Tallied) (p : Stored → Bool) (v : TalliedPassed w) (spt-bytes : Bytes w.store.spt) (tsp-bytes : Bytes w.store.tsp) (r : State) (a b c d : List ℕ)

@@ -6,11 +6,13 @@ use mathlib.Core.Bool.{◌&&◌}
 use lib.ListN.{length, take, drop}
 use lib.Seq.{length-take-le}
 use lib.Dec.{lit<}
-use borrow.Author.Tests.{ne_eqb, leb-true}
+use borrow.Author.Tests.{leb-true}
 use Rattle.laws.proofs.Truth.{and-true}
 use Rattle.layout.specs.Buffers.{cleared, filled}
 use Rattle.layout.specs.Layout.{tree_bytes, dir_numbers}
 use Rattle.data_model.specs.Path.{field}
+use Rattle.data_model.specs.Refusal.{refusal_number}
+use Rattle.data_model.specs.declared.answer.Refusal.{Refusal}
 use Rattle.tree.specs.Stored.{Stored, record_of}
 use Rattle.tree.specs.declared.stored.KeyOrder.{KeyOrder}
 use Rattle.tree.specs.declared.stored.KeyOrder.TheVariants.{Spt, Tsp}
@@ -19,9 +21,8 @@ use Rattle.store.specs.Store.{Store, store_of, limit_most, tree_room, dir_room, 
 use Rattle.store.specs.Refusal.{unless, limit_ok, roomy, tally_fits}
 use Rattle.store.specs.Open.{empty_state, no_state, nothing, open_refusal, open_answer, open_outcome, opened, opening}
 use Rattle.store.specs.Change.{Changed}
-use Rattle.store.specs.declared.state.Opened.{Opened}
 use Rattle.store.proofs.Lifted.{Rooms, rooms}
-use Rattle.store.proofs.CheckLaws.{or-none, unless-none, limit-most}
+use Rattle.store.proofs.CheckLaws.{or-none, unless-none, limit-most, number-some}
 
 -- One buffer: its front was rewritten, its rest is as it was.
 pub tree-holds : (o : KeyOrder) (limit : ℕ) (l : List Stored) (old front : List ℕ) → tree_room field limit ≤ length old
@@ -59,41 +60,34 @@ module _ (s : Store) (h : Held) (r : Rooms field s) (n k : ℕ) (spt spt_dir tsp
         tsp_dir = d i;
       }
 
--- Opening: a refusal does not look at the namespace.
-module _ (ns : List ℕ) (limit : ℕ) (spt spt_dir tsp tsp_dir tally : List ℕ) (n : ℕ) (e : n ≡ open_refusal field (tallied_of (empty_state [] limit) spt spt_dir tsp tsp_dir tally)) where
+-- Opening.
+module _ (ns : List ℕ) (limit : ℕ) (spt spt_dir tsp tsp_dir tally : List ℕ) where
   abbrev asked : Tallied
   asked = tallied_of (empty_state ns limit) spt spt_dir tsp tsp_dir tally
 
-  open-given : open_refusal field asked ≡ n
-  unfolding open_refusal roomy
-  open-given = sym e
-
-  pub open-refused : (n ≡ 0 → ⊥) → (r : Opened) → r ≡ open_answer n ns limit → open_outcome r spt spt_dir tsp tsp_dir tally ≡ opening field ns limit spt spt_dir tsp tsp_dir tally
+  pub open-refused : (r : Refusal) → refusal_number r ≡ open_refusal field asked
+      → open_outcome (record { refusal = refusal_number r; state = no_state }) spt spt_dir tsp tsp_dir tally ≡ opening field ns limit spt spt_dir tsp tsp_dir tally
   unfolding opened open_answer
-  open-refused h r q =
-      let z = ne_eqb n 0 h in
-      let w : r ≡ record { refusal = n; state = no_state } = rw z at q in
-      rw (open-given, z) (ap (λ (x : Opened). open_outcome x spt spt_dir tsp tsp_dir tally) w)
+  open-refused r e = rw (← e, number-some r)
 
-  -- What an opening that is not refused has room for.
-  pub open-passed : n ≡ 0 → (limit ≤ limit_most) × Rooms field asked.store × (tally_room limit ≤ length tally)
-  unfolding open_refusal
-  open-passed z =
-      let s = asked.store in
-      let k = or-none (unless (limit_ok limit) 1) (unless (roomy field limit s && tally_fits asked) 2) (open-given ∙ z) in
-      let r = and-true (roomy field limit s) (tally_fits asked) (unless-none (roomy field limit s && tally_fits asked) 2 (lit< tt) k.1) in
-      ((limit-most limit (unless-none (limit_ok limit) 1 (lit< tt) k.0)).1, rooms field s r.0, leb-true (tally_room limit) (length tally) r.1)
+  module _ (z : 0 ≡ open_refusal field asked) where
+    -- What an opening that is not refused has room for.
+    pub open-passed : (limit ≤ limit_most) × Rooms field asked.store × (tally_room limit ≤ length tally)
+    unfolding open_refusal
+    open-passed =
+        let s = asked.store in
+        let k = or-none (unless (limit_ok limit) 1) (unless (roomy field limit s && tally_fits asked) 2) (sym z) in
+        let r = and-true (roomy field limit s) (tally_fits asked) (unless-none (roomy field limit s && tally_fits asked) 2 (lit< tt) k.1) in
+        ((limit-most limit (unless-none (limit_ok limit) 1 (lit< tt) k.0)).1, rooms field s r.0, leb-true (tally_room limit) (length tally) r.1)
 
-  pub open_done : n ≡ 0 → (r : Opened) → r ≡ open_answer 0 ns limit → (a b c d t : List ℕ)
-      → a ≡ tree_bytes (length (take (tree_room field limit) spt)) [] → b ≡ dir_numbers (length (take (dir_room limit) spt_dir)) []
-      → c ≡ tree_bytes (length (take (tree_room field limit) tsp)) [] → d ≡ dir_numbers (length (take (dir_room limit) tsp_dir)) []
-      → t ≡ cleared 0 (tally_room limit) tally
-      → open_outcome r (a ++ drop (tree_room field limit) spt) (b ++ drop (dir_room limit) spt_dir) (c ++ drop (tree_room field limit) tsp) (d ++ drop (dir_room limit) tsp_dir) t
-      ≡ opening field ns limit spt spt_dir tsp tsp_dir tally
-  unfolding opened open_answer tally_holding tally_in tally_of filled cleared
-  open_done z r q a b c d t ea eb ec ed et =
-      let m : open_refusal field asked ≡ 0 = open-given ∙ z in
-      let g = store-holds asked.store nothing (open-passed z).1 0 0 a b c d (record { bytes = ea; numbers = eb; count = refl }) (record { bytes = ec; numbers = ed; count = refl }) in
-      rw m
-      (ap (λ (x : Opened). open_outcome x (a ++ drop (tree_room field limit) spt) (b ++ drop (dir_room limit) spt_dir) (c ++ drop (tree_room field limit) tsp) (d ++ drop (dir_room limit) tsp_dir) t) q
-      ∙ (λ i. record { answer = record { refusal = 0; state = empty_state ns limit }; left = record { store = g i; tally = et i } }))
+    pub open_done : (a b c d t : List ℕ)
+        → a ≡ tree_bytes (length (take (tree_room field limit) spt)) [] → b ≡ dir_numbers (length (take (dir_room limit) spt_dir)) []
+        → c ≡ tree_bytes (length (take (tree_room field limit) tsp)) [] → d ≡ dir_numbers (length (take (dir_room limit) tsp_dir)) []
+        → t ≡ cleared 0 (tally_room limit) tally
+        → open_outcome (record { refusal = 0; state = empty_state ns limit }) (a ++ drop (tree_room field limit) spt) (b ++ drop (dir_room limit) spt_dir) (c ++ drop (tree_room field limit) tsp) (d ++ drop (dir_room limit) tsp_dir) t
+        ≡ opening field ns limit spt spt_dir tsp tsp_dir tally
+    unfolding opened open_answer tally_holding tally_in tally_of filled cleared
+    open_done a b c d t ea eb ec ed et =
+        let m : open_refusal field asked ≡ 0 = sym z in
+        let g = store-holds asked.store nothing open-passed.1 0 0 a b c d (record { bytes = ea; numbers = eb; count = refl }) (record { bytes = ec; numbers = ed; count = refl }) in
+        rw m (λ i. record { answer = record { refusal = 0; state = empty_state ns limit }; left = record { store = g i; tally = et i } })

@@ -9,7 +9,7 @@ use native.Mathlib.Omega.{arith}
 use lib.ListN.{length, take, drop, get_or}
 use lib.Seq.{drop-cons}
 use lib.Dec.{ltb, leb}
-use borrow.Author.Tests.{ltb-true, ltb-false, leb-true, leb-false, lt-ltb, eq-eqb, ne_eqb}
+use borrow.Author.Tests.{ltb-true, ltb-false, leb-true, leb-false, lt-ltb, eq-eqb}
 use Rattle.laws.specs.First.{first_that}
 use Rattle.laws.specs.Prefix.{same_number, same_list}
 use Rattle.laws.specs.Sorted.{any, keep}
@@ -17,8 +17,10 @@ use Rattle.laws.proofs.Truth.{split, clash}
 use Rattle.layout.specs.Layout.{records, record_at}
 use Rattle.layout.specs.Marks.{marks_of, first_mark}
 use Rattle.layout.proofs.MarkLaws.{length-marks, kept-marks, count-marks, length-kept, first-none}
-use Rattle.data_model.specs.Said.{refuses, says}
+use Rattle.data_model.specs.Said.{Said, refuses, says}
 use Rattle.data_model.specs.Path.{field, legal}
+use Rattle.data_model.specs.Refusal.{refusal_number}
+use Rattle.data_model.specs.declared.answer.Refusal.{Refusal}
 use Rattle.data_model.specs.Entry.{Entry, entry_of}
 use Rattle.data_model.specs.declared.entry.Entry.{Entry as EntryValue}
 use Rattle.data_model.proofs.Orders.{component-equality}
@@ -30,36 +32,14 @@ use Rattle.tree.proofs.FormedLaws.{formed-bounds}
 use Rattle.tree.proofs.FormedContents.{formed-many, formed-next}
 use Rattle.store.specs.Store.{state_with, Store, dir_room, tree_of, dir_of, held, held_by, holding, tree_room, Tallied}
 use Rattle.store.specs.Refusal.{unless, ◌or_else◌, tallied_refusal}
-use Rattle.store.specs.Ingest.{succeeds, is-obsolete, is-held, IngestSaid, Decision, refuse, obsolete, already, take_it, decided_of, decided, stays, outdated_at, removed_from, place_decided, ingest_refusal, judged, plain_answer, obsolete_answer, filed, filed_in, filing, carried, ingested}
+use Rattle.store.specs.Ingest.{succeeds, is-held, IngestSaid, Decision, refuse, obsolete, already, take_it, decided_of, decided, stays, outdated_at, removed_from, place_decided, ingest_refusal, judged, plain_answer, obsolete_answer, filed, filed_in, filing, carried, ingested}
 use Rattle.store.specs.Change.{Marked}
-use Rattle.store.specs.declared.state.State.{State}
 use Rattle.store.specs.declared.ingest.Ingestion.{Ingestion}
 use Rattle.store.specs.declared.decide.PlaceDecision.{PlaceDecision}
 use Rattle.store.specs.declared.decide.PlaceDecision.TheVariants as place
-use Rattle.store.proofs.CheckLaws.{or-none, unless-none, Passed}
+use Rattle.store.proofs.CheckLaws.{or-none, unless-none, Passed, number-some}
 use Rattle.store.proofs.TalliedLaws.{TalliedPassed, tallied-passed}
 use Rattle.store.proofs.Counted.{insert-length}
-
--- Which refusal comes of which test.
-module _ (w : Tallied) (prune : List ℕ) (e : EntryValue) (n : ℕ) (rooms : Bool) (er : rooms ≡ leb (dir_room w.store.state.limit) (length prune)) (en : n ≡ tallied_refusal field w rooms) where
-  first : tallied_refusal field w (leb (dir_room w.store.state.limit) (length prune)) ≡ n
-  first = ap (tallied_refusal field w) (sym er) ∙ sym en
-
-  pub refuses-early : (n ≡ 0 → ⊥) → n ≡ ingest_refusal field w prune e
-  unfolding ingest_refusal ◌or_else◌
-  refuses-early h = rw (first, ne_eqb n 0 h)
-
-  pub refuses-path : n ≡ 0 → legal field e.path ≡ false → 4 ≡ ingest_refusal field w prune e
-  unfolding ingest_refusal ◌or_else◌ unless
-  refuses-path z l = rw (first, z, l)
-
-  pub refuses-namespace : n ≡ 0 → legal field e.path ≡ true → same_list same_number e.namespace_id w.store.state.namespace_id ≡ false → 6 ≡ ingest_refusal field w prune e
-  unfolding ingest_refusal ◌or_else◌ unless
-  refuses-namespace z l m = rw (first, z, l, m)
-
-  pub refuses-nothing : n ≡ 0 → legal field e.path ≡ true → same_list same_number e.namespace_id w.store.state.namespace_id ≡ true → 0 ≡ ingest_refusal field w prune e
-  unfolding ingest_refusal ◌or_else◌ unless
-  refuses-nothing z l m = rw (first, z, l, m)
 
 -- What is known where nothing of 1 to 6 is refused.
 pub record Ready (s : Store) (prune : List ℕ) (e : EntryValue) : Type 0 where
@@ -125,11 +105,11 @@ module _ {A : Type 0} (p : A → Bool) where
   left-number l = rw (← kept-marks p l, ← count-marks p l) (length-kept (marks_of p l) l (length-marks p l))
 
 -- What a decision by place means.
-unfoldable meant : List Stored → Stored → PlaceDecision → Decision
-meant l x (place.Refuse k) = refuse k
-meant l x (place.Old k) = obsolete (get_or l k x)
-meant l x place.Already = already
-meant l x (place.Take n) = take_it
+unfoldable meant : List Stored → Stored → Said PlaceDecision → Decision
+meant l x (refuses k) = refuse k
+meant l x (says (place.Old k)) = obsolete (get_or l k x)
+meant l x (says place.Already) = already
+meant l x (says (place.Take n)) = take_it
 
 module _ (limit : ℕ) (l : List Stored) (e : Entry) (prevent : Bool) where
   stay-number : length (keep (stays e) l) ≡ length l - removed_from l e
@@ -146,34 +126,34 @@ module _ (limit : ℕ) (l : List Stored) (e : Entry) (prevent : Bool) where
       (λ r. rw r)
       (λ r. rw r (split (leb limit (length l - removed_from l e)) (λ t. rw t) (λ t. rw t)))))))
 
-  pub place-old : (k : ℕ) → place_decided limit l e prevent ≡ place.Old k → k < length l
+  pub place-old : (k : ℕ) → place_decided limit l e prevent ≡ says (place.Old k) → k < length l
   unfolding place_decided
   place-old k d = split (ltb (outdated_at l e) (length l))
       (λ q.
-      let w : place.Old (outdated_at l e) ≡ place.Old k = rw q at d in
+      let w : says (place.Old (outdated_at l e)) ≡ says (place.Old k) = rw q at d in
       let g : outdated_at l e ≡ k = cc in
       let h = ltb-true (outdated_at l e) (length l) q in
       omega arith)
       (λ q. split (any (repeats e) l)
-      (λ a. absurd (let w : place.Already ≡ place.Old k = rw (q, a) at d in let z : ◌≡◌ {A = ℕ} 0 1 = cc in omega arith))
+      (λ a. absurd (let w : says place.Already ≡ says (place.Old k) = rw (q, a) at d in let z : ◌≡◌ {A = ℕ} 0 1 = cc in omega arith))
       (λ a. split (prevent && ltb 0 (removed_from l e))
-      (λ r. absurd (let w : place.Refuse 7 ≡ place.Old k = rw (q, a, r) at d in let z : ◌≡◌ {A = ℕ} 0 1 = cc in omega arith))
+      (λ r. absurd (let w : refuses 7 ≡ says (place.Old k) = rw (q, a, r) at d in let z : ◌≡◌ {A = ℕ} 0 1 = cc in omega arith))
       (λ r. split (leb limit (length l - removed_from l e))
-      (λ t. absurd (let w : place.Refuse 8 ≡ place.Old k = rw (q, a, r, t) at d in let z : ◌≡◌ {A = ℕ} 0 1 = cc in omega arith))
-      (λ t. absurd (let w : place.Take (removed_from l e) ≡ place.Old k = rw (q, a, r, t) at d in let z : ◌≡◌ {A = ℕ} 0 1 = cc in omega arith)))))
+      (λ t. absurd (let w : refuses 8 ≡ says (place.Old k) = rw (q, a, r, t) at d in let z : ◌≡◌ {A = ℕ} 0 1 = cc in omega arith))
+      (λ t. absurd (let w : says (place.Take (removed_from l e)) ≡ says (place.Old k) = rw (q, a, r, t) at d in let z : ◌≡◌ {A = ℕ} 0 1 = cc in omega arith)))))
 
-  pub place-take : (n : ℕ) → place_decided limit l e prevent ≡ place.Take n → (removed_from l e ≡ n) × (length l - n < limit)
+  pub place-take : (n : ℕ) → place_decided limit l e prevent ≡ says (place.Take n) → (removed_from l e ≡ n) × (length l - n < limit)
   unfolding place_decided
   place-take n d = split (ltb (outdated_at l e) (length l))
-      (λ q. absurd (let w : place.Old (outdated_at l e) ≡ place.Take n = rw q at d in let z : ◌≡◌ {A = ℕ} 0 1 = cc in omega arith))
+      (λ q. absurd (let w : says (place.Old (outdated_at l e)) ≡ says (place.Take n) = rw q at d in let z : ◌≡◌ {A = ℕ} 0 1 = cc in omega arith))
       (λ q. split (any (repeats e) l)
-      (λ a. absurd (let w : place.Already ≡ place.Take n = rw (q, a) at d in let z : ◌≡◌ {A = ℕ} 0 1 = cc in omega arith))
+      (λ a. absurd (let w : says place.Already ≡ says (place.Take n) = rw (q, a) at d in let z : ◌≡◌ {A = ℕ} 0 1 = cc in omega arith))
       (λ a. split (prevent && ltb 0 (removed_from l e))
-      (λ r. absurd (let w : place.Refuse 7 ≡ place.Take n = rw (q, a, r) at d in let z : ◌≡◌ {A = ℕ} 0 1 = cc in omega arith))
+      (λ r. absurd (let w : refuses 7 ≡ says (place.Take n) = rw (q, a, r) at d in let z : ◌≡◌ {A = ℕ} 0 1 = cc in omega arith))
       (λ r. split (leb limit (length l - removed_from l e))
-      (λ t. absurd (let w : place.Refuse 8 ≡ place.Take n = rw (q, a, r, t) at d in let z : ◌≡◌ {A = ℕ} 0 1 = cc in omega arith))
+      (λ t. absurd (let w : refuses 8 ≡ says (place.Take n) = rw (q, a, r, t) at d in let z : ◌≡◌ {A = ℕ} 0 1 = cc in omega arith))
       (λ t.
-      let w : place.Take (removed_from l e) ≡ place.Take n = rw (q, a, r, t) at d in
+      let w : says (place.Take (removed_from l e)) ≡ says (place.Take n) = rw (q, a, r, t) at d in
       let g : removed_from l e ≡ n = cc in
       let h = leb-false limit (length l - removed_from l e) t in
       (g, omega arith)))))
@@ -205,7 +185,7 @@ unfolding dir_of tree_of
 ready-formed s prune e v = v.passes.formed Spt
 
 -- What is decided in a tree of the entry's namespace is decided in the store's.
-pub decided-own : (s : Store) (prune : List ℕ) (e : EntryValue) (prevent : Bool) → Ready s prune e → (d : PlaceDecision)
+pub decided-own : (s : Store) (prune : List ℕ) (e : EntryValue) (prevent : Bool) → Ready s prune e → (d : Said PlaceDecision)
     → d ≡ place_decided s.state.limit (contents Spt field e.namespace_id (records s.state.count (spt_dir_in s) (spt_in s))) (entry_of e) prevent
     → d ≡ place_decided s.state.limit (in_spt s) (entry_of e) prevent
 decided-own s prune e prevent v d q = q ∙ ap (λ (ns : List ℕ). place_decided s.state.limit (contents Spt field ns (records s.state.count (spt_dir_in s) (spt_in s))) (entry_of e) prevent) v.namespace
@@ -216,36 +196,16 @@ pub marked-own : (s : Store) (prune : List ℕ) (e : EntryValue) → Ready s pru
 unfolding held tree_of dir_of
 marked-own s prune e v marks m = subst (λ (ns : List ℕ). Marked (removes (entry_of e)) (contents Spt field ns (records s.state.count (spt_dir_in s) (spt_in s))) marks) v.namespace m
 
--- A refusal, an obsolete and a held verdict are no success, and the decisions for them take nothing.
-module _ {G : Type 0} {n : ℕ} where
-  pub old-unlike : {k : ℕ} → place.Old k ≡ place.Take n → G
-  old-unlike e = absurd (let z : ◌≡◌ {A = ℕ} 0 1 = cc in omega arith)
-
-  pub refuse-unlike : {k : ℕ} → place.Refuse k ≡ place.Take n → G
-  refuse-unlike e = absurd (let z : ◌≡◌ {A = ℕ} 0 1 = cc in omega arith)
-
-  pub already-unlike : place.Already ≡ place.Take n → G
-  already-unlike e = absurd (let z : ◌≡◌ {A = ℕ} 0 1 = cc in omega arith)
-
-  pub held-unlike : {s : State} {a : IngestSaid} → a ≡ plain_answer (says is-held) s → a.verdict ≡ says (succeeds n) → G
-  held-unlike {s} {a} e q = absurd (let w : says is-held ≡ says (succeeds n) = sym (ap (λ (b : IngestSaid). b.verdict) e) ∙ q in let z : ◌≡◌ {A = ℕ} 0 1 = cc in omega arith)
-
-  pub refused-unlike : {k : ℕ} {s : State} {a : IngestSaid} → a ≡ plain_answer (refuses k) s → a.verdict ≡ says (succeeds n) → G
-  refused-unlike {k} {s} {a} e q = absurd (let w : refuses k ≡ says (succeeds n) = sym (ap (λ (b : IngestSaid). b.verdict) e) ∙ q in let z : ◌≡◌ {A = ℕ} 0 1 = cc in omega arith)
-
-  pub obsolete-unlike : {s : State} (x : Stored) {a : IngestSaid} → a ≡ obsolete_answer s x → a.verdict ≡ says (succeeds n) → G
-  obsolete-unlike {s} x {a} e q = absurd (let w : says is-obsolete ≡ says (succeeds n) = sym (ap (λ (b : IngestSaid). b.verdict) e) ∙ q in let z : ◌≡◌ {A = ℕ} 0 1 = cc in omega arith)
-
 -- The answers.
 module _ (w : Tallied) (prune : List ℕ) (i : Ingestion) where
   abbrev s : Store
   s = w.store
 
-  pub answers-refused : (n : ℕ) → n ≡ ingest_refusal field w prune i.entry → (n ≡ 0 → ⊥) → (r : IngestSaid) → r ≡ plain_answer (refuses n) s.state → r ≡ (ingested field w prune i).answer
+  pub answers-refused : (k : Refusal) → refusal_number k ≡ ingest_refusal field w prune i.entry → (r : IngestSaid) → r ≡ plain_answer (refuses (refusal_number k)) s.state → r ≡ (ingested field w prune i).answer
   unfolding ingested judged carried
-  answers-refused n q h r er = rw (er, ← q, ne_eqb n 0 h)
+  answers-refused k q r er = rw (er, ← q, number-some k)
 
-  module _ (z : ingest_refusal field w prune i.entry ≡ 0) (d : PlaceDecision) (ed : d ≡ place_decided s.state.limit (in_spt s) (entry_of i.entry) i.prevent_pruning) where
+  module _ (z : ingest_refusal field w prune i.entry ≡ 0) (d : Said PlaceDecision) (ed : d ≡ place_decided s.state.limit (in_spt s) (entry_of i.entry) i.prevent_pruning) where
     formed : Formed Spt s.state.count (spt_dir_in s) (spt_in s)
     formed = ready-formed s prune i.entry (ready w prune i.entry z)
 
@@ -257,31 +217,31 @@ module _ (w : Tallied) (prune : List ℕ) (i : Ingestion) where
     unfolding ingested
     answers x = ap (λ (j : Decision). (carried field w prune (filing i) j).answer) (judged-place x)
 
-    pub answers-late : (k : ℕ) → d ≡ place.Refuse k → (r : IngestSaid) → r ≡ plain_answer (refuses k) s.state → r ≡ (ingested field w prune i).answer
+    pub answers-late : (k : ℕ) → d ≡ refuses k → (r : IngestSaid) → r ≡ plain_answer (refuses k) s.state → r ≡ (ingested field w prune i).answer
     unfolding meant carried
     answers-late k q r er =
         let x = stored Spt field s.state.namespace_id [] in
-        er ∙ sym (answers x ∙ ap (λ (j : PlaceDecision). (carried field w prune (filing i) (meant (in_spt s) x j)).answer) q)
+        er ∙ sym (answers x ∙ ap (λ (j : Said PlaceDecision). (carried field w prune (filing i) (meant (in_spt s) x j)).answer) q)
 
-    pub answers-already : d ≡ place.Already → (r : IngestSaid) → r ≡ plain_answer (says is-held) s.state → r ≡ (ingested field w prune i).answer
+    pub answers-already : d ≡ says place.Already → (r : IngestSaid) → r ≡ plain_answer (says is-held) s.state → r ≡ (ingested field w prune i).answer
     unfolding meant carried
     answers-already q r er =
         let x = stored Spt field s.state.namespace_id [] in
-        er ∙ sym (answers x ∙ ap (λ (j : PlaceDecision). (carried field w prune (filing i) (meant (in_spt s) x j)).answer) q)
+        er ∙ sym (answers x ∙ ap (λ (j : Said PlaceDecision). (carried field w prune (filing i) (meant (in_spt s) x j)).answer) q)
 
-    pub old-bounds : (k : ℕ) → d ≡ place.Old k → InBounds k (spt_dir_in s) (spt_in s)
+    pub old-bounds : (k : ℕ) → d ≡ says (place.Old k) → InBounds k (spt_dir_in s) (spt_in s)
     old-bounds k q = formed-bounds formed k (omega (arith, place-old s.state.limit (in_spt s) (entry_of i.entry) i.prevent_pruning k (sym ed ∙ q), formed-many formed s.state.namespace_id))
 
-    pub answers-old : (k : ℕ) → d ≡ place.Old k → (r : IngestSaid) → r ≡ obsolete_answer s.state (stored Spt field s.state.namespace_id (record_at k (spt_dir_in s) (spt_in s)))
+    pub answers-old : (k : ℕ) → d ≡ says (place.Old k) → (r : IngestSaid) → r ≡ obsolete_answer s.state (stored Spt field s.state.namespace_id (record_at k (spt_dir_in s) (spt_in s)))
         → r ≡ (ingested field w prune i).answer
     unfolding meant carried
     answers-old k q r er =
         let x = stored Spt field s.state.namespace_id (record_at k (spt_dir_in s) (spt_in s)) in
         let h = place-old s.state.limit (in_spt s) (entry_of i.entry) i.prevent_pruning k (sym ed ∙ q) in
         let g = stands_at_lem formed s.state.namespace_id k (omega (arith, formed-many formed s.state.namespace_id)) x in
-        er ∙ ap (obsolete_answer s.state) (sym g) ∙ sym (answers x ∙ ap (λ (j : PlaceDecision). (carried field w prune (filing i) (meant (in_spt s) x j)).answer) q)
+        er ∙ ap (obsolete_answer s.state) (sym g) ∙ sym (answers x ∙ ap (λ (j : Said PlaceDecision). (carried field w prune (filing i) (meant (in_spt s) x j)).answer) q)
 
-    pub take-fits : (n : ℕ) → d ≡ place.Take n → (n ≤ s.state.count) × (s.state.count - n < s.state.limit)
+    pub take-fits : (n : ℕ) → d ≡ says (place.Take n) → (n ≤ s.state.count) × (s.state.count - n < s.state.limit)
     take-fits n q =
         let k = place-take s.state.limit (in_spt s) (entry_of i.entry) i.prevent_pruning n (sym ed ∙ q) in
         let a = k.0 in
@@ -289,7 +249,7 @@ module _ (w : Tallied) (prune : List ℕ) (i : Ingestion) where
         let m = formed-many formed s.state.namespace_id in
         (omega (arith, left-number (removes (entry_of i.entry)) (in_spt s)), omega arith)
 
-    pub answers-take : (n : ℕ) → d ≡ place.Take n → (r : IngestSaid) → r ≡ plain_answer (says (succeeds n)) (state_with s.state (s.state.count - n + 1))
+    pub answers-take : (n : ℕ) → d ≡ says (place.Take n) → (r : IngestSaid) → r ≡ plain_answer (says (succeeds n)) (state_with s.state (s.state.count - n + 1))
         → r ≡ (ingested field w prune i).answer
     unfolding meant carried holding filed filed_in held_by held tree_of dir_of
     answers-take n q r er =
@@ -302,7 +262,7 @@ module _ (w : Tallied) (prune : List ℕ) (i : Ingestion) where
         er
         ∙ ap (λ (j : ℕ). plain_answer (says (succeeds n)) (state_with s.state j)) c
         ∙ ap (λ (j : ℕ). plain_answer (says (succeeds j)) (state_with s.state (length (filed_in Spt (filing i) (in_spt s))))) (sym a)
-        ∙ sym (answers x ∙ ap (λ (j : PlaceDecision). (carried field w prune (filing i) (meant (in_spt s) x j)).answer) q)
+        ∙ sym (answers x ∙ ap (λ (j : Said PlaceDecision). (carried field w prune (filing i) (meant (in_spt s) x j)).answer) q)
       where
         files-length : (y : Stored) (l : List Stored) → length (filed_in Spt y l) ≡ suc (length (keep (stays y.entry) l))
         files-length y l = unfold filed_in in insert-length _ y (keep (stays y.entry) l)

@@ -4,6 +4,7 @@ pub mod Recorded
 pub mod Lifted
 pub mod WellStore
 pub mod DecideLaws
+pub mod PlaceLaws
 pub mod CheckLaws
 pub mod FitLaws
 pub mod TalliedLaws

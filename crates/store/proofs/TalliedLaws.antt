@@ -2,12 +2,12 @@
 use Prim.Native.Nat.{ℕ, ◌≤◌, ◌/◌}
 use mathlib.Core.Path.{◌≡◌, sym, ap, subst, ◌∙◌}
 use mathlib.Core.List.{List}
-use mathlib.Core.Bool.{Bool, true, false, ◌&&◌}
+use mathlib.Core.Bool.{Bool, true, ◌&&◌}
 use native.Mathlib.Omega.{arith}
 use lib.ListN.{length, take}
 use lib.Seq.{length-take-le}
 use lib.Dec.{leb}
-use borrow.Author.Tests.{leb-true, le-leb, ne_eqb}
+use borrow.Author.Tests.{leb-true, le-leb}
 use Rattle.laws.specs.Prefix.{same_number, same_list}
 use Rattle.laws.proofs.Truth.{and-true, alike}
 use Rattle.data_model.specs.Path.{field}
@@ -18,7 +18,7 @@ use Rattle.tree.specs.declared.stored.KeyOrder.{KeyOrder}
 use Rattle.tree.specs.declared.stored.KeyOrder.TheVariants.{Spt, Tsp}
 use Rattle.tally.specs.Tally.{item_length, tally_room, tally_in, tally_right, tally_holding}
 use Rattle.store.specs.Store.{Store, store_of, limit_most, tree_room, dir_room, tree_of, dir_of, held, Held, held_by, holding, Tallied, tallied_of, tallied_holding}
-use Rattle.store.specs.Refusal.{unless, ◌or_else◌, store_refusal, tally_fits, tallied_refusal}
+use Rattle.store.specs.Refusal.{unless, store_refusal, tally_fits, tallied_refusal}
 use Rattle.store.specs.Change.{in_tree}
 use Rattle.store.specs.declared.state.State.{State}
 use Rattle.store.proofs.Lifted.{Fit, list_of, bears-held, bears-well, holding-bears, holding-rooms}
@@ -30,20 +30,6 @@ pub tally-quotient : (n m : ℕ) → leb n (m / item_length) ≡ leb (tally_room
 tally-quotient n m = alike (leb n (m / item_length)) (leb (tally_room n) m)
     (λ e. let h = leb-true n (m / item_length) e in le-leb (tally_room n) m (omega arith))
     (λ e. let h = leb-true (tally_room n) m e in le-leb n (m / item_length) (omega arith))
-
--- Which refusal comes of which test.
-module _ (w : Tallied) (b : Bool) (n : ℕ) (e : n ≡ store_refusal field w.store (tally_fits w && b)) where
-  pub tallied-early : (n ≡ 0 → ⊥) → n ≡ tallied_refusal field w b
-  unfolding tallied_refusal ◌or_else◌
-  tallied-early h = rw (← e, ne_eqb n 0 h)
-
-  pub tallied-wrong : n ≡ 0 → tally_right w.store.state.limit (held field Spt w.store) w.tally ≡ false → 10 ≡ tallied_refusal field w b
-  unfolding tallied_refusal ◌or_else◌ unless
-  tallied-wrong z r = rw (← e, z, r)
-
-  pub tallied-none : n ≡ 0 → tally_right w.store.state.limit (held field Spt w.store) w.tally ≡ true → 0 ≡ tallied_refusal field w b
-  unfolding tallied_refusal ◌or_else◌ unless
-  tallied-none z r = rw (← e, z, r)
 
 -- What a store with its tally that was not refused is.
 pub record TalliedPassed (w : Tallied) : Type 0 where
@@ -73,9 +59,9 @@ passed-alone w b e =
 -- The test of the tally in the limit's room is the definition's.
 pub right-read : (w : Tallied) → tally_room w.store.state.limit ≤ length w.tally → (t : Bool)
     → ((ns : List ℕ) → t ≡ same_list same_number (take (tally_room w.store.state.limit) w.tally) (tally_in (length (take (tally_room w.store.state.limit) w.tally))
-    (in_tree Spt ns w.store.state.count (take (dir_room w.store.state.limit) w.store.spt_dir) (take (tree_room field w.store.state.limit) w.store.spt))))
+    (in_tree Spt ns w.store.state.count (dir_of Spt w.store) (tree_of field Spt w.store))))
     → t ≡ tally_right w.store.state.limit (held field Spt w.store) w.tally
-unfolding tally_right held tree_of dir_of
+unfolding tally_right held
 right-read w l t e =
     e w.store.state.namespace_id
     ∙ ap (λ (n : ℕ). same_list same_number (take (tally_room w.store.state.limit) w.tally) (tally_in n (held field Spt w.store))) (length-take-le (tally_room w.store.state.limit) w.tally l)

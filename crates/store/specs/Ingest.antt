@@ -1,5 +1,5 @@
 -- Ingestion: 1, 2, 3, 10, 4, 6; obsolete or held; 7, 8; or the entry is filed in both trees and what it removes goes from both.
-use Rattle.std.specs.Prelude.{ℕ, ◌-◌, ◌*◌, ◌<◌, ◌≡◌, List, Bool, true, false, not, cond, ◌&&◌, length, replicate, leb, ltb, eqb}
+use Rattle.std.specs.Prelude.{ℕ, ◌-◌, ◌*◌, ◌<◌, ◌≡◌, List, Bool, true, false, not, cond, ◌&&◌, length, replicate, leb, ltb, eqb, Result, Ok, Err}
 use Rattle.std.proofs.Math.Option.{Option, some, none}
 use Rattle.laws.specs.Lists.{put}
 use Rattle.laws.specs.Order.{below, on}
@@ -11,7 +11,8 @@ use Rattle.layout.specs.Marks.{marks_of, first_mark, marked_pairs}
 use Rattle.data_model.specs.Said.{Said, refuses, says}
 use Rattle.data_model.specs.Path.{Figures, legal}
 use Rattle.data_model.specs.Entry.{Entry, entry_of, no_entry}
-use Rattle.data_model.specs.Refusal.{illegal_path, other_namespace, pruning_prevented, full}
+use Rattle.data_model.specs.Refusal.{illegal_path, other_namespace, pruning_prevented, full, refusal_number}
+use Rattle.data_model.specs.declared.answer.Refusal.{Refusal}
 use Rattle.data_model.specs.declared.entry.Entry.{Entry as EntryValue}
 use Rattle.key_laws.specs.KeyOrder.{spt_order, tsp_order}
 use Rattle.tree.specs.Stored.{Stored, stored, contents, triple_of, lengthy}
@@ -21,9 +22,8 @@ use Rattle.tree.specs.declared.stored.KeyOrder.TheVariants.{Spt, Tsp}
 use Rattle.store.specs.Store.{Store, dir_room, tree_of, dir_of, held, Held, held_by, holding, Tallied, tallied_of, tallied_holding}
 use Rattle.store.specs.Refusal.{unless, ◌or_else◌, store_refusal, tallied_refusal}
 use Rattle.store.specs.declared.state.State.{State}
-use Rattle.store.specs.declared.ingest.IngestVerdict.{IngestVerdict}
-use Rattle.store.specs.declared.ingest.IngestVerdict.TheVariants as verdict
 use Rattle.store.specs.declared.ingest.Ingested.{Ingested}
+use Rattle.store.specs.declared.ingest.Ingested.TheVariants as answer
 use Rattle.store.specs.declared.ingest.Ingestion.{Ingestion}
 use Rattle.store.specs.declared.decide.PlaceDecision.{PlaceDecision}
 use Rattle.store.specs.declared.decide.PlaceDecision.TheVariants as place
@@ -34,22 +34,30 @@ pub data Verdict : Type 0 where
   succeeds : (pruned : ℕ) → Verdict
   is-obsolete is-held : Verdict
 
--- What each case of a verdict says: its number and its values.
-unfoldable pub verdict_says : IngestVerdict → Said Verdict
-verdict_says (verdict.Success n) = says (succeeds n)
-verdict_says verdict.Obsolete = says is-obsolete
-verdict_says verdict.Held = says is-held
-verdict_says (verdict.Refused n) = refuses n
+-- What the verdict of an answer says: the refusal's number, or the case and how many were pruned.
+abbrev pub verdict_says : Result Ingested Refusal → Said Verdict
+verdict_says (Ok (answer.Success state n)) = says (succeeds n)
+verdict_says (Ok (answer.Obsolete newer token)) = says is-obsolete
+verdict_says (Ok answer.Held) = says is-held
+verdict_says (Err r) = refuses (refusal_number r)
 
--- The whole answer: the verdict, the state, and the newer entry and its token.
+-- The whole answer: the verdict; the state, which is the one handed in unless the entry was stored; and the newer entry and its token, all 0 if none is shown.
 pub record IngestSaid : Type 0 where
   pub verdict : Said Verdict
   pub state : State
   pub newer : EntryValue
   pub token : List ℕ
 
-abbrev pub ingested_says : Ingested → IngestSaid
-ingested_says r = record { verdict = verdict_says r.verdict; state = r.state; newer = r.newer; token = r.token }
+-- The answer that shows no entry.
+abbrev pub plain_answer : Said Verdict → State → IngestSaid
+plain_answer v s = record { verdict = v; state = s; newer = no_entry; token = replicate 64 0 }
+
+-- What an ingestion answers, with the state that it was handed.
+abbrev pub ingested_says : (handed : State) → Result Ingested Refusal → IngestSaid
+ingested_says handed (Ok (answer.Success state n)) = plain_answer (says (succeeds n)) state
+ingested_says handed (Ok (answer.Obsolete newer token)) = record { verdict = says is-obsolete; state = handed; newer = newer; token = token }
+ingested_says handed (Ok answer.Held) = plain_answer (says is-held) handed
+ingested_says handed (Err r) = plain_answer (refuses (refusal_number r)) handed
 
 -- The orders of the two trees, on entries.
 abbrev pub spt_less : Stored → Stored → Bool
@@ -102,12 +110,12 @@ outdated_at stored e = first_mark (marks_of (outdates e) stored)
 abbrev pub removed_from : List Stored → Entry → ℕ
 removed_from stored e = length (keep (removes e) stored)
 
-unfoldable pub place_decided : (limit : ℕ) → List Stored → Entry → (prevent : Bool) → PlaceDecision
+unfoldable pub place_decided : (limit : ℕ) → List Stored → Entry → (prevent : Bool) → Said PlaceDecision
 place_decided limit stored e prevent =
-    cond (ltb (outdated_at stored e) (length stored)) (place.Old (outdated_at stored e))
-    (cond (any (repeats e) stored) place.Already
-    (cond (prevent && ltb 0 (removed_from stored e)) (place.Refuse pruning_prevented)
-    (cond (leb limit (length stored - removed_from stored e)) (place.Refuse full) (place.Take (removed_from stored e)))))
+    cond (ltb (outdated_at stored e) (length stored)) (says (place.Old (outdated_at stored e)))
+    (cond (any (repeats e) stored) (says place.Already)
+    (cond (prevent && ltb 0 (removed_from stored e)) (refuses pruning_prevented)
+    (cond (leb limit (length stored - removed_from stored e)) (refuses full) (says (place.Take (removed_from stored e))))))
 
 unfoldable pub ingest_refusal : Figures → Tallied → (prune : List ℕ) → EntryValue → ℕ
 ingest_refusal f w prune e =
@@ -131,10 +139,7 @@ pub record MayFile (f : Figures) (s : Store) (prune : List ℕ) (e : EntryValue)
   pub new : NewTo (held f Spt s) (entry_of e)
   pub room : length (keep (stays (entry_of e)) (held f Spt s)) < s.state.limit
 
--- The answers.
-abbrev pub plain_answer : Said Verdict → State → IngestSaid
-plain_answer v s = record { verdict = v; state = s; newer = no_entry; token = replicate 64 0 }
-
+-- The answer that shows the newer entry.
 abbrev pub obsolete_answer : State → Stored → IngestSaid
 obsolete_answer s x = record { verdict = says is-obsolete; state = s; newer = (lengthy x).entry; token = x.token }
 

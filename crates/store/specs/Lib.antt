@@ -1,4 +1,5 @@
 pub mod Store
+pub mod Lent
 pub mod Refusal
 pub mod Open
 pub mod Ingest

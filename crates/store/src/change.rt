@@ -1,16 +1,17 @@
 // Changes of one tree of a store, in its room: what an entry removes goes and it is filed; or what is marked goes.
-ghost use Rattle.std.specs.Prelude.{◌≡◌, true, not, cond, List, ℕ, ◌≤◌, length};
+// Kept (5): a clause of a function of this file could name what a struct of `&mut` leaves only by the numbers of its parts, as `t.exit.1.0.now`.
+ghost use Rattle.std.specs.Prelude.{◌≡◌, true, not, List, ℕ, ◌≤◌, length, is_some, unwrap_or};
 ghost use Rattle.laws.specs.Lists.{put};
 ghost use Rattle.layout.specs.Marks.{marks_of};
 ghost use Rattle.laws.specs.Sorted.{keep};
-ghost use Rattle.data_model.specs.Path.{field, legal, components};
+ghost use Rattle.data_model.specs.Path.{field, legal};
 ghost use Rattle.data_model.specs.Entry.{entry_of};
 ghost use Rattle.tree.specs.Stored.{Lawful, stored_of};
 ghost use Rattle.tree.specs.Tree.{Formed, Whole};
-ghost use Rattle.tree.specs.Matching.{removes, stands_at, is_forgotten};
+ghost use Rattle.tree.specs.Matching.{removes, is_forgotten};
 ghost use Rattle.store.specs.Store.{limit_most};
 ghost use Rattle.store.specs.Ingest.{filed_in};
-ghost use Rattle.store.specs.Change.{in_tree, Marked, Changed, FilesIn};
+ghost use Rattle.store.specs.Change.{in_tree, Marked, Changed, FilesIn, forgets, LegalPaths};
 
 use crate::state::{LIMIT_MOST, RECORD_MOST};
 use data_model::area::Area;
@@ -18,11 +19,8 @@ use data_model::parameters::Subspace;
 use data_model::path::Path;
 use tree::by_value::no_flags;
 use tree::edit::{insert_at, retain};
-use tree::entries::{mark_at, mark_removed};
 use tree::marks::unmark;
-use tree::matching::mark_area;
-use tree::search::find;
-use tree::stored::{KeyOrder, LengthyAuthorisedEntry, encode_record};
+use tree::stored::{KeyOrder, LengthyAuthorisedEntry, Tree, encode_record};
 use tree::value::VALUE;
 
 // Files an entry in one tree of its namespace whose marks of what the entry removes are given: takes that out, puts its record in at its key's
@@ -42,8 +40,16 @@ pub fn file_marked(
     let left = retain(count, dir, tree, removed);
     let mut rec = [0u8; RECORD_MOST];
     let n = encode_record(order, a, &mut rec);
-    let p = find(left, dir, tree, &rec[..n - VALUE]);
-    insert_at(left, dir, tree, p.at, &rec[..n]);
+    let kept = Tree {
+        order,
+        count: left,
+        dir,
+        bytes: tree,
+    };
+    let at = match kept.find(&rec[..n - VALUE]) {
+        Ok(at) | Err(at) => at,
+    };
+    insert_at(left, dir, tree, at, &rec[..n]);
     left + 1
 }
 
@@ -58,68 +64,69 @@ pub fn file_in(
     requires { FilesIn order a.entry.namespace_id count dir.old tree.old a }
     ensures { Changed order (filed_in order (stored_of a) (in_tree order a.entry.namespace_id count dir.old tree.old)) dir.old tree.old dir.new tree.new result }
 {
-    let e = a.entry;
     let mut removed = [0u8; LIMIT_MOST];
-    mark_removed(order, count, dir, tree, e, &mut removed);
+    let whole = Tree {
+        order,
+        count,
+        dir,
+        bytes: tree,
+    };
+    whole.mark_removed(a.entry, &mut removed);
     file_marked(order, count, tree, dir, a, &removed)
 }
 
-// Takes out what stands at a subspace and path, whatever the tree's namespace, and answers how many are left.
-pub fn drop_at(
-    order: KeyOrder,
-    count: usize,
-    tree: &mut [u8],
-    dir: &mut [u32],
-    subspace: Subspace,
-    path: Path,
-) -> usize
-    requires { (Whole order count dir.old tree.old) × (count ≤ limit_most) × (legal field path ≡ true) }
-    ensures { (namespace : List ℕ) → Changed order (keep (λ x. not (stands_at subspace (components path) x)) (in_tree order namespace count dir.old tree.old)) dir.old tree.old dir.new tree.new result }
-{
-    let mut marks = [0u8; LIMIT_MOST];
-    mark_at(order, count, dir, tree, subspace, path, &mut marks);
-    retain(count, dir, tree, &marks)
+// What a forgetting takes out: what stands at a subspace and path, or what an area includes and the protected area, if any, does not.
+#[derive(Clone, Copy)]
+pub enum Forgotten {
+    At(Subspace, Path),
+    Within(Area, Option<Area>),
 }
 
 // Marks what an area includes and the protected area, if any, does not.
-fn mark_forgotten(
-    order: KeyOrder,
-    count: usize,
-    dir: &[u32],
-    tree: &[u8],
-    area: Area,
-    protects: bool,
-    protected: Area,
-    marks: &mut [u8],
-)
-    requires { (Formed order count dir.now tree.now) × (count ≤ limit_most) × (count ≤ length marks.old) × (legal field area.path ≡ true) × (cond protects (legal field protected.path) true ≡ true) }
-    ensures { (ns : List ℕ) → marks.new ≡ put (marks_of (is_forgotten area protects protected) (in_tree order ns count dir.now tree.now)) marks.old }
+fn mark_forgotten(tree: Tree, area: Area, protected: Option<Area>, marks: &mut [u8])
+    requires { (Formed tree.order tree.count tree.dir.now tree.bytes.now) × (tree.count ≤ limit_most) × (tree.count ≤ length marks.old) × (legal field area.path ≡ true) × (legal field (unwrap_or protected area).path ≡ true) }
+    ensures { (ns : List ℕ) → marks.new ≡ put (marks_of (is_forgotten area (is_some protected) (unwrap_or protected area)) (in_tree tree.entry.order ns tree.entry.count tree.entry.dir.now tree.entry.bytes.now)) marks.old }
 {
     let ignore = no_flags();
-    mark_area(order, count, dir, tree, area, ignore, marks);
-    if protects {
+    tree.mark_area(area, ignore, marks);
+    if let Some(kept) = protected {
         let mut shield = [0u8; LIMIT_MOST];
-        mark_area(order, count, dir, tree, protected, ignore, &mut shield);
-        unmark(marks, &shield[..count]);
+        tree.mark_area(kept, ignore, &mut shield);
+        unmark(marks, &shield[..tree.count]);
     }
 }
 
-// Takes out what an area includes and the protected area, if any, does not, and answers how many are left.
-pub fn drop_area(
+impl Forgotten {
+    // Marks what it takes out of a tree, whatever the tree's namespace.
+    fn mark(self, tree: Tree, marks: &mut [u8])
+        requires { (Formed tree.order tree.count tree.dir.now tree.bytes.now) × (tree.count ≤ limit_most) × (tree.count ≤ length marks.old) × (LegalPaths self) }
+        ensures { (ns : List ℕ) → marks.new ≡ put (marks_of (forgets self) (in_tree tree.entry.order ns tree.entry.count tree.entry.dir.now tree.entry.bytes.now)) marks.old }
+    {
+        match self {
+            Forgotten::At(subspace, path) => tree.mark_at(subspace, path, marks),
+            Forgotten::Within(area, protected) => mark_forgotten(tree, area, protected, marks),
+        }
+    }
+}
+
+// Takes out what is to be forgotten, whatever the tree's namespace, and answers how many are left.
+pub fn take_out(
     order: KeyOrder,
     count: usize,
     tree: &mut [u8],
     dir: &mut [u32],
-    area: Area,
-    protects: bool,
-    protected: Area,
+    what: Forgotten,
 ) -> usize
-    requires { (Whole order count dir.old tree.old) × (count ≤ limit_most) × (legal field area.path ≡ true) × (cond protects (legal field protected.path) true ≡ true) }
-    ensures { (ns : List ℕ) → Changed order (keep (λ x. not (is_forgotten area protects protected x)) (in_tree order ns count dir.old tree.old)) dir.old tree.old dir.new tree.new result }
+    requires { (Whole order count dir.old tree.old) × (count ≤ limit_most) × (LegalPaths what) }
+    ensures { (ns : List ℕ) → Changed order (keep (λ x. not (forgets what x)) (in_tree order ns count dir.old tree.old)) dir.old tree.old dir.new tree.new result }
 {
     let mut marks = [0u8; LIMIT_MOST];
-    mark_forgotten(
-        order, count, dir, tree, area, protects, protected, &mut marks,
-    );
+    let whole = Tree {
+        order,
+        count,
+        dir,
+        bytes: tree,
+    };
+    what.mark(whole, &mut marks);
     retain(count, dir, tree, &marks)
 }

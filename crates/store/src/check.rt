@@ -1,121 +1,107 @@
 // The tests that every call on a store begins with: limit, room, well-formedness.
-ghost use Rattle.std.specs.Prelude.{◌≡◌, true, ◌&&◌, ◌<◌, ◌^◌, length, leb};
+ghost use Rattle.std.specs.Prelude.{◌≡◌, true, ◌<◌, ◌^◌, length, leb};
 ghost use Rattle.data_model.specs.Path.{field};
-ghost use Rattle.store.specs.Store.{store_of, tree_room, dir_room, well_formed_trees, well_formed_store};
+ghost use Rattle.data_model.specs.Refusal.{refused_with};
+ghost use Rattle.tree.specs.declared.stored.KeyOrder.TheVariants.{Spt, Tsp};
+ghost use Rattle.store.specs.Store.{tree_room, dir_room, tree_of, dir_of, well_formed_trees, well_formed_store};
+ghost use Rattle.store.specs.Lent.{lent};
 ghost use Rattle.store.specs.Refusal.{limit_ok, roomy, store_refusal};
 
-use crate::state::{LIMIT_MOST, RECORD_MOST, State};
-use data_model::answer::{BAD_LIMIT, NOT_WELL_FORMED, SHORT_BUFFER};
-use tree::apart::apart;
-use tree::shape::well_formed;
-use tree::stored::KeyOrder;
-use tree::within::within;
+use crate::state::{LIMIT_MOST, RECORD_MOST, Store};
+use data_model::answer::Refusal;
+use tree::stored::{KeyOrder, Tree};
 
+// Whether a store may be opened for so many entries.
+#[tactic(auto, unfolding(crate::specs::Refusal::limit_ok))]
 pub fn limit_ok(limit: usize) -> bool
     ensures { result ≡ limit_ok limit }
 {
-    if limit < 1 {
-        return false;
-    }
-    limit <= LIMIT_MOST
+    (1..=LIMIT_MOST).contains(&limit)
 }
 
-// Whether a tree, a directory of so many bytes or numbers has a limit's room, whatever the limit.
+// Whether a tree of so many bytes has a limit's room, whatever the limit.
 pub fn tree_fits(len: usize, limit: usize) -> bool
     ensures { result ≡ leb (tree_room field limit) len }
 {
     limit <= len / RECORD_MOST
 }
 
+// Whether a directory of so many numbers has a limit's room, whatever the limit.
 pub fn dir_fits(len: usize, limit: usize) -> bool
     ensures { result ≡ leb (dir_room limit) len }
 {
     limit <= len / 2
 }
 
-pub fn is_roomy(limit: usize, spt: &[u8], spt_dir: &[u32], tsp: &[u8], tsp_dir: &[u32]) -> bool
-    ensures { result ≡ (leb (tree_room field limit) (length spt.now) && (leb (dir_room limit) (length spt_dir.now) && (leb (tree_room field limit) (length tsp.now) && leb (dir_room limit) (length tsp_dir.now)))) }
+// Whether two trees, subspace-first and time-first, are well-formed, hold the same, and no entry of theirs stands at another's place or prunes another.
+fn well_formed_trees(namespace: [u8; 16], spt: Tree, tsp: Tree) -> bool
+    requires { (spt.order ≡ Spt) × (tsp.order ≡ Tsp) × (tsp.count ≡ spt.count) × (length spt.bytes.now < 2 ^ 32) × (length tsp.bytes.now < 2 ^ 32) }
+    ensures { result ≡ well_formed_trees field namespace spt.entry.count spt.entry.bytes.now spt.entry.dir.now tsp.entry.bytes.now tsp.entry.dir.now }
 {
-    if !tree_fits(spt.len(), limit) {
-        return false;
-    }
-    if !dir_fits(spt_dir.len(), limit) {
-        return false;
-    }
-    if !tree_fits(tsp.len(), limit) {
-        return false;
-    }
-    dir_fits(tsp_dir.len(), limit)
+    spt.well_formed() && tsp.well_formed() && spt.within(tsp, namespace) && spt.apart()
 }
 
-// Whether two trees are well-formed, hold the same, and no entry of theirs stands at another's place or prunes another.
-fn well_formed_trees(
-    namespace: [u8; 16],
-    count: usize,
-    spt: &[u8],
-    spt_dir: &[u32],
-    tsp: &[u8],
-    tsp_dir: &[u32],
-) -> bool
-    requires { (length spt.now < 2 ^ 32) × (length tsp.now < 2 ^ 32) }
-    ensures { result ≡ well_formed_trees field namespace count spt.now spt_dir.now tsp.now tsp_dir.now }
-{
-    if !well_formed(KeyOrder::Spt, count, spt_dir, spt) {
-        return false;
+impl<'a, 'b> Store<'a, 'b> {
+    // Whether the four buffers have the limit's room.
+    #[tactic(auto, unfolding(crate::specs::Refusal::roomy))]
+    pub fn is_roomy(self) -> bool
+        ensures { result ≡ roomy field self.entry.state.limit (lent self.entry) }
+    {
+        tree_fits(self.spt.len(), self.state.limit)
+            && dir_fits(self.spt_dir.len(), self.state.limit)
+            && tree_fits(self.tsp.len(), self.state.limit)
+            && dir_fits(self.tsp_dir.len(), self.state.limit)
     }
-    if !well_formed(KeyOrder::Tsp, count, tsp_dir, tsp) {
-        return false;
-    }
-    if !within(namespace, count, spt_dir, spt, tsp_dir, tsp) {
-        return false;
-    }
-    apart(count, spt_dir, spt)
-}
 
-fn is_well_formed(state: State, spt: &[u8], spt_dir: &[u32], tsp: &[u8], tsp_dir: &[u32]) -> bool
-    requires { (limit_ok state.limit ≡ true) × (roomy field state.limit (store_of state spt.now spt_dir.now tsp.now tsp_dir.now) ≡ true) }
-    ensures { result ≡ well_formed_store field (store_of state spt.now spt_dir.now tsp.now tsp_dir.now) }
-{
-    let count = state.count;
-    let limit = state.limit;
-    if limit < count {
-        return false;
+    // The subspace-first tree, in the limit's room.
+    pub fn spt(self) -> Tree<'a, 'b>
+        requires { (limit_ok self.state.limit ≡ true) × (roomy field self.state.limit (lent self) ≡ true) }
+        ensures { (result.order ≡ Spt) × (result.count ≡ self.entry.state.count) × (result.dir.now ≡ dir_of Spt (lent self.entry)) × (result.bytes.now ≡ tree_of field Spt (lent self.entry)) }
+    {
+        Tree {
+            order: KeyOrder::Spt,
+            count: self.state.count,
+            dir: &self.spt_dir[..2 * self.state.limit],
+            bytes: &self.spt[..RECORD_MOST * self.state.limit],
+        }
     }
-    let namespace = state.namespace_id;
-    let n = RECORD_MOST * limit;
-    let m = 2 * limit;
-    well_formed_trees(
-        namespace,
-        count,
-        &spt[..n],
-        &spt_dir[..m],
-        &tsp[..n],
-        &tsp_dir[..m],
-    )
-}
 
-// 1, 2 or 3; else 0. `rooms`: the call's other buffers have room too.
-pub fn check_store(
-    state: State,
-    spt: &[u8],
-    spt_dir: &[u32],
-    tsp: &[u8],
-    tsp_dir: &[u32],
-    rooms: bool,
-) -> u8
-    ensures { result ≡ store_refusal field (store_of state spt.now spt_dir.now tsp.now tsp_dir.now) rooms }
-{
-    if !limit_ok(state.limit) {
-        return BAD_LIMIT;
+    // The time-first tree, in the limit's room.
+    // Kept (2): the two read other fields of the store.
+    pub fn tsp(self) -> Tree<'b, 'b>
+        requires { (limit_ok self.state.limit ≡ true) × (roomy field self.state.limit (lent self) ≡ true) }
+        ensures { (result.order ≡ Tsp) × (result.count ≡ self.entry.state.count) × (result.dir.now ≡ dir_of Tsp (lent self.entry)) × (result.bytes.now ≡ tree_of field Tsp (lent self.entry)) }
+    {
+        Tree {
+            order: KeyOrder::Tsp,
+            count: self.state.count,
+            dir: &self.tsp_dir[..2 * self.state.limit],
+            bytes: &self.tsp[..RECORD_MOST * self.state.limit],
+        }
     }
-    if !is_roomy(state.limit, spt, spt_dir, tsp, tsp_dir) {
-        return SHORT_BUFFER;
+
+    // Whether the count is within the limit, both trees are well-formed and hold the same, and no entry stands at another's place or prunes another.
+    fn is_well_formed(self) -> bool
+        requires { (limit_ok self.state.limit ≡ true) × (roomy field self.state.limit (lent self) ≡ true) }
+        ensures { result ≡ well_formed_store field (lent self.entry) }
+    {
+        self.state.count <= self.state.limit
+            && well_formed_trees(self.state.namespace_id, self.spt(), self.tsp())
     }
-    if !rooms {
-        return SHORT_BUFFER;
+
+    // Whether the store is refused, with 1, 2 or 3. `rooms`: the call's other buffers have room too.
+    pub fn check(self, rooms: bool) -> Result<(), Refusal>
+        ensures { refused_with result ≡ store_refusal field (lent self.entry) rooms }
+    {
+        if !limit_ok(self.state.limit) {
+            return Err(Refusal::BadLimit);
+        }
+        if !(self.is_roomy() && rooms) {
+            return Err(Refusal::ShortBuffer);
+        }
+        if !self.is_well_formed() {
+            return Err(Refusal::NotWellFormed);
+        }
+        Ok(())
     }
-    if !is_well_formed(state, spt, spt_dir, tsp, tsp_dir) {
-        return NOT_WELL_FORMED;
-    }
-    0
 }

@@ -1,48 +1,40 @@
 // Ingestion.
-ghost use Rattle.std.specs.Prelude.{◌≡◌, ℕ, ◌-◌, ◌+◌, ◌*◌, ◌≤◌, ◌<◌, length};
+// Kept (5): a clause of a function of this file could name what a struct of `&mut` leaves only by the numbers of its parts, as `t.exit.1.0.now`.
+ghost use Rattle.std.specs.Prelude.{◌≡◌, ℕ, ◌≤◌, length};
 ghost use Rattle.laws.specs.Lists.{put};
-ghost use Rattle.layout.specs.Layout.{record_at};
 ghost use Rattle.data_model.specs.Said.{says};
 ghost use Rattle.data_model.specs.Path.{field};
+ghost use Rattle.data_model.specs.Refusal.{refused_with};
 ghost use Rattle.data_model.specs.Entry.{entry_of};
-ghost use Rattle.tree.specs.Stored.{Lawful, stored};
+ghost use Rattle.tree.specs.Stored.{Lawful};
 ghost use Rattle.tree.specs.Matching.{removes};
-ghost use Rattle.tree.specs.Tree.{InBounds};
 ghost use Rattle.tree.specs.declared.stored.KeyOrder.TheVariants.{Spt};
-ghost use Rattle.store.specs.Store.{limit_most, state_with, store_of, held, tallied_of};
+ghost use Rattle.store.specs.Store.{limit_most, store_of, held, tallied_of};
+ghost use Rattle.store.specs.Lent.{lent, lent_with};
 ghost use Rattle.store.specs.Change.{Marked};
-ghost use Rattle.store.specs.Ingest.{succeeds, verdict_says, ingested_says, MayFile, filing, plain_answer, obsolete_answer, store_filed, pruned_pairs, ingest_refusal, ingest_outcome, ingested};
-ghost use Rattle.store.specs.declared.ingest.IngestVerdict.TheVariants as verdict;
+ghost use Rattle.store.specs.Ingest.{succeeds, verdict_says, ingested_says, MayFile, filing, store_filed, pruned_pairs, ingest_refusal, ingest_outcome, ingested};
 
 use crate::change::{file_in, file_marked};
 use crate::check::dir_fits;
 use crate::decide::{PlaceDecision, decide};
-use crate::state::{LIMIT_MOST, RECORD_MOST, State};
+use crate::state::{LIMIT_MOST, RECORD_MOST, State, Store};
 use crate::tallied::{check_tallied, retally};
-use data_model::answer::{ILLEGAL_PATH, OTHER_NAMESPACE};
+use data_model::answer::Refusal;
 use data_model::entry::Entry;
 use data_model::entry_origin::EntryOrigin;
-use tree::by_value::{is_legal, zero_entry};
-use tree::bytes::same_bytes;
+use tree::by_value::is_legal;
 use tree::marks::write_pairs;
-use tree::stored::{KeyOrder, LengthyAuthorisedEntry, stored_at};
+use tree::stored::{KeyOrder, LengthyAuthorisedEntry};
 
-// Success says how many entries were pruned; held, that the very entry was stored already.
+// What an ingestion that is not refused answers.
 #[derive(Clone, Copy)]
-pub enum IngestVerdict {
-    Success(usize),
-    Obsolete,
+pub enum Ingested {
+    // The entry was stored, and so many were pruned: the state then.
+    Success { state: State, pruned: usize },
+    // A stored entry is newer: it, and its token.
+    Obsolete { newer: Entry, token: [u8; 64] },
+    // The very entry was stored already.
     Held,
-    Refused(u8),
-}
-
-// The verdict and the state; with an obsolete verdict the newer entry and its token, else all 0.
-#[derive(Clone, Copy)]
-pub struct Ingested {
-    pub verdict: IngestVerdict,
-    pub state: State,
-    pub newer: Entry,
-    pub token: [u8; 64],
 }
 
 // What an ingestion is handed: the entry, its authorisation token, whether pruning is prevented, and where the entry came from.
@@ -54,114 +46,57 @@ pub struct Ingestion {
     pub origin: EntryOrigin,
 }
 
-// 1, 2, 3, 10, 4 or 6; else 0.
-fn ingest_refusal(
-    state: State,
-    spt: &[u8],
-    spt_dir: &[u32],
-    tsp: &[u8],
-    tsp_dir: &[u32],
-    tally: &[u8],
-    prune: &[u32],
-    entry: Entry,
-) -> u8
-    ensures { result ≡ ingest_refusal field (tallied_of state spt.now spt_dir.now tsp.now tsp_dir.now tally.now) prune.now entry }
+// Whether an ingestion is refused whatever is stored, with 1, 2, 3, 10, 4 or 6.
+fn check_ingestion(store: Store, tally: &[u8], prune: &[u32], entry: Entry) -> Result<(), Refusal>
+    ensures { refused_with result ≡ ingest_refusal field (lent_with store.entry tally.now) prune.now entry }
 {
-    let rooms = dir_fits(prune.len(), state.limit);
-    let n = check_tallied(state, spt, spt_dir, tsp, tsp_dir, tally, rooms);
-    if n != 0 {
-        return n;
+    check_tallied(store, tally, dir_fits(prune.len(), store.state.limit))?;
+    if !is_legal(entry.path) {
+        return Err(Refusal::IllegalPath);
     }
-    let path = entry.path;
-    if !is_legal(path) {
-        return ILLEGAL_PATH;
+    if entry.namespace_id != store.state.namespace_id {
+        return Err(Refusal::OtherNamespace);
     }
-    let own = state.namespace_id;
-    let other = entry.namespace_id;
-    if !same_bytes(&other, &own) {
-        return OTHER_NAMESPACE;
-    }
-    0
-}
-
-// The answer that shows no entry.
-fn plain_answer(verdict: IngestVerdict, state: State) -> Ingested
-    ensures { ingested_says result ≡ plain_answer (verdict_says verdict) state }
-{
-    let newer = zero_entry();
-    Ingested {
-        verdict,
-        state,
-        newer,
-        token: [0; 64],
-    }
-}
-
-// The answer to an entry that the one at a place outdates.
-fn obsolete_answer(state: State, spt: &[u8], spt_dir: &[u32], k: usize) -> Ingested
-    requires { InBounds k spt_dir.now spt.now }
-    ensures { ingested_says result ≡ obsolete_answer state (stored Spt field state.namespace_id (record_at k spt_dir.now spt.now)) }
-{
-    let namespace = state.namespace_id;
-    let a = stored_at(KeyOrder::Spt, namespace, spt_dir, spt, k);
-    let newer = a.entry;
-    let token = a.token;
-    Ingested {
-        verdict: IngestVerdict::Obsolete,
-        state,
-        newer,
-        token,
-    }
-}
-
-fn taken_answer(state: State, n: usize) -> Ingested
-    requires { (n ≤ state.count) × (state.count - n < state.limit) }
-    ensures { ingested_says result ≡ plain_answer (verdict_says (verdict.Success n)) (state_with state (state.count - n + 1)) }
-{
-    let after = state.with_count(state.count - n + 1);
-    plain_answer(IngestVerdict::Success(n), after)
+    Ok(())
 }
 
 // The whole answer, over the store's buffers and its tally shared. With a success, what the entry removes is marked.
 fn ingest_answer(
-    state: State,
-    spt: &[u8],
-    spt_dir: &[u32],
-    tsp: &[u8],
-    tsp_dir: &[u32],
+    store: Store,
     tally: &[u8],
     prune: &[u32],
     ingestion: Ingestion,
     removed: &mut [u8],
-) -> Ingested
+) -> Result<Ingested, Refusal>
     requires { limit_most ≤ length removed.old }
-    ensures answer { ingested_says result ≡ (ingested field (tallied_of state spt.now spt_dir.now tsp.now tsp_dir.now tally.now) prune.now ingestion).answer }
-    ensures marks { (n : ℕ) → verdict_says result.verdict ≡ says (succeeds n) → Marked (removes (entry_of ingestion.entry)) (held field Spt (store_of state spt.now spt_dir.now tsp.now tsp_dir.now)) removed.new }
+    ensures answer { ingested_says store.entry.state result ≡ (ingested field (lent_with store.entry tally.now) prune.now ingestion).answer }
+    ensures marks { (n : ℕ) → verdict_says result ≡ says (succeeds n) → Marked (removes (entry_of ingestion.entry)) (held field Spt (lent store.entry)) removed.new }
 {
-    let entry = ingestion.entry;
-    let refusal = ingest_refusal(state, spt, spt_dir, tsp, tsp_dir, tally, prune, entry);
-    if refusal != 0 {
-        return plain_answer(IngestVerdict::Refused(refusal), state);
-    }
-    let limit = state.limit;
-    let count = state.count;
-    let n = RECORD_MOST * limit;
-    let m = 2 * limit;
+    check_ingestion(store, tally, prune, ingestion.entry)?;
+    let tree = store.spt();
+    let state = store.state;
     let d = decide(
-        limit,
-        count,
-        &spt[..n],
-        &spt_dir[..m],
-        entry,
+        state.limit,
+        tree,
+        ingestion.entry,
         ingestion.prevent_pruning,
         removed,
-    );
-    match d {
-        PlaceDecision::Refuse(k) => plain_answer(IngestVerdict::Refused(k), state),
-        PlaceDecision::Old(k) => obsolete_answer(state, &spt[..n], &spt_dir[..m], k),
-        PlaceDecision::Already => plain_answer(IngestVerdict::Held, state),
-        PlaceDecision::Take(k) => taken_answer(state, k),
-    }
+    )?;
+    Ok(match d {
+        PlaceDecision::Old(k) => {
+            let a = tree.stored_at(state.namespace_id, k);
+            let token = a.token;
+            Ingested::Obsolete {
+                newer: a.entry,
+                token,
+            }
+        }
+        PlaceDecision::Already => Ingested::Held,
+        PlaceDecision::Take(pruned) => Ingested::Success {
+            state: state.with_count(state.count - pruned + 1),
+            pruned,
+        },
+    })
 }
 
 // Files an entry in both trees, by the marks of what it removes from the subspace-first tree, and writes the pairs of that. The entry is then
@@ -181,18 +116,15 @@ fn file(
     ensures pairs { prune.new ≡ put (pruned_pairs field (store_of state spt.old spt_dir.old tsp.old tsp_dir.old) (entry_of ingestion.entry)) prune.old }
     ensures lawful { Lawful field (filing ingestion) }
 {
-    let limit = state.limit;
     let count = state.count;
-    let n = RECORD_MOST * limit;
-    let m = 2 * limit;
-    let entry = ingestion.entry;
+    let n = RECORD_MOST * state.limit;
+    let m = 2 * state.limit;
     let token = ingestion.token;
-    let origin = ingestion.origin;
     let a = LengthyAuthorisedEntry {
-        entry,
+        entry: ingestion.entry,
         token,
         available: 0,
-        origin,
+        origin: ingestion.origin,
     };
     write_pairs(&spt_dir[..m], &removed[..count], prune);
     file_marked(
@@ -216,27 +148,23 @@ pub fn ingest_entry_numbers(
     tally: &mut [u8],
     prune: &mut [u32],
     ingestion: Ingestion,
-) -> Ingested
-    ensures { ingest_outcome (ingested_says result) spt.new spt_dir.new tsp.new tsp_dir.new tally.new prune.new ≡ ingested field (tallied_of state spt.old spt_dir.old tsp.old tsp_dir.old tally.old) prune.old ingestion }
+) -> Result<Ingested, Refusal>
+    ensures { ingest_outcome (ingested_says state result) spt.new spt_dir.new tsp.new tsp_dir.new tally.new prune.new ≡ ingested field (tallied_of state spt.old spt_dir.old tsp.old tsp_dir.old tally.old) prune.old ingestion }
 {
     let mut removed = [0u8; LIMIT_MOST];
-    let given = ingest_answer(
+    let store = Store {
         state,
         spt,
         spt_dir,
         tsp,
         tsp_dir,
-        tally,
-        prune,
-        ingestion,
-        &mut removed,
-    );
-    let verdict = given.verdict;
-    if let IngestVerdict::Success(_) = verdict {
+    };
+    let given = ingest_answer(store, tally, prune, ingestion, &mut removed)?;
+    if let Ingested::Success { state: after, .. } = given {
         file(
             state, spt, spt_dir, tsp, tsp_dir, prune, ingestion, &removed,
         );
-        retally(given.state, spt, spt_dir, tally);
+        retally(after, spt, spt_dir, tally);
     }
-    given
+    Ok(given)
 }

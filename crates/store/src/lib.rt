@@ -9,5 +9,6 @@ mod decide;
 pub mod forget;
 pub mod ingest;
 pub mod open;
+pub mod place;
 pub mod state;
 pub mod tallied;

@@ -1,61 +1,29 @@
 // Opening a store.
-ghost use Rattle.std.specs.Prelude.{◌≡◌, []};
+// Kept (5): a clause of a function of this file could name what a struct of `&mut` leaves only by the numbers of its parts, as `t.exit.1.0.now`.
+ghost use Rattle.std.specs.Prelude.{◌≡◌};
 ghost use Rattle.data_model.specs.Path.{field};
-ghost use Rattle.store.specs.Store.{tallied_of};
-ghost use Rattle.store.specs.Open.{empty_state, open_refusal, open_answer, open_outcome, opening};
+ghost use Rattle.data_model.specs.Refusal.{refused_with};
+ghost use Rattle.store.specs.Lent.{lent_with};
+ghost use Rattle.store.specs.Open.{open_refusal, opened_says, open_outcome, opening};
 
-use crate::check::{is_roomy, limit_ok};
-use crate::state::{Opened, RECORD_MOST, State};
+use crate::check::limit_ok;
+use crate::state::{RECORD_MOST, State, Store};
 use crate::tallied::tally_fits;
-use data_model::answer::{BAD_LIMIT, SHORT_BUFFER};
+use data_model::answer::Refusal;
 use tally::item::ITEM;
-use tree::bytes::clear;
 
-// The namespace is not looked at.
-fn open_refusal(
-    limit: usize,
-    spt: &[u8],
-    spt_dir: &[u32],
-    tsp: &[u8],
-    tsp_dir: &[u32],
-    tally: &[u8],
-) -> u8
-    ensures { result ≡ open_refusal field (tallied_of (empty_state [] limit) spt.now spt_dir.now tsp.now tsp_dir.now tally.now) }
+// Whether an opening is refused, with 1 or 2. Nothing but the limit and how long the buffers are is looked at.
+fn check_opening(store: Store, tally: &[u8]) -> Result<(), Refusal>
+    ensures { refused_with result ≡ open_refusal field (lent_with store.entry tally.now) }
 {
+    let limit = store.state.limit;
     if !limit_ok(limit) {
-        return BAD_LIMIT;
+        return Err(Refusal::BadLimit);
     }
-    if !is_roomy(limit, spt, spt_dir, tsp, tsp_dir) {
-        return SHORT_BUFFER;
+    if !(store.is_roomy() && tally_fits(tally.len(), limit)) {
+        return Err(Refusal::ShortBuffer);
     }
-    if !tally_fits(tally.len(), limit) {
-        return SHORT_BUFFER;
-    }
-    0
-}
-
-// The answer of an opening: refused, its state is all 0.
-fn open_answer(refusal: u8, namespace: [u8; 16], limit: usize) -> Opened
-    ensures { result ≡ open_answer refusal namespace limit }
-{
-    if refusal == 0 {
-        return Opened {
-            refusal: 0,
-            state: State {
-                namespace_id: namespace,
-                count: 0,
-                limit,
-            },
-        };
-    }
-    Opened {
-        refusal,
-        state: State {
-            namespace_id: [0; 16],
-            count: 0,
-            limit: 0,
-        },
-    }
+    Ok(())
 }
 
 // A store of no entries, for at most `limit` of them, and its tally, which has no item.
@@ -67,17 +35,26 @@ pub fn open(
     tsp: &mut [u8],
     tsp_dir: &mut [u32],
     tally: &mut [u8],
-) -> Opened
-    ensures { open_outcome result spt.new spt_dir.new tsp.new tsp_dir.new tally.new ≡ opening field namespace limit spt.old spt_dir.old tsp.old tsp_dir.old tally.old }
+) -> Result<State, Refusal>
+    ensures { open_outcome (opened_says result) spt.new spt_dir.new tsp.new tsp_dir.new tally.new ≡ opening field namespace limit spt.old spt_dir.old tsp.old tsp_dir.old tally.old }
 {
-    let refusal = open_refusal(limit, spt, spt_dir, tsp, tsp_dir, tally);
-    if refusal != 0 {
-        return open_answer(refusal, namespace, limit);
-    }
+    let state = State {
+        namespace_id: namespace,
+        count: 0,
+        limit,
+    };
+    let store = Store {
+        state,
+        spt,
+        spt_dir,
+        tsp,
+        tsp_dir,
+    };
+    check_opening(store, tally)?;
     let n = RECORD_MOST * limit;
     let m = 2 * limit;
     tree::edit::open(&mut spt_dir[..m], &mut spt[..n]);
     tree::edit::open(&mut tsp_dir[..m], &mut tsp[..n]);
-    clear(tally, 0, ITEM * limit);
-    open_answer(0, namespace, limit)
+    tally[..ITEM * limit].fill(0);
+    Ok(state)
 }

@@ -1,5 +1,6 @@
-// The state of a store, by value.
+// The state of a store, by value; and a store that is lent to be read.
 ghost use Rattle.std.specs.Prelude.{◌≡◌};
+ghost use Rattle.key_laws.specs.Bytes.{Bytes};
 ghost use Rattle.store.specs.Store.{state_with};
 
 use keys::encode::KEY_MOST;
@@ -10,6 +11,7 @@ pub const LIMIT_MOST: usize = 1024;
 
 pub const RECORD_MOST: usize = KEY_MOST + VALUE;
 
+// Kept (6): 01 fixes the state, a namespace, a count and a limit, and C sees it.
 #[repr(C)]
 #[derive(Clone, Copy)]
 pub struct State {
@@ -23,20 +25,19 @@ impl State {
     pub fn with_count(self, count: usize) -> State
         ensures { result ≡ state_with self count }
     {
-        let namespace_id = self.namespace_id;
-        let limit = self.limit;
-        State {
-            namespace_id,
-            count,
-            limit,
-        }
+        State { count, ..self }
     }
 }
 
-// Refusal 0 and the state; or the refusal and a state that is all 0.
-#[repr(C)]
+// Kept (5): `limit_ok` and `roomy` stay clauses of `spt` and `tsp`: the test of a store is handed one that may have no room.
+// A store that is lent to be read: its state, and of each of its two trees the bytes and the directory. A record that a call gives lives as long as the subspace-first bytes. It promises only what the type says of any bytes.
 #[derive(Clone, Copy)]
-pub struct Opened {
-    pub refusal: u8,
+pub struct Store<'a, 'b> {
     pub state: State,
+    pub spt: &'a [u8],
+    pub spt_dir: &'b [u32],
+    pub tsp: &'b [u8],
+    pub tsp_dir: &'b [u32],
+    ghost spt_fits: { Bytes spt.now },
+    ghost tsp_fits: { Bytes tsp.now },
 }

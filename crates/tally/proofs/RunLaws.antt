@@ -1,6 +1,7 @@
 -- The walk over a subspace-first tree: the entries of a subspace stand together, and a run of them is the first item of the tally from there on. Assumes nothing.
 use Prim.Native.Nat.{ℕ, zero, suc, ◌+◌, ◌-◌, ◌≤◌, ◌<◌}
 use mathlib.Core.Path.{◌≡◌, refl, sym, ap, ap₂, subst, ◌∙◌}
+use Rattle.std.specs.Prelude.{max}
 use mathlib.Core.Logic.{⊎_elim}
 use mathlib.Core.Bool.{Bool, true, false, not, cond}
 use mathlib.Core.List.Memᴰ.{cases_cons as uncons}
@@ -35,6 +36,13 @@ use Rattle.tree.proofs.WithinLaws.{formed-recorded}
 use Rattle.tally.specs.Tally.{later_of, item_of, enter, tally_of}
 use Rattle.tally.specs.declared.item.Item.{Item}
 use Rattle.tally.proofs.TallyLaws.{subspace_of, tally-said}
+
+-- The later of two is the greater.
+pub later_max : (a b : ℕ) → max a b ≡ later_of a b
+unfolding later_of
+later_max a b = split (ltb a b)
+    (λ p. rw p (omega (arith, ltb-true a b p)))
+    (λ p. rw p (omega (arith, ltb-false a b p)))
 
 later-assoc : (a b c : ℕ) → later_of a (later_of b c) ≡ later_of (later_of a b) c
 unfolding later_of

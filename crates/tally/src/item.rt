@@ -10,10 +10,9 @@ ghost use Rattle.tree.specs.declared.stored.KeyOrder.TheVariants.{Spt};
 ghost use Rattle.tally.specs.Tally.{item_length, item_bytes, tally_of, later_of};
 
 use data_model::parameters::Subspace;
-use tree::address::{subspace_at, time_at};
 use tree::by_value::same_subspace;
 use tree::bytes::{write_subspace, write_u64};
-use tree::stored::KeyOrder;
+use tree::stored::{KeyOrder, Tree};
 
 // Where the count and the newest timestamp begin, and the bytes of an item.
 const COUNT_AT: usize = 16;
@@ -22,6 +21,7 @@ const NEWEST_AT: usize = COUNT_AT + 4;
 
 pub const ITEM: usize = NEWEST_AT + 8;
 
+// Kept (6): the count is of entries that stand in a tree, and is written as a number.
 #[derive(Clone, Copy)]
 pub struct Item {
     pub subspace: Subspace,
@@ -34,10 +34,7 @@ fn write_count(n: usize, out: &mut [u8])
     requires { 4 ≤ length out.old }
     ensures { out.new ≡ put (be 4 n) out.old }
 {
-    out[0] = (n / 0x100_0000 % 256) as u8;
-    out[1] = (n / 0x1_0000 % 256) as u8;
-    out[2] = (n / 0x100 % 256) as u8;
-    out[3] = (n % 256) as u8;
+    out[..4].copy_from_slice(&(n as u64).to_be_bytes()[4..]);
 }
 
 // Writes an item at the front of a buffer.
@@ -45,33 +42,35 @@ pub fn write_item(item: Item, out: &mut [u8])
     requires { item_length ≤ length out.old }
     ensures { out.new ≡ put (item_bytes item) out.old }
 {
-    let subspace = item.subspace;
-    write_subspace(subspace, out);
+    write_subspace(item.subspace, out);
     write_count(item.count, &mut out[COUNT_AT..]);
     write_u64(item.newest, &mut out[NEWEST_AT..]);
 }
 
 // The later of two timestamps.
-#[tactic(auto, unfolding(crate::specs::Tally::later_of))]
+// Kept (4): the must-fail edit older_kept speaks of it.
+#[tactic(auto, using(crate::proofs::RunLaws::later_max))]
 fn later_of(a: u64, b: u64) -> u64
     ensures { result ≡ later_of a b }
 {
-    if a < b {
-        return b;
-    }
-    a
+    a.max(b)
 }
 
-// The item of the entries that stand together from record k of a subspace-first tree on, with one subspace. It is the first item of the tally from there on.
-pub fn item_at(count: usize, dir: &[u32], tree: &[u8], k: usize) -> Item
-    requires { (Ordered Spt count dir.now tree.now) × (k < count) }
-    ensures { (1 ≤ result.count) × (k + result.count ≤ count) × ((ns : List ℕ) → tally_of (drop k (contents Spt field ns (records count dir.now tree.now))) ≡ result ∷ tally_of (drop (k + result.count) (contents Spt field ns (records count dir.now tree.now)))) }
+// The item of the entries that stand together from record k of a tree on, read as subspace-first, with one subspace. It is the first item of the tally from there on.
+pub fn item_at(tree: Tree, k: usize) -> Item
+    requires { (Ordered Spt tree.count tree.dir.now tree.bytes.now) × (k < tree.count) }
+    ensures { (1 ≤ result.count) × (k + result.count ≤ tree.entry.count) × ((ns : List ℕ) → tally_of (drop k (contents Spt field ns (records tree.entry.count tree.entry.dir.now tree.entry.bytes.now))) ≡ result ∷ tally_of (drop (k + result.count) (contents Spt field ns (records tree.entry.count tree.entry.dir.now tree.entry.bytes.now)))) }
 {
-    let subspace = subspace_at(KeyOrder::Spt, dir, tree, k);
-    let mut newest = time_at(KeyOrder::Spt, dir, tree, k);
-    let mut end = k + 1;
-    while end < count {
-        let next = subspace_at(KeyOrder::Spt, dir, tree, end);
+    let spt = Tree {
+        order: KeyOrder::Spt,
+        count: tree.count,
+        dir: tree.dir,
+        bytes: tree.bytes,
+    };
+    let subspace = spt.subspace_at(k);
+    let mut newest = spt.time_at(k);
+    for end in k + 1..spt.count {
+        let next = spt.subspace_at(end);
         if !same_subspace(next, subspace) {
             return Item {
                 subspace,
@@ -79,12 +78,11 @@ pub fn item_at(count: usize, dir: &[u32], tree: &[u8], k: usize) -> Item
                 newest,
             };
         }
-        newest = later_of(newest, time_at(KeyOrder::Spt, dir, tree, end));
-        end += 1;
+        newest = later_of(newest, spt.time_at(end));
     }
     Item {
         subspace,
-        count: end - k,
+        count: spt.count - k,
         newest,
     }
 }

@@ -15,20 +15,22 @@ ghost use Rattle.tree.specs.declared.stored.KeyOrder.TheVariants.{Spt};
 ghost use Rattle.tally.specs.Tally.{tally_room, tally_in};
 
 use item::{ITEM, item_at, write_item};
-use tree::bytes::{clear, same_bytes, zeros};
+use tree::bytes::zeros;
+use tree::stored::Tree;
 
-// Whether a buffer is the tally of a subspace-first tree, whatever the namespace: its items, and zeros behind.
-pub fn tally_is(count: usize, dir: &[u32], tree: &[u8], tally: &[u8]) -> bool
-    requires { (Ordered Spt count dir.now tree.now) × (tally_room count ≤ length tally.now) }
-    ensures { (ns : List ℕ) → result ≡ same_list same_number tally.now (tally_in (length tally.now) (contents Spt field ns (records count dir.now tree.now))) }
+// Whether a buffer is the tally of a tree, read as subspace-first, whatever the namespace: its items, and zeros behind.
+pub fn tally_is(tree: Tree, tally: &[u8]) -> bool
+    requires { (Ordered Spt tree.count tree.dir.now tree.bytes.now) × (tally_room tree.count ≤ length tally.now) }
+    ensures { (ns : List ℕ) → result ≡ same_list same_number tally.now (tally_in (length tally.now) (contents Spt field ns (records tree.entry.count tree.entry.dir.now tree.entry.bytes.now))) }
 {
     let mut k = 0;
     let mut at = 0;
-    while k < count {
-        let item = item_at(count, dir, tree, k);
+    // Kept (3): each step is as long as a run, which no range or iterator of the library gives.
+    while k < tree.count {
+        let item = item_at(tree, k);
         let mut bytes = [0u8; ITEM];
         write_item(item, &mut bytes);
-        if !same_bytes(&tally[at..at + ITEM], &bytes) {
+        if tally[at..at + ITEM] != bytes[..] {
             return false;
         }
         k += item.count;
@@ -37,19 +39,19 @@ pub fn tally_is(count: usize, dir: &[u32], tree: &[u8], tally: &[u8]) -> bool
     zeros(tally, at)
 }
 
-// Writes the tally of a subspace-first tree, whatever the namespace: its items, and zeros behind.
-pub fn write_tally(count: usize, dir: &[u32], tree: &[u8], tally: &mut [u8])
-    requires { (Ordered Spt count dir.now tree.now) × (tally_room count ≤ length tally.old) }
-    ensures { (ns : List ℕ) → tally.new ≡ tally_in (length tally.old) (contents Spt field ns (records count dir.now tree.now)) }
+// Writes the tally of a tree, read as subspace-first, whatever the namespace: its items, and zeros behind.
+pub fn write_tally(tree: Tree, tally: &mut [u8])
+    requires { (Ordered Spt tree.count tree.dir.now tree.bytes.now) × (tally_room tree.count ≤ length tally.old) }
+    ensures { (ns : List ℕ) → tally.new ≡ tally_in (length tally.old) (contents Spt field ns (records tree.entry.count tree.entry.dir.now tree.entry.bytes.now)) }
 {
     let mut k = 0;
     let mut at = 0;
-    while k < count {
-        let item = item_at(count, dir, tree, k);
+    // Kept (3): each step is as long as a run, which no range or iterator of the library gives.
+    while k < tree.count {
+        let item = item_at(tree, k);
         write_item(item, &mut tally[at..]);
         k += item.count;
         at += ITEM;
     }
-    let n = tally.len();
-    clear(tally, at, n);
+    tally[at..].fill(0);
 }

@@ -12,7 +12,7 @@ use lib.Seq.{drop-cons, get_or-set_same, drop-set-lt}
 use Rattle.laws.specs.Sorted.{all}
 use Rattle.text.specs.Hex.{digit_value, is_digit}
 use Rattle.text.specs.Decimal.{is_plain, number_from, value_read, number_read, digits, decimal_text}
-use Rattle.text.specs.declared.decimal.NumberRead.TheVariants.{Is, Bad}
+use Rattle.std.specs.Prelude.{Some, None}
 
 -- The four ways in which the test of the form ends.
 pub plain-none : (s : List ℕ) → length s ≡ 0 → false ≡ is_plain s
@@ -53,15 +53,15 @@ number-low n [] = omega arith
 number-low n (b ∷ s) = omega (arith, number-low (n * 10 + digit_value b) s)
 
 -- The answer, by the number.
-pub value-is : (n m : ℕ) → n ≡ m → m < 2 ^ 64 → Is m ≡ value_read n
+pub value-is : (n m : ℕ) → n ≡ m → m < 2 ^ 64 → Some m ≡ value_read n
 unfolding value_read
 value-is n m e h = rw (e, lt-ltb m (2 ^ 64) h)
 
-pub value-over : (n : ℕ) → 2 ^ 64 ≤ n → Bad ≡ value_read n
+pub value-over : (n : ℕ) → 2 ^ 64 ≤ n → None ≡ value_read n
 unfolding value_read
 value-over n h = rw (le-ltb n (2 ^ 64) h)
 
-pub value-past : (n m : ℕ) (s : List ℕ) (i : ℕ) → m ≡ number_from n (drop i s) → i < length s → 2 ^ 64 ≤ n * 10 + digit_value (get_or s i 0) → Bad ≡ value_read m
+pub value-past : (n m : ℕ) (s : List ℕ) (i : ℕ) → m ≡ number_from n (drop i s) → i < length s → 2 ^ 64 ≤ n * 10 + digit_value (get_or s i 0) → None ≡ value_read m
 value-past n m s i e h g =
     value-over m (omega (arith, e, number-goes n s i h, number-low (n * 10 + digit_value (get_or s i 0)) (drop (i + 1) s)))
 
@@ -116,7 +116,3 @@ digits-none x d h =
 pub number-form : (s : List ℕ) → is_plain s ≡ true → value_read (number_from 0 s) ≡ number_read s
 unfolding number_read
 number-form s h = rw h
-
-pub number-bad : (s : List ℕ) → is_plain s ≡ false → Bad ≡ number_read s
-unfolding number_read
-number-bad s h = rw h

@@ -15,7 +15,7 @@ use Rattle.data_model.specs.declared.path.Path.{Path}
 use Rattle.key_laws.proofs.Fits.{fitting}
 use Rattle.data_model.proofs.Values.{joined-more, ends_more, ends-length}
 use Rattle.text.specs.PathField.{counted, PutIf}
-use Rattle.text.specs.declared.path.Count.TheVariants.{Is, Over}
+use Rattle.std.specs.Prelude.{Some, None}
 
 pub record Filling (all left : Components) (old-bytes old-ends bytes ends : List ℕ) (total n : ℕ) : Type 0 where
   pub cs : Components
@@ -109,18 +109,18 @@ module _ (all : Components) (c : List ℕ) (left : Components) (ob oe bytes ends
 
 -- The answers.
 module _ (fit : Bool) (m : ℕ) (all : Components) (ob oe bytes ends : List ℕ) where
-  pub over-is : fit ≡ false → (Over ≡ counted fit m) × (PutIf fit (joined all) ob bytes × PutIf fit (ends_from 0 all) oe ends)
+  pub over-is : fit ≡ false → (None ≡ counted fit m) × (PutIf fit (joined all) ob bytes × PutIf fit (ends_from 0 all) oe ends)
   unfolding counted
-  over-is e = subst (λ (b : Bool). (Over ≡ counted b m) × (PutIf b (joined all) ob bytes × PutIf b (ends_from 0 all) oe ends)) (sym e) (refl, (tt, tt))
+  over-is e = subst (λ (b : Bool). (None ≡ counted b m) × (PutIf b (joined all) ob bytes × PutIf b (ends_from 0 all) oe ends)) (sym e) (refl, (tt, tt))
 
   pub count-is : (n : ℕ) → fit ≡ true → n ≡ m → bytes ≡ put (joined all) ob → ends ≡ put (ends_from 0 all) oe
-      → (Is n ≡ counted fit m) × (PutIf fit (joined all) ob bytes × PutIf fit (ends_from 0 all) oe ends)
+      → (Some n ≡ counted fit m) × (PutIf fit (joined all) ob bytes × PutIf fit (ends_from 0 all) oe ends)
   unfolding counted
   count-is n e l p q =
-      subst (λ (b : Bool). (Is n ≡ counted b m) × (PutIf b (joined all) ob bytes × PutIf b (ends_from 0 all) oe ends)) (sym e) (ap Is l, (p, q))
+      subst (λ (b : Bool). (Some n ≡ counted b m) × (PutIf b (joined all) ob bytes × PutIf b (ends_from 0 all) oe ends)) (sym e) (ap Some l, (p, q))
 
 pub filling-end : (all : Components) (ob oe bytes ends : List ℕ) (total n m : ℕ) → Filling all [] ob oe bytes ends total n → m ≡ length all
-    → (Is n ≡ counted (fitting field.mcl (length ob) (length oe) all) m)
+    → (Some n ≡ counted (fitting field.mcl (length ob) (length oe) all) m)
     × (PutIf (fitting field.mcl (length ob) (length oe) all) (joined all) ob bytes × PutIf (fitting field.mcl (length ob) (length oe) all) (ends_from 0 all) oe ends)
 unfolding fitting
 filling-end all ob oe bytes ends total n m h e =
@@ -134,7 +134,7 @@ pub record Counted (fit : Bool) (all : Components) (path : Path) : Type 0 where
   pub holds : fit ≡ true
   pub is : path ≡ path_of all
 
-pub counted_is : (fit : Bool) (all : Components) (bytes ends : List ℕ) (n m : ℕ) → Is n ≡ counted fit m → m ≡ length all
+pub counted_is : (fit : Bool) (all : Components) (bytes ends : List ℕ) (n m : ℕ) → Some n ≡ counted fit m → m ≡ length all
     → PutIf fit (joined all) (replicate capacity.mpl 0) bytes → PutIf fit (ends_from 0 all) (replicate capacity.mcc 0) ends
     → Counted fit all (record { bytes = bytes; ends = ends; count = n })
 unfolding counted value_of path_of
@@ -145,7 +145,7 @@ counted_is true all bytes ends n m e l p q =
     let pm : ends ≡ ends_from 0 all ++ replicate (capacity.mcc - length (ends_from 0 all)) 0 = q ∙ put-zeros (ends_from 0 all) capacity.mcc in
     record { holds = refl; is = rw (en, pb, pm) }
 
-pub counted-over : (fit : Bool) (m : ℕ) → Over ≡ counted fit m → fit ≡ false
+pub counted-over : (fit : Bool) (m : ℕ) → None ≡ counted fit m → fit ≡ false
 unfolding counted
 counted-over false m e = refl
 counted-over true m e = absurd (let z : ◌≡◌ {A = ℕ} 0 1 = cc in omega arith)

@@ -4,26 +4,21 @@ use mathlib.Core.Path.{◌≡◌, refl, sym}
 use mathlib.Core.List.{List, [], ◌∷◌, map}
 use mathlib.Core.Bool.{true, false, ◌&&◌}
 use native.Mathlib.Omega.{arith}
-use lib.Dec.{eqb, ltb}
-use borrow.Author.Tests.{lt-ltb, le-ltb, ltb-true}
-use lib.ListN.{length, get_or}
+use lib.Dec.{ltb}
+use borrow.Author.Tests.{lt-ltb, ltb-true}
+use lib.ListN.{length}
 use Rattle.laws.specs.Sorted.{all}
 use Rattle.laws.proofs.Truth.{clash, and-true, alike, split}
 use Rattle.data_model.specs.Path.{field, is_path, joined, path_of}
 use Rattle.key_laws.proofs.Fits.{is_byte, path-fits, fits-path}
 use Rattle.text.specs.Hex.{digit_value, is_digit, is_hex, hex_of}
 use Rattle.text.specs.Fields.{fields}
-use Rattle.text.specs.PathField.{dash, dot, slash, is_only, is_component_field, is_path_field, components_of, empty_path, placed, path_field, fields_fit}
-use Rattle.text.specs.declared.path.Outcome.TheVariants.{Good, Illegal, Bad}
+use Rattle.text.specs.PathField.{dash, dot, slash, is_only, is_component_field, is_path_field, components_of, placed, path_field, fields_fit}
+use Rattle.text.specs.declared.path.FieldError.TheVariants.{Illegal, Bad}
+use Rattle.std.specs.Prelude.{Ok, Err}
 use Rattle.text.proofs.HexLaws.{hex-digits}
 
 module _ (b : ℕ) where
-  pub only-is : (f : List ℕ) → length f ≡ 1 → eqb (get_or f 0 0) b ≡ is_only b f
-  unfolding is_only
-  only-is [] h = absurd (omega arith)
-  only-is (a ∷ []) h = refl
-  only-is (a ∷ c ∷ f) h = absurd (omega arith)
-
   pub only-not : (f : List ℕ) → (length f ≡ 1 → ⊥) → false ≡ is_only b f
   unfolding is_only
   only-not [] h = refl
@@ -36,15 +31,11 @@ module _ (b : ℕ) where
   only-bytes (a ∷ []) h = refl
   only-bytes (a ∷ c ∷ f) h = clash h refl
 
--- A component: `.`, nothing, or digits.
+-- A component: `.`, or digits.
 module _ (f : List ℕ) where
   pub component-dot : is_only dot f ≡ true → true ≡ is_component_field f
   unfolding is_component_field
   component-dot h = rw h
-
-  pub component-none : is_only dot f ≡ false → length f ≡ 0 → false ≡ is_component_field f
-  unfolding is_component_field
-  component-none h l = rw (h, le-ltb 0 (length f) (omega arith))
 
   pub component-hex : is_only dot f ≡ false → (length f ≡ 0 → ⊥) → is_hex f ≡ is_component_field f
   unfolding is_component_field
@@ -83,20 +74,12 @@ fields-bytes (f ∷ fs) h =
 
 -- A path's form.
 module _ (s : List ℕ) where
-  pub path-dash : is_only dash s ≡ true → true ≡ is_path_field s
-  unfolding is_path_field
-  path-dash h = rw h
-
-  pub path-form : is_only dash s ≡ false → all is_component_field (fields slash s) ≡ is_path_field s
-  unfolding is_path_field
-  path-form h = rw h
-
   -- The ways in which reading a path ends.
-  pub path_empty : is_only dash s ≡ true → empty_path Good ≡ path_field s
-  unfolding path_field is_path_field components_of empty_path placed is_path all joined
+  pub path_empty : is_only dash s ≡ true → Ok (path_of []) ≡ path_field s
+  unfolding path_field is_path_field components_of placed is_path all joined
   path_empty h = rw h
 
-  pub path-bad : is_only dash s ≡ false → all is_component_field (fields slash s) ≡ false → empty_path Bad ≡ path_field s
+  pub path-bad : is_only dash s ≡ false → all is_component_field (fields slash s) ≡ false → Err Bad ≡ path_field s
   unfolding path_field is_path_field
   path-bad h e = rw (h, e)
 
@@ -107,10 +90,10 @@ module _ (s : List ℕ) where
         (path-fits field (map hex_of (fields slash s)))
         (λ f. fits-path field (map hex_of (fields slash s)) f (fields-bytes (fields slash s) e))
 
-    pub path-over : fields_fit field.mpl field.mcc s ≡ false → empty_path Illegal ≡ path_field s
+    pub path-over : fields_fit field.mpl field.mcc s ≡ false → Err Illegal ≡ path_field s
     unfolding path_field is_path_field components_of placed
     path-over f = rw (h, e, fits-is, f)
 
-    pub path-good : fields_fit field.mpl field.mcc s ≡ true → record { outcome = Good; path = path_of (map hex_of (fields slash s)) } ≡ path_field s
+    pub path-good : fields_fit field.mpl field.mcc s ≡ true → Ok (path_of (map hex_of (fields slash s))) ≡ path_field s
     unfolding path_field is_path_field components_of placed
     path-good f = rw (h, e, fits-is, f)

@@ -6,25 +6,21 @@ use mathlib.Core.Bool.{true, false}
 use native.Mathlib.Omega.{arith}
 use native.Mathlib.Numerals.{add-one}
 use lib.Dec.{eqb, leb}
-use borrow.Author.Tests.{eqb-true, ltb-true, le-ltb, lt-ltb, le-leb, lt-leb, eq-eqb, ne_eqb}
+use borrow.Author.Tests.{eqb-true, ltb-true, lt-ltb, le-leb, lt-leb, eq-eqb}
 use lib.ListN.{length, drop, get_or, drop_of_length-le}
 use lib.Seq.{drop-cons}
 use Rattle.laws.specs.Lists.{put}
 use Rattle.laws.specs.Sorted.{all}
 use Rattle.laws.proofs.Truth.{and-true}
 use Rattle.text.specs.Hex.{digit_value, is_digit, is_hex, hex_of, hex_byte, hex_text, has_room, hex_read, hex_in, byte_read}
-use Rattle.text.specs.declared.hex.ByteRead.TheVariants as byte
-use Rattle.text.specs.declared.hex.HexRead.TheVariants.{Took, Bad, Short}
+use Rattle.text.specs.declared.hex.HexError.TheVariants.{Bad, Short}
+use Rattle.std.specs.Prelude.{Some, Ok, Err}
 use Rattle.text.proofs.Lists.{all-at}
 
 -- A digit, and none.
 pub digit-is : (base b : ℕ) → digit_value b < base → is_digit base b ≡ true
 unfolding is_digit
 digit-is base b h = lt-ltb (digit_value b) base h
-
-pub digit_not : (base b : ℕ) → base ≤ digit_value b → is_digit base b ≡ false
-unfolding is_digit
-digit_not base b h = le-ltb (digit_value b) base h
 
 -- An even number of digits.
 pub hex-even : (s : List ℕ) → is_hex s ≡ true → length s % 2 ≡ 0
@@ -42,10 +38,6 @@ hex-digit s i h l = ltb-true (digit_value (get_or s i 0)) 16 (all-at (is_digit 1
 pub hex-form : (s : List ℕ) → length s % 2 ≡ 0 → all (is_digit 16) s ≡ is_hex s
 unfolding is_hex
 hex-form s e = rw (eq-eqb (length s % 2) 0 e)
-
-pub hex-odd : (s : List ℕ) → (length s % 2 ≡ 0 → ⊥) → false ≡ is_hex s
-unfolding is_hex
-hex-odd s e = rw (ne_eqb (length s % 2) 0 e)
 
 -- Digits left to read: the next two, and those after them; or none.
 pub bytes-at : (s : List ℕ) (at : ℕ) → at + 1 < length s
@@ -87,35 +79,26 @@ unfolding hex_text
 text-length [] = refl
 text-length (b ∷ s) = omega (arith, text-length s)
 
--- The three ways in which reading one byte ends.
-module _ (s : List ℕ) where
-  pub byte-long : (length s ≡ 2 → ⊥) → byte.Bad ≡ byte_read s
-  unfolding byte_read
-  byte-long h = rw (ne_eqb (length s) 2 h)
-
-  pub byte-bad : length s ≡ 2 → is_hex s ≡ false → byte.Bad ≡ byte_read s
-  unfolding byte_read
-  byte-bad l h = rw (eq-eqb (length s) 2 l, h)
-
-  pub byte-is : length s ≡ 2 → is_hex s ≡ true → (b : ℕ) → b ≡ digit_value (get_or s 0 0) * 16 + digit_value (get_or s 1 0) → byte.Is b ≡ byte_read s
-  unfolding byte_read
-  byte-is l h b e =
-      let f : get_or (hex_of s) 0 0 ≡ digit_value (get_or s 0 0) * 16 + digit_value (get_or s 1 0) = ap (λ (x : List ℕ). get_or x 0 0) (bytes-at s 0 (omega arith)) in
-      rw (eq-eqb (length s) 2 l, h, f, e)
+-- A byte that is read.
+pub byte-is : (s : List ℕ) → length s ≡ 2 → is_hex s ≡ true → (b : ℕ) → b ≡ digit_value (get_or s 0 0) * 16 + digit_value (get_or s 1 0) → Some b ≡ byte_read s
+unfolding byte_read
+byte-is s l h b e =
+    let f : get_or (hex_of s) 0 0 ≡ digit_value (get_or s 0 0) * 16 + digit_value (get_or s 1 0) = ap (λ (x : List ℕ). get_or x 0 0) (bytes-at s 0 (omega arith)) in
+    rw (eq-eqb (length s) 2 l, h, f, e)
 
 -- The three ways in which reading ends.
 module _ (s old : List ℕ) where
-  pub read-bad : is_hex s ≡ false → (Bad ≡ hex_read (is_hex s) (has_room s old) (hex_of s)) × (old ≡ hex_in (is_hex s) (has_room s old) (hex_of s) old)
+  pub read-bad : is_hex s ≡ false → (Err Bad ≡ hex_read (is_hex s) (has_room s old) (hex_of s)) × (old ≡ hex_in (is_hex s) (has_room s old) (hex_of s) old)
   unfolding hex_read hex_in
   read-bad e = simp e (refl, refl)
 
-  pub read_short : is_hex s ≡ true → length old < length s / 2 → (Short ≡ hex_read (is_hex s) (has_room s old) (hex_of s)) × (old ≡ hex_in (is_hex s) (has_room s old) (hex_of s) old)
+  pub read_short : is_hex s ≡ true → length old < length s / 2 → (Err Short ≡ hex_read (is_hex s) (has_room s old) (hex_of s)) × (old ≡ hex_in (is_hex s) (has_room s old) (hex_of s) old)
   unfolding has_room hex_read hex_in
   read_short e h = let q : leb (length s) (2 * length old) ≡ false = lt-leb (length s) (2 * length old) (omega arith) in simp (e, q) (refl, refl)
 
   pub read-took : (n : ℕ) (out : List ℕ) → is_hex s ≡ true → length s / 2 ≤ length old → n ≡ length (hex_of s) → out ≡ put (hex_of s) old
-      → (Took n ≡ hex_read (is_hex s) (has_room s old) (hex_of s)) × (out ≡ hex_in (is_hex s) (has_room s old) (hex_of s) old)
+      → (Ok n ≡ hex_read (is_hex s) (has_room s old) (hex_of s)) × (out ≡ hex_in (is_hex s) (has_room s old) (hex_of s) old)
   unfolding has_room hex_read hex_in
   read-took n out e h l o =
       let q : leb (length s) (2 * length old) ≡ true = le-leb (length s) (2 * length old) (omega (arith, hex-even s e)) in
-      simp (e, q) (ap Took l, o)
+      simp (e, q) (ap Ok l, o)

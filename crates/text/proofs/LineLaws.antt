@@ -1,11 +1,12 @@
 -- Laws of a line of the listing program: how its reading ends, and how long what is written can be. Assumes nothing.
 use Prim.Native.Nat.{ℕ, zero, suc, ◌+◌, ◌-◌, ◌*◌, ◌/◌, ◌≤◌, ◌<◌}
-use mathlib.Core.Path.{◌≡◌, sym, ap, ◌∙◌}
+use mathlib.Core.Path.{◌≡◌, refl, sym, ap, ◌∙◌}
 use mathlib.Core.List.{List, [], ◌∷◌, ◌++◌, append_assoc}
 use mathlib.Core.Bool.{true, false, ◌&&◌}
 use native.Mathlib.Omega.{arith}
-use lib.Dec.{ltb, leb}
-use borrow.Author.Tests.{eq-eqb, ne_eqb, le-leb, lt-leb, leb-true, leb-false}
+use lib.Dec.{eqb, ltb, leb}
+use lib.Pointwise.{pointwise}
+use borrow.Author.Tests.{eq-eqb, le-leb, lt-leb, leb-true, leb-false}
 use lib.ListN.{length, take, length-append, length-take}
 use lib.Seq.{take_all}
 use Rattle.laws.specs.Prefix.{same_number, same_list}
@@ -19,14 +20,19 @@ use Rattle.text.specs.Decimal.{number_read, digits, decimal_text}
 use Rattle.text.specs.Fields.{fields}
 use Rattle.text.specs.PathField.{path_field}
 use Rattle.text.specs.PathText.{behind_text, path_text, path_text_most}
-use Rattle.text.specs.EntryLine.{line_most, space, in_word, no_entry_line, with_byte, with_number, with_path, entry_line, entry_read, field_at, is_in_line, line_read, rank_text, listed_text}
-use Rattle.text.specs.declared.hex.ByteRead.{ByteRead}
-use Rattle.text.specs.declared.hex.ByteRead.TheVariants as byte
-use Rattle.text.specs.declared.decimal.NumberRead.{NumberRead}
-use Rattle.text.specs.declared.decimal.NumberRead.TheVariants as number
-use Rattle.text.specs.declared.path.Outcome.TheVariants as outcome
-use Rattle.text.specs.declared.path.PathField.{PathField}
+use Rattle.text.specs.EntryLine.{line_most, space, in_word, entry_line, entry_read, field_at, is_in_line, line_read, rank_text, listed_text}
+use Rattle.text.specs.declared.path.FieldError.TheVariants.{Bad}
+use Rattle.text.specs.declared.path.FieldError.{FieldError}
+use Rattle.std.specs.Prelude.{Some, None, Ok, Err}
 use Rattle.text.proofs.PathLaws.{component-most}
+
+-- The library's word for equal bytes.
+pub same-bytes : (a b : List ℕ) → pointwise eqb a b ≡ same_list same_number a b
+unfolding same_list same_number
+same-bytes [] [] = refl
+same-bytes [] (y ∷ b) = refl
+same-bytes (x ∷ a) [] = refl
+same-bytes (x ∷ a) (y ∷ b) = ap (eqb x y &&◌) (same-bytes a b)
 
 -- The form of a line: too long, not six fields, or what its first field is.
 module _ (s : List ℕ) where
@@ -34,15 +40,11 @@ module _ (s : List ℕ) where
   unfolding is_in_line
   long_line h = rw (lt-leb (length s) line_most h)
 
-  pub in-other : length s ≤ line_most → (length (fields space s) ≡ 6 → ⊥) → false ≡ is_in_line s
-  unfolding is_in_line
-  in-other h n = rw (le-leb (length s) line_most h, ne_eqb (length (fields space s)) 6 n)
-
   pub in-word : length s ≤ line_most → length (fields space s) ≡ 6 → same_list same_number (field_at 0 s) in_word ≡ is_in_line s
   unfolding is_in_line
   in-word h n = rw (le-leb (length s) line_most h, eq-eqb (length (fields space s)) 6 n)
 
-  pub line_other : is_in_line s ≡ false → no_entry_line outcome.Bad ≡ line_read s
+  pub line_other : is_in_line s ≡ false → Err Bad ≡ line_read s
   unfolding line_read
   line_other h = rw h
 
@@ -61,38 +63,34 @@ line-cut s n h =
     sym (line_other (take n s) (sym (long_line (take n s) (omega (arith, length-take n s))))) ∙ line_other s (sym (long_line s l)))
 
 -- What five fields say: the first that is of another form; or what the path is.
-module _ (s d : ByteRead) (p : PathField) (t l : NumberRead) where
-  pub bad-subspace : s ≡ byte.Bad → no_entry_line outcome.Bad ≡ entry_read s p t l d
-  unfolding entry_read with_byte
-  bad-subspace e = rw e
+module _ (s : List ℕ) (i : is_in_line s ≡ true) where
+  pub bad-subspace : byte_read (field_at 1 s) ≡ None → Err Bad ≡ line_read s
+  unfolding line_read entry_read
+  bad-subspace e = rw (i, e)
 
-  module _ (a : ℕ) (ea : s ≡ byte.Is a) where
-    pub bad-timestamp : t ≡ number.Bad → no_entry_line outcome.Bad ≡ entry_read s p t l d
-    unfolding entry_read with_byte with_number
-    bad-timestamp e = rw (ea, e)
+  module _ (a : ℕ) (ea : byte_read (field_at 1 s) ≡ Some a) where
+    pub bad-timestamp : number_read (field_at 3 s) ≡ None → Err Bad ≡ line_read s
+    unfolding line_read entry_read
+    bad-timestamp e = rw (i, ea, e)
 
-    module _ (b : ℕ) (eb : t ≡ number.Is b) where
-      pub bad-length : l ≡ number.Bad → no_entry_line outcome.Bad ≡ entry_read s p t l d
-      unfolding entry_read with_byte with_number
-      bad-length e = rw (ea, eb, e)
+    module _ (b : ℕ) (eb : number_read (field_at 3 s) ≡ Some b) where
+      pub bad-length : number_read (field_at 4 s) ≡ None → Err Bad ≡ line_read s
+      unfolding line_read entry_read
+      bad-length e = rw (i, ea, eb, e)
 
-      module _ (n : ℕ) (en : l ≡ number.Is n) where
-        pub bad-digest : d ≡ byte.Bad → no_entry_line outcome.Bad ≡ entry_read s p t l d
-        unfolding entry_read with_byte with_number
-        bad-digest e = rw (ea, eb, en, e)
+      module _ (n : ℕ) (en : number_read (field_at 4 s) ≡ Some n) where
+        pub bad-digest : byte_read (field_at 5 s) ≡ None → Err Bad ≡ line_read s
+        unfolding line_read entry_read
+        bad-digest e = rw (i, ea, eb, en, e)
 
-        module _ (g : ℕ) (eg : d ≡ byte.Is g) where
-          pub read-good : p.outcome ≡ outcome.Good → entry_line a p.path b n g ≡ entry_read s p t l d
-          unfolding entry_read with_byte with_number with_path
-          read-good e = rw (ea, eb, en, eg, e)
+        module _ (g : ℕ) (eg : byte_read (field_at 5 s) ≡ Some g) where
+          pub bad-path : (why : FieldError) → path_field (field_at 2 s) ≡ Err why → Err why ≡ line_read s
+          unfolding line_read entry_read
+          bad-path why e = rw (i, ea, eb, en, eg, e)
 
-          pub read-illegal : p.outcome ≡ outcome.Illegal → no_entry_line outcome.Illegal ≡ entry_read s p t l d
-          unfolding entry_read with_byte with_number with_path
-          read-illegal e = rw (ea, eb, en, eg, e)
-
-          pub bad-path : p.outcome ≡ outcome.Bad → no_entry_line outcome.Bad ≡ entry_read s p t l d
-          unfolding entry_read with_byte with_number with_path
-          bad-path e = rw (ea, eb, en, eg, e)
+          pub read-good : (p : Path) → path_field (field_at 2 s) ≡ Ok p → Ok (entry_line a p b n g) ≡ line_read s
+          unfolding line_read entry_read
+          read-good p e = rw (i, ea, eb, en, eg, e)
 
 -- A number has at most 20 digits.
 digits-most : (k x : ℕ) → length (digits k x) ≤ k

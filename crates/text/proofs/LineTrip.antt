@@ -12,17 +12,15 @@ use Rattle.laws.specs.Sorted.{all}
 use Rattle.laws.proofs.Truth.{split, and-true}
 use Rattle.data_model.specs.Path.{field, Component, Components, is_path, path_of}
 use Rattle.key_laws.proofs.Fits.{legal-of, components-of}
-use Rattle.text.specs.Hex.{hex_digit, hex_byte, hex_text, byte_read}
-use Rattle.text.specs.Decimal.{digits, decimal_text, number_read}
+use Rattle.text.specs.Hex.{hex_digit, hex_byte, hex_text}
+use Rattle.text.specs.Decimal.{digits, decimal_text}
 use Rattle.text.specs.Fields.{fields}
-use Rattle.text.specs.PathField.{path_field}
 use Rattle.text.specs.PathText.{component_text, behind_text, path_text, path_text_most}
-use Rattle.text.specs.EntryLine.{line_most, space, in_word, entry_line, is_in_line, line_read, rank_text, listed_text}
-use Rattle.text.specs.declared.path.PathField.{PathField}
-use Rattle.text.specs.declared.path.Outcome.TheVariants.{Good}
+use Rattle.text.specs.EntryLine.{line_most, space, in_word, entry_line, entry_read, is_in_line, line_read, rank_text, listed_text}
+use Rattle.std.specs.Prelude.{Ok}
 use Rattle.text.proofs.RoundTrip.{byte-back, number-back}
 use Rattle.text.proofs.PathTrip.{other, fields-alone, fields_join, digit-high, path-back}
-use Rattle.text.proofs.LineLaws.{in-word, line-in, read-good, decimal-most, path-most}
+use Rattle.text.proofs.LineLaws.{in-word, line-in, decimal-most, path-most}
 
 -- No byte between the spaces is a space.
 clear-append : (xs ys : List ℕ) → all (other space) xs ≡ true → all (other space) ys ≡ true → all (other space) (xs ++ ys) ≡ true
@@ -95,17 +93,10 @@ module _ (s : ℕ) (cs : Components) (t l d : ℕ) where
   line-short h = simp length-append (omega (arith, decimal-most t, decimal-most l))
 
   pub listed_back : s < 256 → is_path field cs ≡ true → t < 2 ^ 64 → l < 2 ^ 64 → d < 256
-      → line_read (in_word ++ space ∷ listed_text s cs t l d) ≡ entry_line s (path_of cs) t l d
-  unfolding line
+      → line_read (in_word ++ space ∷ listed_text s cs t l d) ≡ Ok (entry_line s (path_of cs) t l d)
+  unfolding line entry_read
   listed_back hs hp ht hl hd =
       let f = line-fields in
       let short : length (path_text cs) ≤ path_text_most = rw (components-of cs) at (path-most (path_of cs) (legal-of field cs hp)) in
       let i : is_in_line line ≡ true = sym (in-word line (line-short short) (ap length f)) ∙ ap (λ (x : List (List ℕ)). same_list same_number (get_or x 0 []) in_word) f ∙ in-same in
-      let p : path_field (get_or (fields space line) 2 []) ≡ record { outcome = Good; path = path_of cs } = ap (λ (x : List (List ℕ)). path_field (get_or x 2 [])) f ∙ path-back cs hp in
-      let r = read-good (byte_read (get_or (fields space line) 1 [])) (byte_read (get_or (fields space line) 5 [])) (path_field (get_or (fields space line) 2 [])) (number_read (get_or (fields space line) 3 [])) (number_read (get_or (fields space line) 4 []))
-      s (ap (λ (x : List (List ℕ)). byte_read (get_or x 1 [])) f ∙ byte-back s hs)
-      t (ap (λ (x : List (List ℕ)). number_read (get_or x 3 [])) f ∙ number-back t ht)
-      l (ap (λ (x : List (List ℕ)). number_read (get_or x 4 [])) f ∙ number-back l hl)
-      d (ap (λ (x : List (List ℕ)). byte_read (get_or x 5 [])) f ∙ byte-back d hd)
-      (ap (λ (x : PathField). x.outcome) p) in
-      sym (line-in line i) ∙ sym r ∙ ap (λ (x : PathField). entry_line s x.path t l d) p
+      sym (line-in line i) ∙ rw (f, byte-back s hs, path-back cs hp, number-back t ht, number-back l hl, byte-back d hd)

@@ -1,37 +1,24 @@
 -- Laws of tests of each element, of a store into what is written from the front, and of the part of a slice from a place on.
 -- Assumes nothing.
 use Prim.Native.Nat.{ℕ, zero, suc, ◌+◌, ◌-◌, ◌≤◌, ◌<◌}
-use mathlib.Core.Path.{◌≡◌, sym, ap, ◌∙◌}
+use mathlib.Core.Path.{◌≡◌, refl, sym, ap, ◌∙◌}
 use mathlib.Core.List.{List, [], ◌∷◌, ◌++◌}
-use mathlib.Core.Bool.{Bool, true, false}
+use mathlib.Core.Bool.{Bool, true, ◌&&◌}
+use Rattle.std.specs.List.{list_all}
+use Rattle.std.specs.Prelude.{Option, Some, None, unwrap_or, option_map}
 use native.Mathlib.Omega.{arith}
-use native.Mathlib.Numerals.{add-one}
-use lib.ListN.{length, take, drop, get_or, set, length-append, length-drop, drop_of_length-le}
+use lib.ListN.{length, take, drop, get_or, set, length-append, length-drop}
 use lib.Seq.{drop-cons, set_split, take_all}
-use borrow.Rule.Slice.PartMut.{mid_of}
 use Rattle.laws.specs.Lists.{put}
 use Rattle.laws.specs.Sorted.{all}
 use Rattle.laws.proofs.Truth.{and-true}
 use Rattle.laws.proofs.Lists.{Wrote, wrote-more}
 
-module _ (p : ℕ → Bool) where
-  pub all-goes : (s : List ℕ) (i : ℕ) → i < length s → p (get_or s i 0) ≡ true → all p (drop i s) ≡ all p (drop (i + 1) s)
-  unfolding all
-  all-goes s i h e = rw (drop-cons s i 0 h, e, add-one)
-
-  pub all-fails : (s : List ℕ) (i : ℕ) → i < length s → p (get_or s i 0) ≡ false → all p (drop i s) ≡ false
-  unfolding all
-  all-fails s i h e = rw (drop-cons s i 0 h, e)
-
-  pub all_done : (s : List ℕ) (i : ℕ) → length s ≤ i → all p (drop i s) ≡ true
-  unfolding all
-  all_done s i h = rw (drop_of_length-le s h)
-
-  pub all-at : (s : List ℕ) (i : ℕ) → all p s ≡ true → i < length s → p (get_or s i 0) ≡ true
-  unfolding all
-  all-at [] i e h = absurd (omega arith)
-  all-at (b ∷ s) zero e h = (and-true (p b) (all p s) e).0
-  all-at (b ∷ s) (suc i) e h = all-at s i (and-true (p b) (all p s) e).1 (omega arith)
+pub all-at : (p : ℕ → Bool) (s : List ℕ) (i : ℕ) → all p s ≡ true → i < length s → p (get_or s i 0) ≡ true
+unfolding all
+all-at p [] i e h = absurd (omega arith)
+all-at p (b ∷ s) zero e h = (and-true (p b) (all p s) e).0
+all-at p (b ∷ s) (suc i) e h = all-at p s i (and-true (p b) (all p s) e).1 (omega arith)
 
 -- A byte is stored where the last piece ended.
 pub wrote-store : (w rest old out : List ℕ) (at v : ℕ) → Wrote w (v ∷ rest) old out at → at < length out → Wrote w rest old (set out at v) (at + 1)
@@ -50,7 +37,13 @@ pub put-fits : (xs old new : List ℕ) → new ≡ put xs old → length new ≡
 unfolding put
 put-fits xs old new e h = omega (arith, h, simp (length-append, length-drop) at (ap length e))
 
--- So a writer that was lent the part from a place on ends within the buffer.
-pub lent_fits : (xs out last : List ℕ) (at n : ℕ) → at ≤ length out → n ≡ length xs → last ≡ put xs (mid_of at (length out - at) out)
-    → length last ≡ length (mid_of at (length out - at) out) → at + n ≤ length out
-lent_fits xs out last at n h e l s = omega (arith, put-fits xs (mid_of at (length out - at) out) last l s, ap length (rest_of out at), length-drop at out)
+-- A default given before what v reads, or after it.
+pub unwrap-map : {A B : Type 0} (v : A → B) (r : Option A) (d : A) → v (unwrap_or r d) ≡ unwrap_or (option_map v r) (v d)
+unwrap-map v (Some x) d = refl
+unwrap-map v None d = refl
+
+-- The library's word for a test of each element.
+pub all-list : {X : Type 0} (p : X → Bool) (s : List X) → list_all p s ≡ all p s
+unfolding all
+all-list p [] = refl
+all-list p (x ∷ s) = ap (p x &&◌) (all-list p s)

@@ -13,9 +13,9 @@ use Rattle.data_model.specs.Path.{field, Component, Components, is_component, is
 use Rattle.key_laws.proofs.Fits.{is_byte, fitting, path-fits}
 use Rattle.text.specs.Hex.{hex_of, hex_digit, hex_text}
 use Rattle.text.specs.Fields.{fields, on_first}
-use Rattle.text.specs.PathField.{dash, dot, slash, is_only, is_component_field, empty_path, fields_fit, path_field}
+use Rattle.text.specs.PathField.{dash, dot, slash, is_only, is_component_field, fields_fit, path_field}
 use Rattle.text.specs.PathText.{component_text, behind_text, path_text}
-use Rattle.text.specs.declared.path.Outcome.TheVariants.{Good}
+use Rattle.std.specs.Prelude.{Ok}
 use Rattle.text.proofs.HexLaws.{text-length}
 use Rattle.text.proofs.FormLaws.{only-not, component-dot, component-hex, path_empty, path-good}
 use Rattle.text.proofs.RoundTrip.{hex-back}
@@ -100,11 +100,11 @@ only-first b [] h = clash h refl
 only-first b (a ∷ []) h = eqb-true a b h
 only-first b (a ∷ c ∷ s) h = clash h refl
 
-empty_back : path_field (dash ∷ []) ≡ record { outcome = Good; path = path_of [] }
-unfolding is_only empty_path
+empty_back : path_field (dash ∷ []) ≡ Ok (path_of [])
+unfolding is_only
 empty_back = sym (path_empty (dash ∷ []) refl)
 
-some_back : (c : Component) (cs : Components) → is_path field (c ∷ cs) ≡ true → path_field (component_text c ++ behind_text cs) ≡ record { outcome = Good; path = path_of (c ∷ cs) }
+some_back : (c : Component) (cs : Components) → is_path field (c ∷ cs) ≡ true → path_field (component_text c ++ behind_text cs) ≡ Ok (path_of (c ∷ cs))
 unfolding is_path
 some_back c cs h =
     let t = component_text c ++ behind_text cs in
@@ -115,9 +115,9 @@ some_back c cs h =
     let d : is_only dash t ≡ false = refute (is_only dash t) (λ e. omega (arith, only-first dash t e, first-high c (behind_text cs))) in
     let m : map hex_of (fields slash t) ≡ c ∷ cs = ap (map hex_of) f ∙ g.1 in
     let p : fields_fit 128 8 t ≡ true = ap (fitting 64 128 8) m ∙ path-fits field (c ∷ cs) h in
-    sym (path-good t d (ap (all is_component_field) f ∙ g.0) p) ∙ ap (λ (x : Components). record { outcome = Good; path = path_of x }) m
+    sym (path-good t d (ap (all is_component_field) f ∙ g.0) p) ∙ ap (λ (x : Components). Ok (path_of x)) m
 
-pub path-back : (cs : Components) → is_path field cs ≡ true → path_field (path_text cs) ≡ record { outcome = Good; path = path_of cs }
+pub path-back : (cs : Components) → is_path field cs ≡ true → path_field (path_text cs) ≡ Ok (path_of cs)
 unfolding path_text
 path-back [] h = empty_back
 path-back (c ∷ cs) h = some_back c cs h

@@ -12,8 +12,7 @@ use Rattle.laws.proofs.Truth.{split, and-true}
 use Rattle.key_laws.proofs.Fits.{is_byte}
 use Rattle.text.specs.Hex.{digit_value, is_digit, is_hex, hex_of, hex_digit, hex_byte, hex_text, byte_read}
 use Rattle.text.specs.Decimal.{is_plain, number_from, number_read, digits, decimal_text}
-use Rattle.text.specs.declared.hex.ByteRead.TheVariants as byte
-use Rattle.text.specs.declared.decimal.NumberRead.TheVariants as number
+use Rattle.std.specs.Prelude.{Some}
 use Rattle.text.proofs.HexLaws.{digit-is, hex-form, text-length, byte-is}
 use Rattle.text.proofs.DecimalLaws.{plain-one, plain_more, value-is, number-form, tens}
 
@@ -48,7 +47,7 @@ hex-back s h =
     let r = digits-back s h in
     (sym (hex-form (hex_text s) (omega (arith, text-length s))) ∙ r.0, r.1)
 
-pub byte-back : (b : ℕ) → b < 256 → byte_read (hex_byte b) ≡ byte.Is b
+pub byte-back : (b : ℕ) → b < 256 → byte_read (hex_byte b) ≡ Some b
 unfolding hex_text all
 byte-back b h =
     let r = hex-back (b ∷ []) (rw (lt-ltb b 256 h)) in
@@ -126,7 +125,7 @@ plain-is x s w =
     (λ m. sym (plain_more s (ltb-true 1 (length s) m) (w.first (omega (arith, ltb-false x 10 e)))) ∙ w.plain)
     (λ m. sym (plain-one s (λ z. omega (arith, w.some)) (ltb-false 1 (length s) m)) ∙ w.plain))
 
-pub number-back : (x : ℕ) → x < 2 ^ 64 → number_read (decimal_text x) ≡ number.Is x
+pub number-back : (x : ℕ) → x < 2 ^ 64 → number_read (decimal_text x) ≡ Some x
 unfolding decimal_text
 number-back x h =
     let w = written 19 x (omega arith) in

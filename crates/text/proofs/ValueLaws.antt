@@ -1,20 +1,20 @@
 -- Laws of subspaces and digests as fields: the ways in which reading and writing them end. Assumes nothing.
-use Prim.Native.Nat.{ℕ, ◌*◌, ◌%◌, ◌≤◌, ◌<◌}
-use mathlib.Core.Path.{◌≡◌, ap, ◌∙◌}
+use Prim.Native.Nat.{ℕ, ◌/◌, ◌≤◌, ◌<◌}
+use mathlib.Core.Path.{◌≡◌, sym, ap, ◌∙◌}
 use mathlib.Core.List.{List, [], ◌++◌, append-nil}
-use mathlib.Core.Bool.{true, false}
+use mathlib.Core.Bool.{true, false, ◌&&◌}
 use native.Mathlib.Omega.{arith}
 use lib.Dec.{eqb, ltb}
-use borrow.Author.Tests.{eq-eqb, ne_eqb, ltb-true}
+use borrow.Author.Tests.{eq-eqb, ne_eqb, ltb-true, eqb-true}
 use lib.ListN.{length, get_or, drop, replicate, drop_of_length-le}
 use Rattle.laws.specs.Lists.{put}
-use Rattle.laws.proofs.Truth.{and-true}
+use Rattle.laws.proofs.Truth.{split, and-true}
 use Rattle.keys.specs.Encode.{subspace_key}
 use Rattle.keys.specs.Decode.{subspace_at}
 use Rattle.data_model.specs.declared.parameters.Subspace.{Subspace}
-use Rattle.text.specs.Hex.{is_hex, hex_of, hex_byte, hex_text}
-use Rattle.text.specs.Value.{subspace_of, subspace_field, no_digest, digest_of, digest_field, is_short, subspace_text}
-use Rattle.text.specs.declared.value.SubspaceRead.TheVariants.{Is, Bad}
+use Rattle.text.specs.Hex.{is_hex, hex_of, byte_read, hex_byte, hex_text}
+use Rattle.text.specs.Value.{bytes_read, subspace_of, subspace_field, digest_of, digest_field, is_short, subspace_text}
+use Rattle.std.specs.Prelude.{Option, Some, None}
 use Rattle.text.proofs.HexLaws.{hex-even, bytes-length}
 
 -- A buffer of the very length is what is put into it.
@@ -23,65 +23,86 @@ unfolding put
 put_whole xs old h = let z : drop (length xs) old ≡ [] = drop_of_length-le old {i = length xs} h in ap (xs ++◌) z ∙ append-nil xs
 
 module _ (s : List ℕ) where
-  pub subspace-bad : is_hex s ≡ false → Bad ≡ subspace_field s
-  unfolding subspace_field
-  subspace-bad h = rw h
+  -- How many bytes, by how many digits.
+  byte-length : length s ≡ 2 → length (hex_of s) ≡ 1
+  byte-length l = omega (arith, bytes-length s)
 
-  pub digest-bad : is_hex s ≡ false → no_digest ≡ digest_field s
-  unfolding digest_field
-  digest-bad h = rw h
+  byte-other : is_hex s ≡ true → (length s ≡ 2 → ⊥) → length (hex_of s) ≡ 1 → ⊥
+  byte-other h l e = l (omega (arith, bytes-length s, hex-even s h))
 
-  module _ (h : is_hex s ≡ true) where
-    -- How many bytes, by how many digits.
-    bytes_are : (n : ℕ) → length s ≡ 2 * n → length (hex_of s) ≡ n
-    bytes_are n l = omega (arith, bytes-length s)
+  -- A field of one byte.
+  record OneByte (b : ℕ) : Type 0 where
+    digits : is_hex s ≡ true
+    one : eqb (length (hex_of s)) 1 ≡ true
+    is : get_or (hex_of s) 0 0 ≡ b
 
-    bytes-not : (n : ℕ) → (length s ≡ 2 * n → ⊥) → length (hex_of s) ≡ n → ⊥
-    bytes-not n l e = l (omega (arith, bytes-length s, hex-even s h))
+  one-byte : (b : ℕ) → byte_read s ≡ Some b → OneByte b
+  unfolding byte_read
+  one-byte b h = split (eqb (length s) 2 && is_hex s)
+      (λ e.
+      let k = and-true (eqb (length s) 2) (is_hex s) e in
+      let g : Some (get_or (hex_of s) 0 0) ≡ Some b = rw e at h in
+      record { digits = k.1; one = eq-eqb (length (hex_of s)) 1 (byte-length (eqb-true (length s) 2 k.0)); is = cc })
+      (λ e. let g : ◌≡◌ {A = Option ℕ} None (Some b) = rw e at h in absurd (let z : ◌≡◌ {A = ℕ} 0 1 = cc in omega arith))
 
-    pub subspace-one : (low : ℕ) → length s ≡ 2 → low ≡ get_or (hex_of s) 0 0 → Is (record { high = 0; low = low }) ≡ subspace_field s
-    unfolding subspace_field subspace_of
-    subspace-one low l e = rw (h, e, eq-eqb (length (hex_of s)) 1 (bytes_are 1 l))
+  not-one : byte_read s ≡ None → is_hex s ≡ true → eqb (length (hex_of s)) 1 ≡ false
+  unfolding byte_read
+  not-one h d = ne_eqb (length (hex_of s)) 1 (byte-other d (λ l.
+      let g : ◌≡◌ {A = Option ℕ} (Some (get_or (hex_of s) 0 0)) None = rw (eq-eqb (length s) 2 l, d) at h in
+      let z : ◌≡◌ {A = ℕ} 0 1 = cc in omega arith))
 
-    pub subspace-all : length s ≡ 32 → Is (subspace_at (hex_of s)) ≡ subspace_field s
-    unfolding subspace_field subspace_of
-    subspace-all l = rw (h, ne_eqb (length (hex_of s)) 1 (bytes-not 1 (λ e. omega arith)), eq-eqb (length (hex_of s)) 16 (bytes_are 16 l))
+  -- A field of so many bytes, and any other.
+  pub bytes-none : (n : ℕ) → is_hex s ≡ false → None ≡ bytes_read n s
+  unfolding bytes_read
+  bytes-none n h = rw h
 
-    pub subspace-other : (length s ≡ 2 → ⊥) → (length s ≡ 32 → ⊥) → Bad ≡ subspace_field s
-    unfolding subspace_field subspace_of
-    subspace-other a b = rw (h, ne_eqb (length (hex_of s)) 1 (bytes-not 1 a), ne_eqb (length (hex_of s)) 16 (bytes-not 16 b))
+  pub bytes-not : (n : ℕ) → (length s / 2 ≡ n → ⊥) → None ≡ bytes_read n s
+  unfolding bytes_read
+  bytes-not n h = split (is_hex s) (λ d. rw (d, ne_eqb (length (hex_of s)) n (λ e. h (omega (arith, bytes-length s))))) (λ d. rw d)
 
-    pub digest-one : (b : ℕ) → length s ≡ 2 → b ≡ get_or (hex_of s) 0 0 → record { good = true; digest = replicate 32 b } ≡ digest_field s
-    unfolding digest_field digest_of
-    digest-one b l e = rw (h, e, eq-eqb (length (hex_of s)) 1 (bytes_are 1 l))
+  pub bytes-are : (n : ℕ) (old out : List ℕ) → is_hex s ≡ true → length s / 2 ≡ n → length old ≡ n → out ≡ put (hex_of s) old → Some out ≡ bytes_read n s
+  unfolding bytes_read
+  bytes-are n old out d h o e =
+      let f : out ≡ hex_of s = e ∙ put_whole (hex_of s) old (omega (arith, bytes-length s)) in
+      rw (d, f, eq-eqb (length (hex_of s)) n (omega (arith, bytes-length s)))
 
-    pub digest-all : (d : List ℕ) → length s ≡ 64 → d ≡ hex_of s → record { good = true; digest = d } ≡ digest_field s
-    unfolding digest_field digest_of
-    digest-all d l e = rw (h, e, ne_eqb (length (hex_of s)) 1 (bytes-not 1 (λ e. omega arith)), eq-eqb (length (hex_of s)) 32 (bytes_are 32 l))
+  -- One byte, or all of them.
+  pub subspace-one : (low : ℕ) → byte_read s ≡ Some low → Some (record { high = 0; low = low }) ≡ subspace_field s
+  unfolding subspace_field subspace_of
+  subspace-one low h = let o = one-byte low h in rw (o.digits, o.one, o.is)
 
-    pub digest-other : (length s ≡ 2 → ⊥) → (length s ≡ 64 → ⊥) → no_digest ≡ digest_field s
-    unfolding digest_field digest_of
-    digest-other a b = rw (h, ne_eqb (length (hex_of s)) 1 (bytes-not 1 a), ne_eqb (length (hex_of s)) 32 (bytes-not 32 b))
+  pub subspace-other : byte_read s ≡ None → bytes_read 16 s ≡ None → None ≡ subspace_field s
+  unfolding subspace_field subspace_of bytes_read
+  subspace-other h e = split (is_hex s)
+      (λ d. split (eqb (length (hex_of s)) 16)
+      (λ l. let g : ◌≡◌ {A = Option (List ℕ)} (Some (hex_of s)) None = rw (d, l) at e in absurd (let z : ◌≡◌ {A = ℕ} 0 1 = cc in omega arith))
+      (λ l. rw (d, not-one h d, l)))
+      (λ d. rw d)
 
-    -- The buffer holds the bytes alone.
-    pub filled : (n : ℕ) (old out : List ℕ) → length s ≡ 2 * n → length old ≡ n → out ≡ put (hex_of s) old → out ≡ hex_of s
-    filled n old out l o e = e ∙ put_whole (hex_of s) old (omega (arith, bytes_are n l))
+  pub subspace-all : byte_read s ≡ None → (k : List ℕ) → bytes_read 16 s ≡ Some k → Some (subspace_at k) ≡ subspace_field s
+  unfolding subspace_field subspace_of bytes_read
+  subspace-all h k e = split (is_hex s)
+      (λ d. split (eqb (length (hex_of s)) 16)
+      (λ l. let g : Some (hex_of s) ≡ Some k = rw (d, l) at e in let v : hex_of s ≡ k = cc in rw (d, not-one h d, l) (ap (λ (x : List ℕ). Some (subspace_at x)) (sym v)))
+      (λ l. let g : ◌≡◌ {A = Option (List ℕ)} None (Some k) = rw (d, l) at e in absurd (let z : ◌≡◌ {A = ℕ} 0 1 = cc in omega arith)))
+      (λ d. let g : ◌≡◌ {A = Option (List ℕ)} None (Some k) = rw d at e in absurd (let z : ◌≡◌ {A = ℕ} 0 1 = cc in omega arith))
+
+  pub digest-one : (b : ℕ) → byte_read s ≡ Some b → Some (replicate 32 b) ≡ digest_field s
+  unfolding digest_field digest_of
+  digest-one b h = let o = one-byte b h in rw (o.digits, o.one, o.is)
+
+  pub digest-other : byte_read s ≡ None → bytes_read 32 s ≡ digest_field s
+  unfolding digest_field digest_of bytes_read
+  digest-other h = split (is_hex s) (λ d. rw (d, not-one h d)) (λ d. rw d)
 
 -- Which form a subspace is written in.
-pub short-is : (s : Subspace) → s.high ≡ 0 → ltb s.low 256 ≡ is_short s
+pub short-low : (s : Subspace) → is_short s ≡ true → s.low < 256
 unfolding is_short
-short-is s h = rw (eq-eqb s.high 0 h)
+short-low s h = ltb-true s.low 256 (and-true (eqb s.high 0) (ltb s.low 256) h).1
 
-pub short-not : (s : Subspace) → (s.high ≡ 0 → ⊥) → false ≡ is_short s
-unfolding is_short
-short-not s h = rw (ne_eqb s.high 0 h)
-
-pub subspace-short : (s : Subspace) → is_short s ≡ true → hex_byte (s.low % 256) ≡ subspace_text s
-unfolding is_short subspace_text
-subspace-short s h =
-    let l : s.low < 256 = ltb-true s.low 256 (and-true (eqb s.high 0) (ltb s.low 256) h).1 in
-    let e : s.low % 256 ≡ s.low = omega arith in
-    rw (h, e)
+pub subspace-short : (s : Subspace) → is_short s ≡ true → hex_byte s.low ≡ subspace_text s
+unfolding subspace_text
+subspace-short s h = rw h
 
 pub subspace-long : (s : Subspace) → is_short s ≡ false → hex_text (subspace_key s) ≡ subspace_text s
 unfolding subspace_text

@@ -1,9 +1,7 @@
 -- Decimal numbers from 0 to 2^64 − 1, without leading zeros.
-use Rattle.std.specs.Prelude.{ℕ, zero, suc, ◌+◌, ◌*◌, ◌/◌, ◌%◌, ◌^◌, List, [], ◌∷◌, ◌++◌, Bool, false, cond, not, ◌&&◌, ltb, eqb}
+use Rattle.std.specs.Prelude.{ℕ, zero, suc, ◌+◌, ◌*◌, ◌/◌, ◌%◌, ◌^◌, List, [], ◌∷◌, ◌++◌, Bool, false, cond, not, ◌&&◌, ltb, eqb, Option, Some, None}
 use Rattle.laws.specs.Sorted.{all}
 use Rattle.text.specs.Hex.{digit_value, is_digit}
-use Rattle.text.specs.declared.decimal.NumberRead.{NumberRead}
-use Rattle.text.specs.declared.decimal.NumberRead.TheVariants.{Is, Bad}
 
 -- Digits, at least one, and no 0 before others.
 unfoldable pub is_plain : List ℕ → Bool
@@ -16,12 +14,12 @@ unfoldable pub number_from : ℕ → List ℕ → ℕ
 number_from n [] = n
 number_from n (b ∷ s) = number_from (n * 10 + digit_value b) s
 
--- The answer: 2^64 and above is of another form.
-unfoldable pub value_read : ℕ → NumberRead
-value_read n = cond (ltb n (2 ^ 64)) (Is n) Bad
+-- The number: 2^64 and above is of another form.
+unfoldable pub value_read : ℕ → Option ℕ
+value_read n = cond (ltb n (2 ^ 64)) (Some n) None
 
-unfoldable pub number_read : List ℕ → NumberRead
-number_read s = cond (is_plain s) (value_read (number_from 0 s)) Bad
+unfoldable pub number_read : List ℕ → Option ℕ
+number_read s = cond (is_plain s) (value_read (number_from 0 s)) None
 
 -- The digits of a number, of which there are at most k.
 unfoldable pub digits : ℕ → ℕ → List ℕ

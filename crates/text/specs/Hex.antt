@@ -1,11 +1,9 @@
 -- Lower-case hexadecimal, two digits a byte.
-use Rattle.std.specs.Prelude.{ℕ, ◌+◌, ◌-◌, ◌*◌, ◌/◌, ◌%◌, List, [], ◌∷◌, ◌++◌, Bool, true, false, cond, ◌&&◌, length, get_or, ltb, leb, eqb}
+use Rattle.std.specs.Prelude.{ℕ, ◌+◌, ◌-◌, ◌*◌, ◌/◌, ◌%◌, List, [], ◌∷◌, ◌++◌, Bool, true, false, cond, ◌&&◌, length, get_or, ltb, leb, eqb, Option, Some, None, Result, Ok, Err}
 use Rattle.laws.specs.Lists.{put}
 use Rattle.laws.specs.Sorted.{all}
-use Rattle.text.specs.declared.hex.ByteRead.{ByteRead}
-use Rattle.text.specs.declared.hex.ByteRead.TheVariants as byte
-use Rattle.text.specs.declared.hex.HexRead.{HexRead}
-use Rattle.text.specs.declared.hex.HexRead.TheVariants.{Took, Bad, Short}
+use Rattle.text.specs.declared.hex.HexError.{HexError}
+use Rattle.text.specs.declared.hex.HexError.TheVariants.{Bad, Short}
 
 -- `0` to `9` and `a` to `f`; 16 for a byte that is no digit.
 unfoldable pub digit_value : ℕ → ℕ
@@ -24,8 +22,8 @@ hex_of (a ∷ []) = []
 hex_of (a ∷ b ∷ s) = (digit_value a * 16 + digit_value b) ∷ hex_of s
 
 -- A field of two digits.
-unfoldable pub byte_read : List ℕ → ByteRead
-byte_read s = cond (eqb (length s) 2 && is_hex s) (byte.Is (get_or (hex_of s) 0 0)) byte.Bad
+unfoldable pub byte_read : List ℕ → Option ℕ
+byte_read s = cond (eqb (length s) 2 && is_hex s) (Some (get_or (hex_of s) 0 0)) None
 
 -- The digits of bytes.
 unfoldable pub hex_digit : ℕ → ℕ
@@ -42,10 +40,10 @@ hex_text (b ∷ s) = hex_byte b ++ hex_text s
 unfoldable pub has_room : List ℕ → List ℕ → Bool
 has_room s out = leb (length s) (2 * length out)
 
-unfoldable pub hex_read : (form room : Bool) → List ℕ → HexRead
-hex_read false room bs = Bad
-hex_read true false bs = Short
-hex_read true true bs = Took (length bs)
+unfoldable pub hex_read : (form room : Bool) → List ℕ → Result ℕ HexError
+hex_read false room bs = Err Bad
+hex_read true false bs = Err Short
+hex_read true true bs = Ok (length bs)
 
 unfoldable pub hex_in : (form room : Bool) → List ℕ → List ℕ → List ℕ
 hex_in false room bs old = old

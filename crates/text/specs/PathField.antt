@@ -1,16 +1,14 @@
 -- The form of a path: `-` for the empty one, else components joined by `/`, each `.` if it is empty, else two hex digits a byte.
-use Rattle.std.specs.Prelude.{ℕ, ◌≡◌, List, [], ◌∷◌, map, Bool, true, false, cond, ◌&&◌, ◌||◌, length, eqb, ltb}
+use Rattle.std.specs.Prelude.{ℕ, ◌≡◌, List, [], ◌∷◌, map, Bool, true, false, cond, ◌&&◌, ◌||◌, length, eqb, ltb, Option, Some, None, Result, Ok, Err}
 use Rattle.laws.specs.Lists.{put}
 use Rattle.laws.specs.Sorted.{all}
 use Rattle.data_model.specs.Path.{field, Components, is_path, path_of}
 use Rattle.key_laws.proofs.Fits.{fitting}
 use Rattle.text.specs.Hex.{is_hex, hex_of}
 use Rattle.text.specs.Fields.{fields}
-use Rattle.text.specs.declared.path.Outcome.{Outcome}
-use Rattle.text.specs.declared.path.Outcome.TheVariants as outcome
-use Rattle.text.specs.declared.path.PathField.{PathField}
-use Rattle.text.specs.declared.path.Count.{Count}
-use Rattle.text.specs.declared.path.Count.TheVariants as count
+use Rattle.data_model.specs.declared.path.Path.{Path}
+use Rattle.text.specs.declared.path.FieldError.{FieldError}
+use Rattle.text.specs.declared.path.FieldError.TheVariants.{Illegal, Bad}
 
 -- `-`, `.` and `/`.
 abbrev pub dash : ℕ
@@ -40,23 +38,20 @@ components_of s = cond (is_only dash s) [] (map hex_of (fields slash s))
 
 -- The answer: the path that is handed out for these components; `Illegal` outside the bounds of a path, `Bad` where the form
 -- is another.
-unfoldable pub empty_path : Outcome → PathField
-empty_path o = record { outcome = o; path = path_of [] }
+unfoldable pub placed : Bool → Components → Result Path FieldError
+placed true cs = Ok (path_of cs)
+placed false cs = Err Illegal
 
-unfoldable pub placed : Bool → Components → PathField
-placed true cs = record { outcome = outcome.Good; path = path_of cs }
-placed false cs = empty_path outcome.Illegal
-
-unfoldable pub path_field : List ℕ → PathField
-path_field s = cond (is_path_field s) (placed (is_path field (components_of s)) (components_of s)) (empty_path outcome.Bad)
+unfoldable pub path_field : List ℕ → Result Path FieldError
+path_field s = cond (is_path_field s) (placed (is_path field (components_of s)) (components_of s)) (Err Bad)
 
 -- Whether the components of a field fit: so many bytes and components at most.
 abbrev pub fields_fit : ℕ → ℕ → List ℕ → Bool
 fields_fit room n s = fitting field.mcl room n (map hex_of (fields slash s))
 
-unfoldable pub counted : Bool → ℕ → Count
-counted true n = count.Is n
-counted false n = count.Over
+unfoldable pub counted : Bool → ℕ → Option ℕ
+counted true n = Some n
+counted false n = None
 
 -- The buffer has xs at its front, if they fit.
 abbrev pub PutIf : Bool → List ℕ → List ℕ → List ℕ → Type 0

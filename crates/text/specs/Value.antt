@@ -1,33 +1,31 @@
 -- Subspaces and digests: two digits or all.
-use Rattle.std.specs.Prelude.{ℕ, List, Bool, true, false, cond, ◌&&◌, length, get_or, replicate, eqb, ltb}
+use Rattle.std.specs.Prelude.{ℕ, List, Bool, cond, ◌&&◌, length, get_or, replicate, eqb, ltb, Option, Some, None}
 use Rattle.keys.specs.Encode.{subspace_key}
 use Rattle.keys.specs.Decode.{subspace_at}
 use Rattle.data_model.specs.declared.parameters.Subspace.{Subspace}
 use Rattle.text.specs.Hex.{is_hex, hex_of, hex_byte, hex_text}
-use Rattle.text.specs.declared.value.SubspaceRead.{SubspaceRead}
-use Rattle.text.specs.declared.value.SubspaceRead.TheVariants.{Is, Bad}
-use Rattle.text.specs.declared.value.DigestRead.{DigestRead}
+
+-- The bytes of a field of so many, two digits each.
+unfoldable pub bytes_read : ℕ → List ℕ → Option (List ℕ)
+bytes_read n s = cond (is_hex s && eqb (length (hex_of s)) n) (Some (hex_of s)) None
 
 -- One byte is the last of a subspace, the rest 0; 16 are all of it.
-unfoldable pub subspace_of : List ℕ → SubspaceRead
+unfoldable pub subspace_of : List ℕ → Option Subspace
 subspace_of bs =
-    cond (eqb (length bs) 1) (Is (record { high = 0; low = get_or bs 0 0 }))
-    (cond (eqb (length bs) 16) (Is (subspace_at bs)) Bad)
+    cond (eqb (length bs) 1) (Some (record { high = 0; low = get_or bs 0 0 }))
+    (cond (eqb (length bs) 16) (Some (subspace_at bs)) None)
 
-unfoldable pub subspace_field : List ℕ → SubspaceRead
-subspace_field s = cond (is_hex s) (subspace_of (hex_of s)) Bad
+unfoldable pub subspace_field : List ℕ → Option Subspace
+subspace_field s = cond (is_hex s) (subspace_of (hex_of s)) None
 
 -- One byte fills a digest; 32 are all of it.
-unfoldable pub no_digest : DigestRead
-no_digest = record { good = false; digest = replicate 32 0 }
-
-unfoldable pub digest_of : List ℕ → DigestRead
+unfoldable pub digest_of : List ℕ → Option (List ℕ)
 digest_of bs =
-    cond (eqb (length bs) 1) (record { good = true; digest = replicate 32 (get_or bs 0 0) })
-    (cond (eqb (length bs) 32) (record { good = true; digest = bs }) no_digest)
+    cond (eqb (length bs) 1) (Some (replicate 32 (get_or bs 0 0)))
+    (cond (eqb (length bs) 32) (Some bs) None)
 
-unfoldable pub digest_field : List ℕ → DigestRead
-digest_field s = cond (is_hex s) (digest_of (hex_of s)) no_digest
+unfoldable pub digest_field : List ℕ → Option (List ℕ)
+digest_field s = cond (is_hex s) (digest_of (hex_of s)) None
 
 -- Written in two digits where these say all.
 unfoldable pub is_short : Subspace → Bool

@@ -7,57 +7,31 @@ ghost use Rattle.text.specs.Decimal.{is_plain, number_read, number_from, decimal
 
 use crate::hex::{all_digits, digit_value};
 use crate::line::write_bytes;
-use keys::number::wide;
-
-#[derive(Clone, Copy)]
-pub enum NumberRead {
-    Is(u64),
-    Bad,
-}
 
 // Digits, at least one, and no 0 before others.
 pub fn is_plain(s: &[u8]) -> bool
     ensures { result ≡ is_plain s.now }
 {
-    if s.len() == 0 {
-        return false;
-    }
-    if 1 < s.len() {
-        if s[0] == 48 {
-            return false;
-        }
-        return all_digits(s, 10);
-    }
-    all_digits(s, 10)
+    !s.is_empty() && (s.len() == 1 || s[0] != b'0') && all_digits(s, 10)
 }
 
 // The number that digits stand for, unless it is 2^64 or above.
-fn read_digits(s: &[u8]) -> NumberRead
+fn read_digits(s: &[u8]) -> Option<u64>
     ensures { result ≡ value_read (number_from 0 s.now) }
 {
     let mut n: u64 = 0;
-    let mut i: usize = 0;
-    while i < s.len() {
-        let d = wide(digit_value(s[i]));
-        if 1844674407370955161 < n {
-            return NumberRead::Bad;
-        }
-        if 0xffff_ffff_ffff_ffff - n * 10 < d {
-            return NumberRead::Bad;
-        }
-        n = n * 10 + d;
-        i += 1;
+    for &b in s {
+        n = n.checked_mul(10)?.checked_add(u64::from(digit_value(b)))?;
     }
-    NumberRead::Is(n)
+    Some(n)
 }
 
-pub fn read_number(s: &[u8]) -> NumberRead
+// The number of a field in decimal, below 2^64.
+#[tactic(auto, unfolding(crate::specs::Decimal::number_read))]
+pub fn read_number(s: &[u8]) -> Option<u64>
     ensures { result ≡ number_read s.now }
 {
-    if is_plain(s) {
-        return read_digits(s);
-    }
-    NumberRead::Bad
+    if is_plain(s) { read_digits(s) } else { None }
 }
 
 // The digits of a number at the end of a buffer of 20, from the answer on.
@@ -66,23 +40,24 @@ fn digits_behind(x: u64, d: &mut [u8]) -> usize
     ensures { (result ≤ 20) × (drop result d.new ≡ decimal_text x) }
 {
     let mut rest = x;
-    let mut j: usize = 20;
+    let mut j = 20;
+    // Kept (3): the number of turns is that of the digits, and a `for` over the places would still leave by `return` when `rest` is 0.
     while 10 <= rest {
         j -= 1;
-        d[j] = (48 + rest % 10) as u8;
-        rest = rest / 10;
+        d[j] = b'0' + (rest % 10) as u8;
+        rest /= 10;
     }
     j -= 1;
-    d[j] = (48 + rest) as u8;
+    d[j] = b'0' + rest as u8;
     j
 }
 
-// At most 20 digits.
+// The number in decimal: at most 20 digits.
 pub fn write_number(x: u64, out: &mut [u8]) -> usize
     requires { 20 ≤ length out.old }
     ensures { (result ≡ length (decimal_text x)) × (out.new ≡ put (decimal_text x) out.old) }
 {
-    let mut d = [0u8; 20];
+    let mut d = [0; 20];
     let j = digits_behind(x, &mut d);
     write_bytes(&d[j..], out)
 }

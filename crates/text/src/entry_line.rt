@@ -5,23 +5,21 @@ ghost use Rattle.data_model.specs.Path.{field, legal, components};
 ghost use Rattle.text.specs.Hex.{hex_byte};
 ghost use Rattle.text.specs.Decimal.{decimal_text};
 ghost use Rattle.text.specs.PathText.{path_text, path_text_most};
-ghost use Rattle.text.specs.EntryLine.{space, no_entry_line, entry_read, is_in_line, line_read, rank_text, rank_text_most, listed_text, listed_text_most};
+ghost use Rattle.text.specs.EntryLine.{space, is_in_line, line_read, rank_text, rank_text_most, listed_text, listed_text_most};
 
-use crate::decimal::{NumberRead, read_number, write_number};
-use crate::hex::{ByteRead, read_byte, write_hex_byte};
+use crate::decimal::{read_number, write_number};
+use crate::hex::{read_byte, write_hex_byte};
 use crate::line::{count_fields, nth_field};
-use crate::path::{Outcome, PathField, read_path};
+use crate::path::{FieldError, read_path};
 use crate::path_text::write_path;
-use data_model::checked::same_bytes;
 use data_model::path::Path;
 
 // The most bytes of a line.
 pub const LINE_MOST: usize = 1024;
 
-// What a line says: the subspace's last byte, the byte that fills the digest. All 0, and the path empty, unless the outcome is good.
+// The entry that a line says: the subspace's last byte, the byte that fills the digest.
 #[derive(Clone, Copy)]
 pub struct EntryLine {
-    pub outcome: Outcome,
     pub subspace: u8,
     pub path: Path,
     pub timestamp: u64,
@@ -29,78 +27,43 @@ pub struct EntryLine {
     pub digest: u8,
 }
 
-fn no_entry(outcome: Outcome) -> EntryLine
-    ensures { result ≡ no_entry_line outcome }
-{
-    let path = Path::new_empty();
-    EntryLine {
-        outcome,
-        subspace: 0,
-        path,
-        timestamp: 0,
-        payload_length: 0,
-        digest: 0,
-    }
-}
-
 // Six fields, the first of them `in`, in a line that is not too long.
-#[tactic(auto, using(crate::proofs::LineLaws::long_line))]
+#[tactic(auto, unfolding(crate::specs::EntryLine::is_in_line))]
 fn is_in_line(line: &[u8]) -> bool
     ensures { result ≡ is_in_line line.now }
 {
-    if LINE_MOST < line.len() {
-        return false;
-    }
-    if count_fields(line, b' ') != 6 {
-        return false;
-    }
-    same_bytes(nth_field(line, b' ', 0), b"in")
+    line.len() <= LINE_MOST
+        && count_fields(line, b' ') == 6
+        && nth_field(line, b' ', 0) == b"in".as_slice()
 }
 
-// What five fields say together.
-fn entry_read(s: ByteRead, p: PathField, t: NumberRead, l: NumberRead, d: ByteRead) -> EntryLine
-    ensures { result ≡ entry_read s p t l d }
-{
-    let ByteRead::Is(subspace) = s else {
-        return no_entry(Outcome::Bad);
-    };
-    let NumberRead::Is(timestamp) = t else {
-        return no_entry(Outcome::Bad);
-    };
-    let NumberRead::Is(payload_length) = l else {
-        return no_entry(Outcome::Bad);
-    };
-    let ByteRead::Is(digest) = d else {
-        return no_entry(Outcome::Bad);
-    };
-    let outcome = p.outcome;
-    let path = p.path;
-    match outcome {
-        Outcome::Good => EntryLine {
-            outcome: Outcome::Good,
-            subspace,
-            path,
-            timestamp,
-            payload_length,
-            digest,
-        },
-        Outcome::Illegal => no_entry(Outcome::Illegal),
-        Outcome::Bad => no_entry(Outcome::Bad),
-    }
-}
-
-pub fn read_line(line: &[u8]) -> EntryLine
+// The entry of a line. The path is asked last: only a line that is right in all other fields is illegal for its path.
+pub fn read_line(line: &[u8]) -> Result<EntryLine, FieldError>
     ensures { result ≡ line_read line.now }
 {
     if !is_in_line(line) {
-        return no_entry(Outcome::Bad);
+        return Err(FieldError::Bad);
     }
-    let s = read_byte(nth_field(line, b' ', 1));
-    let p = read_path(nth_field(line, b' ', 2));
-    let t = read_number(nth_field(line, b' ', 3));
-    let l = read_number(nth_field(line, b' ', 4));
-    let d = read_byte(nth_field(line, b' ', 5));
-    entry_read(s, p, t, l, d)
+    let Some(subspace) = read_byte(nth_field(line, b' ', 1)) else {
+        return Err(FieldError::Bad);
+    };
+    let Some(timestamp) = read_number(nth_field(line, b' ', 3)) else {
+        return Err(FieldError::Bad);
+    };
+    let Some(payload_length) = read_number(nth_field(line, b' ', 4)) else {
+        return Err(FieldError::Bad);
+    };
+    let Some(digest) = read_byte(nth_field(line, b' ', 5)) else {
+        return Err(FieldError::Bad);
+    };
+    let path = read_path(nth_field(line, b' ', 2))?;
+    Ok(EntryLine {
+        subspace,
+        path,
+        timestamp,
+        payload_length,
+        digest,
+    })
 }
 
 // A number and the space behind it: at most 21 bytes.

@@ -11,7 +11,7 @@ fn write_component(c: &[u8], out: &mut [u8]) -> usize
     requires { 2 * length c.now + 1 ≤ length out.old }
     ensures { (result ≡ length (component_text c.now)) × (out.new ≡ put (component_text c.now) out.old) }
 {
-    if c.len() == 0 {
+    if c.is_empty() {
         out[0] = b'.';
         return 1;
     }
@@ -23,16 +23,13 @@ fn write_behind(bytes: &[u8], start: usize, ends: &[usize], out: &mut [u8]) -> u
     requires { (legal_ends (length bytes.now) (length bytes.now) start ends.now ≡ true) × (2 * length bytes.now + 2 * length ends.now ≤ length out.old + 2 * start) }
     ensures { (result ≡ length (behind_text (cut bytes.now start ends.now))) × (out.new ≡ put (behind_text (cut bytes.now start ends.now)) out.old) }
 {
-    let mut at: usize = 0;
+    let mut at = 0;
     let mut from = start;
-    let mut i: usize = 0;
-    while i < ends.len() {
-        let e = ends[i];
+    for &end in ends {
         out[at] = b'/';
         at += 1;
-        at += write_component(&bytes[from..e], &mut out[at..]);
-        from = e;
-        i += 1;
+        at += write_component(&bytes[from..end], &mut out[at..]);
+        from = end;
     }
     at
 }
@@ -42,14 +39,11 @@ pub fn write_path(p: Path, out: &mut [u8]) -> usize
     requires { (legal field p ≡ true) × (path_text_most ≤ length out.old) }
     ensures { (result ≡ length (path_text (components p))) × (out.new ≡ put (path_text (components p)) out.old) }
 {
-    let n = p.count;
-    if n == 0 {
+    if p.count == 0 {
         out[0] = b'-';
         return 1;
     }
-    let bytes = p.bytes;
-    let ends = p.ends;
-    let e = ends[0];
-    let at = write_component(&bytes[..e], out);
-    at + write_behind(&bytes, e, &ends[1..n], &mut out[at..])
+    let first = p.ends[0];
+    let at = write_component(&p.bytes[..first], out);
+    at + write_behind(&p.bytes, first, &p.ends[1..p.count], &mut out[at..])
 }

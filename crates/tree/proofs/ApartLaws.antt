@@ -6,8 +6,8 @@ use mathlib.Core.Bool.{Bool, true, false, not, ◌&&◌}
 use native.Mathlib.Omega.{arith}
 use lib.Dec.{leb}
 use borrow.Author.Tests.{leb-true, leb-false}
-use lib.ListN.{length, drop, set, get_or}
-use lib.Seq.{get_or-set_same, get_or-set_other}
+use lib.ListN.{length, take, drop, set, get_or}
+use lib.Seq.{get_or-set_same, get_or-set_other, get_or-take, length-take-le}
 use Rattle.laws.specs.Order.{is_greater}
 use Rattle.laws.specs.Prefix.{same_number, same_list, prefix_of}
 use Rattle.laws.specs.Sorted.{all}
@@ -55,28 +55,61 @@ pub walk_end : {count : ℕ} {dir tree : List ℕ} → Formed Spt count dir tree
 unfolding walk_by
 walk_end {count} {dir} {tree} v ns stack depth k h w = sym (w.left ∙ ap (walk_by (stack_of (entry_at dir tree ns) stack depth)) (formed-done v ns k h))
 
--- A turn: r are left of the stack, and t says whether the nearest may stand before record k.
+-- Whether record j may stand before record k, which it covers.
+abbrev pub may_stand : (dir tree : List ℕ) (j k : ℕ) → Bool
+may_stand dir tree j k =
+    not (same_list same_number (address_at Spt (record_at j dir tree)) (address_at Spt (record_at k dir tree))) && not (is_greater (by_rank (rank_at Spt (record_at j dir tree)) (rank_at Spt (record_at k dir tree))))
+
+-- A turn: r are left of the first `depth` on the stack, and t says whether the nearest may stand before record k.
 module _ {count : ℕ} {dir tree : List ℕ} (v : Formed Spt count dir tree) (b : Bytes tree) (stack : List ℕ) (depth k : ℕ) (there : k < count)
-    (below : (i : ℕ) → i < depth → get_or stack i 0 < k) (r : ℕ) (few : r ≤ depth)
-    (off : (i : ℕ) → r ≤ i → i < depth → prefix_of same_number (open_at Spt (record_at (get_or stack i 0) dir tree)) (address_at Spt (record_at k dir tree)) ≡ false)
-    (on : 0 < r → prefix_of same_number (open_at Spt (record_at (get_or stack (r - 1) 0) dir tree)) (address_at Spt (record_at k dir tree)) ≡ true)
-    (t : Bool) (none : r ≡ 0 → t ≡ true)
-    (some : 0 < r → t ≡ (not (same_list same_number (address_at Spt (record_at (get_or stack (r - 1) 0) dir tree)) (address_at Spt (record_at k dir tree))) && not (is_greater (by_rank (rank_at Spt (record_at (get_or stack (r - 1) 0) dir tree)) (rank_at Spt (record_at k dir tree))))))
+    (below : (i : ℕ) → i < depth → get_or stack i 0 < k) (room : depth ≤ length stack) (r : ℕ) (few-taken : r ≤ length (take depth stack))
+    (off-taken : (i : ℕ) → r ≤ i → i < length (take depth stack) → prefix_of same_number (open_at Spt (record_at (get_or (take depth stack) i 0) dir tree)) (address_at Spt (record_at k dir tree)) ≡ false)
+    (on-taken : 0 < r → prefix_of same_number (open_at Spt (record_at (get_or (take depth stack) (r - 1) 0) dir tree)) (address_at Spt (record_at k dir tree)) ≡ true)
+    (t : Bool) (none-taken : length (take r stack) ≡ 0 → t ≡ true)
+    (some-taken : 0 < length (take r stack) → t ≡ may_stand dir tree (get_or (take r stack) (length (take r stack) - 1) 0) k)
     (ns : List ℕ) (w : Walked count dir tree ns stack depth k) where
+  taken-long : length (take depth stack) ≡ depth
+  taken-long = length-take-le depth stack room
+
+  pub few : r ≤ depth
+  few = omega (arith, few-taken, taken-long)
+
+  left-long : length (take r stack) ≡ r
+  left-long = length-take-le r stack (omega (arith, few))
+
+  off : (i : ℕ) → r ≤ i → i < depth → prefix_of same_number (open_at Spt (record_at (get_or stack i 0) dir tree)) (address_at Spt (record_at k dir tree)) ≡ false
+  off i x y =
+      ap (λ (j : ℕ). prefix_of same_number (open_at Spt (record_at j dir tree)) (address_at Spt (record_at k dir tree))) (sym (get_or-take depth stack i 0 y))
+      ∙ off-taken i x (omega (arith, taken-long))
+
+  on : 0 < r → prefix_of same_number (open_at Spt (record_at (get_or stack (r - 1) 0) dir tree)) (address_at Spt (record_at k dir tree)) ≡ true
+  on h =
+      ap (λ (j : ℕ). prefix_of same_number (open_at Spt (record_at j dir tree)) (address_at Spt (record_at k dir tree))) (sym (get_or-take depth stack (r - 1) 0 (omega (arith, few))))
+      ∙ on-taken h
+
+  none : r ≡ 0 → t ≡ true
+  none e = none-taken (left-long ∙ e)
+
+  some : 0 < r → t ≡ may_stand dir tree (get_or stack (r - 1) 0) k
+  some h =
+      some-taken (omega (arith, left-long))
+      ∙ ap (λ (n : ℕ). may_stand dir tree (get_or (take r stack) (n - 1) 0) k) left-long
+      ∙ ap (λ (j : ℕ). may_stand dir tree j k) (get_or-take r stack (r - 1) 0 (omega arith))
+
   covers-is : (i : ℕ) → i < depth → prefix_of same_number (open_at Spt (record_at (get_or stack i 0) dir tree)) (address_at Spt (record_at k dir tree)) ≡ covers (entry_at dir tree ns (get_or stack i 0)) (entry_at dir tree ns k)
   covers-is i h = let j = below i h in covers_at (formed-readable v (get_or stack i 0) (omega arith)) (formed-readable v k there) b ns
 
   popped-is : popped (entry_at dir tree ns k) (stack_of (entry_at dir tree ns) stack depth) ≡ stack_of (entry_at dir tree ns) stack r
   popped-is = stack-popped (entry_at dir tree ns) (entry_at dir tree ns k) stack depth r few
       (λ i x y. sym (covers-is i y) ∙ off i x y)
-      (λ h. sym (covers-is (r - 1) (omega arith)) ∙ on h)
+      (λ h. sym (covers-is (r - 1) (omega (arith, few))) ∙ on h)
 
   fine-is : (d : ℕ) → d ≡ r → t ≡ nearest_fine (stack_of (entry_at dir tree ns) stack d) (entry_at dir tree ns k)
   unfolding stack_of nearest_fine fine
   fine-is zero e = none (sym e)
   fine-is (suc d) e =
       let i : r - 1 ≡ d = omega arith in
-      let j = below d (omega arith) in
+      let j = below d (omega (arith, few)) in
       let x = formed-readable v (get_or stack d 0) (omega arith) in
       let y = formed-readable v k there in
       some (omega arith)
@@ -118,6 +151,12 @@ module _ {count : ℕ} {dir tree : List ℕ} (v : Formed Spt count dir tree) (b 
               ∙ ap (λ (x : Bool). x && walk_by (entry_at dir tree ns k ∷ stack_of (entry_at dir tree ns) stack r) (drop (k + 1) (contents Spt field ns (records count dir tree)))) (not-false t n)
               ∙ ap (λ (l : List Entry). walk_by l (drop (k + 1) (contents Spt field ns (records count dir tree)))) (sym s);
         }
+
+-- The first numbers on the stack are of records before record k.
+pub stacked : (stack : List ℕ) (depth k n : ℕ) → ((i : ℕ) → i < depth → get_or stack i 0 < k) → depth ≤ length stack → n ≤ depth → (i : ℕ) → i < length (take n stack) → get_or (take n stack) i 0 < k
+stacked stack depth k n below room few i h =
+    let long : i < n = omega (arith, length-take-le n stack (omega arith)) in
+    omega (arith, get_or-take n stack i 0 long, below i (omega arith))
 
 -- The numbers on the stack are of records before the next.
 pub below_next : (stack : List ℕ) (depth k r : ℕ) → r ≤ depth → r < length stack → ((i : ℕ) → i < depth → get_or stack i 0 < k) → (i : ℕ) → i < r + 1 → get_or (set stack r k) i 0 < k + 1

@@ -17,7 +17,7 @@ use Rattle.data_model.specs.Path.{field}
 use Rattle.tree.specs.Stored.{Stored, stored, contents}
 use Rattle.tree.specs.Tree.{Formed}
 use Rattle.tree.specs.Interest.{no_limit, breaks, add_size, interest_from}
-use Rattle.tree.specs.declared.stored.KeyOrder.TheVariants.{Tsp}
+use Rattle.tree.specs.declared.stored.KeyOrder.{KeyOrder}
 use Rattle.tree.proofs.FormedContents.{formed-many, formed-next}
 
 or-last : (a b : Bool) → (a || b) ≡ false → b ≡ false
@@ -53,14 +53,6 @@ breaks-rest limit n more h k =
     (λ e. lt-ltb limit (n + more) (omega (arith, ltb-true (limit - more) n e)))
     (λ e. lt-ltb (limit - more) n (omega (arith, ltb-true limit (n + more) e)))
     ∙ sym (breaks-limit limit (n + more) h)
-
--- One more: by the count, by the sizes.
-module _ (max_count max_size n size length : ℕ) (r : Bool) (h : r ≡ breaks max_count (n + 1)) where
-  pub breaks-count : r ≡ true → true ≡ (breaks max_count (n + 1) || breaks max_size (size + length))
-  breaks-count t = rw (sym h ∙ t)
-
-  pub breaks-size : r ≡ false → (q : Bool) → q ≡ breaks max_size (size + length) → q ≡ (breaks max_count (n + 1) || breaks max_size (size + length))
-  breaks-size f q k = rw (sym h ∙ f) k
 
 -- The sizes so far.
 module _ (max_size size length : ℕ) where
@@ -102,16 +94,16 @@ module _ {A : Type 0} where
       go false = refl
 
 -- The walk over the marked records of a tree, of which k are left.
-module _ {count : ℕ} {dir tree : List ℕ} (v : Formed Tsp count dir tree) (ns marks : List ℕ) (many : length marks ≡ count) where
+module _ {o : KeyOrder} {count : ℕ} {dir tree : List ℕ} (v : Formed o count dir tree) (ns marks : List ℕ) (many : length marks ≡ count) where
   abbrev rest_of : ℕ → List Stored
-  rest_of k = reverse (selected (take k marks) (take k (contents Tsp field ns (records count dir tree))))
+  rest_of k = reverse (selected (take k marks) (take k (contents o field ns (records count dir tree))))
 
   pub interest-starts : (max_count max_size time : ℕ)
-      → interest_from max_count max_size 0 0 time (reverse (selected marks (contents Tsp field ns (records count dir tree)))) ≡ interest_from max_count max_size 0 0 time (rest_of count)
+      → interest_from max_count max_size 0 0 time (reverse (selected marks (contents o field ns (records count dir tree)))) ≡ interest_from max_count max_size 0 0 time (rest_of count)
   interest-starts max_count max_size time =
       sym (ap₂ (λ (m : List ℕ) (r : List Stored). interest_from max_count max_size 0 0 time (reverse (selected m r)))
       (take_all count marks (omega arith))
-      (take_all count (contents Tsp field ns (records count dir tree)) (omega (arith, formed-many v ns))))
+      (take_all count (contents o field ns (records count dir tree)) (omega (arith, formed-many v ns))))
 
   module _ (k : ℕ) (max_count max_size n size time whole : ℕ) (w : whole ≡ interest_from max_count max_size n size time (rest_of k)) where
     pub interest-ends : k ≤ 0 → time ≡ whole
@@ -119,28 +111,28 @@ module _ {count : ℕ} {dir tree : List ℕ} (v : Formed Tsp count dir tree) (ns
     interest-ends h = let z : k ≡ 0 = omega arith in sym (w ∙ ap (λ (i : ℕ). interest_from max_count max_size n size time (rest_of i)) z)
 
     module _ (pos : 0 < k) (few : k ≤ count) where
-      next-met : rest_of k ≡ cond (eqb (get_or marks (k - 1) 0) 1) (stored Tsp field ns (record_at (k - 1) dir tree) ∷ rest_of (k - 1)) (rest_of (k - 1))
+      next-met : rest_of k ≡ cond (eqb (get_or marks (k - 1) 0) 1) (stored o field ns (record_at (k - 1) dir tree) ∷ rest_of (k - 1)) (rest_of (k - 1))
       next-met =
           let s : k ≡ suc (k - 1) = omega arith in
           ap rest_of s
-          ∙ walk-last marks (contents Tsp field ns (records count dir tree)) (k - 1) (stored Tsp field ns (record_at (k - 1) dir tree)) _ (omega arith) (formed-next v ns (k - 1) (omega arith))
+          ∙ walk-last marks (contents o field ns (records count dir tree)) (k - 1) (stored o field ns (record_at (k - 1) dir tree)) _ (omega arith) (formed-next v ns (k - 1) (omega arith))
 
       pub interest-skips : (get_or marks (k - 1) 0 ≡ 1 → ⊥) → whole ≡ interest_from max_count max_size n size time (rest_of (k - 1))
       interest-skips h =
           w
           ∙ ap (interest_from max_count max_size n size time) (next-met
-          ∙ ap (λ (b : Bool). cond b (stored Tsp field ns (record_at (k - 1) dir tree) ∷ rest_of (k - 1)) (rest_of (k - 1))) (ne_eqb (get_or marks (k - 1) 0) 1 h))
+          ∙ ap (λ (b : Bool). cond b (stored o field ns (record_at (k - 1) dir tree) ∷ rest_of (k - 1)) (rest_of (k - 1))) (ne_eqb (get_or marks (k - 1) 0) 1 h))
 
       module _ (h : get_or marks (k - 1) 0 ≡ 1)
-          (at : ℕ) (q : at ≡ (stored Tsp field ns (record_at (k - 1) dir tree)).entry.rank.timestamp)
-          (more : ℕ) (l : more ≡ (stored Tsp field ns (record_at (k - 1) dir tree)).entry.rank.payload_length)
+          (at : ℕ) (q : at ≡ (stored o field ns (record_at (k - 1) dir tree)).entry.rank.timestamp)
+          (more : ℕ) (l : more ≡ (stored o field ns (record_at (k - 1) dir tree)).entry.rank.payload_length)
           (r : Bool) (b : r ≡ (breaks max_count (n + 1) || breaks max_size (size + more))) where
         interest-met : whole ≡ cond r at (interest_from max_count max_size (n + 1) (add_size max_size size more) at (rest_of (k - 1)))
         unfolding interest_from
         interest-met =
             w
             ∙ ap (interest_from max_count max_size n size time) (next-met
-            ∙ ap (λ (b : Bool). cond b (stored Tsp field ns (record_at (k - 1) dir tree) ∷ rest_of (k - 1)) (rest_of (k - 1))) (eq-eqb (get_or marks (k - 1) 0) 1 h))
+            ∙ ap (λ (b : Bool). cond b (stored o field ns (record_at (k - 1) dir tree) ∷ rest_of (k - 1)) (rest_of (k - 1))) (eq-eqb (get_or marks (k - 1) 0) 1 h))
             ∙ ap₂ (λ (t m : ℕ). cond (breaks max_count (n + 1) || breaks max_size (size + m)) t (interest_from max_count max_size (n + 1) (add_size max_size size m) t (rest_of (k - 1)))) (sym q) (sym l)
             ∙ ap (λ (c : Bool). cond c at (interest_from max_count max_size (n + 1) (add_size max_size size more) at (rest_of (k - 1)))) (sym b)
 

@@ -8,7 +8,7 @@ use native.Mathlib.Numerals.{add-one}
 use lib.Dec.{leb, eqb}
 use lib.ListN.{length, take, drop, get_or, length-drop}
 use lib.Seq.{length-take-le}
-use borrow.Author.Tests.{eqb-true, leb-true, eq-eqb, ne_eqb, le-leb, lt-leb}
+use borrow.Author.Tests.{eqb-true, leb-true, ne_eqb, le-leb}
 use Rattle.laws.specs.Order.{is_less, below}
 use Rattle.laws.specs.Sorted.{all, ascending}
 use Rattle.laws.proofs.Truth.{clash, refute, and-true, not-true, not-false}
@@ -202,31 +202,8 @@ module _ (o : KeyOrder) (f : Figures) (count : ℕ) (dir tree : List ℕ) where
         pub pass-ends : not t ≡ false → all_zero (drop (2 * count) dir) ≡ well_formed o f count dir tree
         pass-ends y = sym (pass-end ∙ ap (λ (b : Bool). b && all_zero (drop (2 * count) dir)) (sym e ∙ not-false t y))
 
--- The ways out of the test of one pair.
-module _ (o : KeyOrder) (f : Figures) (dir tree : List ℕ) (k at : ℕ) where
-  pub stands-elsewhere : (get_or dir (2 * k) 0 ≡ at → ⊥) → false ≡ stands_at o f dir tree k at
-  unfolding stands_at
-  stands-elsewhere n = sym (rw (ne_eqb (get_or dir (2 * k) 0) at n))
-
-  pub stands-outside : get_or dir (2 * k) 0 ≡ at → length tree < at + get_or dir (2 * k + 1) 0 → false ≡ stands_at o f dir tree k at
-  unfolding stands_at
-  stands-outside e h = sym (rw (eq-eqb (get_or dir (2 * k) 0) at e, lt-leb (at + get_or dir (2 * k + 1) 0) (length tree) h))
-
-  pub stands-inside : (l : ℕ) → l ≡ get_or dir (2 * k + 1) 0 → get_or dir (2 * k) 0 ≡ at → at + l ≤ length tree
-      → is_record o f (take (at + l - at) (drop at tree)) ≡ stands_at o f dir tree k at
-  unfolding stands_at
-  stands-inside l q e h =
-      let n : at + l - at ≡ get_or dir (2 * k + 1) 0 = omega arith in
-      let m : leb (at + get_or dir (2 * k + 1) 0) (length tree) ≡ true = le-leb (at + get_or dir (2 * k + 1) 0) (length tree) (omega arith) in
-      rw (n, eq-eqb (get_or dir (2 * k) 0) at e, m)
-      (ap (λ (a : ℕ). is_record o f (take (get_or dir (2 * k + 1) 0) (drop a tree))) (sym e))
-
--- The ways out of the comparison with the record before.
+-- The comparison with the record before.
 module _ (dir tree : List ℕ) (k : ℕ) where
-  pub ascends-first : k ≡ 0 → true ≡ ascends_at dir tree k
-  unfolding ascends_at
-  ascends-first e = sym (rw (eq-eqb k 0 e))
-
   pub ascends-next : (a b : List ℕ) → 0 < k → a ≡ key_of (record_at (k - 1) dir tree) → b ≡ key_of (record_at k dir tree) → is_less (by_bytes a b) ≡ ascends_at dir tree k
   unfolding ascends_at below
   ascends-next a b h e f = rw (ne_eqb k 0 (λ q. omega arith), e, f)

@@ -6,30 +6,35 @@ use mathlib.Core.Bool.{Bool, true, false}
 use native.Mathlib.Omega.{arith}
 use lib.Dec.{leb}
 use borrow.Author.Tests.{le-leb, lt-leb}
-use lib.ListN.{length, take, drop, get_or, set, replicate, length-append, length-drop, length-replicate, drop_of_length-le}
-use lib.Seq.{take-nil, take_all, take-take, drop-drop, length-take-le}
+use lib.ListN.{length, take, drop, get_or, set, length-append, length-drop, drop_of_length-le}
+use lib.Seq.{take-nil, take_all, drop-drop, length-take-le}
 use borrow.Rule.Slice.PartMut.{put_mid, mid_of}
 use Rattle.laws.specs.Lists.{piece, put}
 use Rattle.laws.specs.Sorted.{all}
 use Rattle.laws.proofs.Lists.{Wrote, wrote_none, wrote-first, wrote-more, wrote-last, wrote-all, put-snoc}
 use Rattle.layout.specs.Buffers.{written}
 use Rattle.layout.specs.Layout.{record_at}
+use Rattle.data_model.specs.Subspace.{first_subspace}
 use Rattle.data_model.specs.Path.{Figures, field, joined, components, legal, is_path}
 use Rattle.data_model.specs.Entry.{entry_of, rank_of}
 use Rattle.data_model.specs.Origin.{origin_kind, origin_session, is_origin, origin_of}
-use Rattle.data_model.specs.Said.{Said, says}
+use Rattle.std.specs.Prelude.{Result, Ok, Err}
+use Rattle.std.specs.Result.{result_unwrap_or}
+use Rattle.data_model.specs.declared.answer.Refusal.{Refusal}
+use Rattle.data_model.specs.Refusal.{said}
+use Rattle.data_model.specs.Said.{Said, says, refuses}
 use Rattle.keys.specs.Encode.{be, Triple, triple, spt_key, tsp_key, key_most, encoded, encoded_in, roomy}
 use Rattle.keys.specs.Decode.{Taken, refused, took, read_spt, read_tsp, number, decoded, was_read}
 use Rattle.data_model.specs.declared.entry_origin.EntryOrigin.{EntryOrigin}
 use Rattle.data_model.specs.declared.path.Path.{Path}
 use Rattle.data_model.specs.declared.parameters.Subspace.{Subspace}
-use Rattle.keys.specs.declared.decode.Decoded.{Decoded}
+use Rattle.keys.specs.declared.decode.EntryKey.{EntryKey}
 use Rattle.keys.proofs.Encoding.{be-length, legal-most}
 use Rattle.key_laws.proofs.KeyLength.{spt-length, tsp-length}
 use Rattle.key_laws.specs.Bytes.{Bytes}
 use Rattle.key_laws.proofs.Fits.{bytes_take, bytes_drop, legal-of, components-of}
 use Rattle.tree.specs.Value.{digest_at, token_at, available_at, origin_at, session_at, value_length, origin_bytes, value_bytes, read_value, is_value}
-use Rattle.tree.specs.Stored.{read_in, key_of, value_part, available_in, is_key, is_record, Stored, stored_from, triple_read, stored, triple_of, value_for, record_of, lengthy, stored_of, key_in, written_length}
+use Rattle.tree.specs.Stored.{read_in, key_of, value_part, available_in, is_key, is_record, Stored, stored_from, triple_read, entry_key, stored, triple_of, value_for, record_of, lengthy, stored_of, key_in, written_length}
 use Rattle.tree.specs.Tree.{InBounds}
 use Rattle.tree.specs.declared.value.Value.{Value}
 use Rattle.tree.specs.declared.stored.KeyOrder.{KeyOrder}
@@ -45,7 +50,7 @@ drop-cut (suc m) (suc n) [] = sym (take-nil (suc n - suc m))
 drop-cut (suc m) (suc n) (a ∷ l) = let e : n - m ≡ suc n - suc m = omega arith in drop-cut m n l ∙ ap (λ (k : ℕ). take k (drop m l)) e
 
 -- A key is read in its order.
-module _ (o : KeyOrder) (f : Figures) (k : List ℕ) (r : Decoded) where
+module _ (o : KeyOrder) (f : Figures) (k : List ℕ) (r : Said EntryKey) where
   pub read-spt : o ≡ Spt → r ≡ decoded (read_spt f k) → r ≡ decoded (read_in o f k)
   unfolding read_in
   read-spt e h = rw e h
@@ -95,14 +100,6 @@ module _ (o l e k : ℕ) (dir tree : List ℕ) (eo : o ≡ get_or dir (2 * k) 0)
     cut-length : length (take l (drop o tree)) ≡ l
     cut-length = length-take-le l (drop o tree) (omega (arith, length-drop o tree, b.inside))
 
-    pub key-part : e ≡ o + l - value_length → take (e - o) (drop o tree) ≡ key_of (record_at k dir tree)
-    key-part ee =
-        let q : e - o ≡ l - value_length = omega (arith, b.least) in
-        ap (λ (n : ℕ). take n (drop o tree)) q
-        ∙ sym (take-take (l - value_length) l (drop o tree) (omega arith))
-        ∙ ap (λ (n : ℕ). take (n - value_length) (take l (drop o tree))) (sym cut-length)
-        ∙ rw (eo, el)
-
     pub value-part : e ≡ o + l → take (e - (e - value_length)) (drop (e - value_length) tree) ≡ value_part (record_at k dir tree)
     value-part ee =
         let n : e - (e - value_length) ≡ l - (l - value_length) = omega (arith, b.least) in
@@ -133,12 +130,6 @@ part-long k dir tree v e b =
     let n : length (record_at k dir tree) ≡ l = length-take-le l (drop o tree) (omega (arith, length-drop o tree, b.inside)) in
     ap length e ∙ length-drop (length (record_at k dir tree) - value_length) (record_at k dir tree) ∙ omega (arith, b.least)
 
--- A buffer of zeros that is written over whole.
-pub written-zeros : (s out : List ℕ) (n : ℕ) → length s ≡ n → out ≡ written 0 s (replicate n 0) → out ≡ s
-unfolding written
-written-zeros s out n l e =
-    e ∙ ap (s ++◌) (drop_of_length-le (replicate n 0) {i = 0 + length s} (simp length-replicate (omega arith))) ∙ append-nil s
-
 -- The parts of a value.
 pub value-parts : (b y z d t : List ℕ) (m n k l : ℕ) → m ≡ number b → d ≡ piece digest_at token_at b → t ≡ piece token_at available_at b → y ≡ drop available_at b → n ≡ number y
     → k ≡ get_or b origin_at 0 → z ≡ drop session_at b → l ≡ number z
@@ -150,7 +141,7 @@ value-parts b y z d t m n k l p q r ey en ek ez el =
     λ i. record { payload_length = p i; payload_digest = q i; token = r i; available = g i; kind = ek i; session = h i }
 
 -- What is handed out for a key and a value that were read.
-abbrev handed : List ℕ → Decoded → Value → EntryOrigin → LengthyAuthorisedEntry
+abbrev handed : List ℕ → EntryKey → Value → EntryOrigin → LengthyAuthorisedEntry
 handed ns d v o = record {
   entry = record {
     namespace_id = ns;
@@ -165,14 +156,41 @@ handed ns d v o = record {
   origin = o;
 }
 
-pub stored-read : (ns : List ℕ) (x : Taken Triple) (v : Value) (d : Decoded) (w : Value) (o : EntryOrigin) → d ≡ decoded x → w ≡ v → o ≡ origin_of w.kind w.session
+pub stored-read : (ns : List ℕ) (x : Taken Triple) (v : Value) (d : EntryKey) (w : Value) (o : EntryOrigin) → d ≡ entry_key (triple_read x) → w ≡ v → o ≡ origin_of w.kind w.session
     → handed ns d w o ≡ lengthy (stored_from ns (triple_read x) v)
-unfolding lengthy stored_from triple_read decoded
-stored-read ns x v d w o e g h = ap (handed ns d w) h ∙ ap₂ (λ (a : Decoded) (b : Value). handed ns a b (origin_of b.kind b.session)) e g ∙ go x
-  where
-    go : (x : Taken Triple) → handed ns (decoded x) v (origin_of v.kind v.session) ≡ lengthy (stored_from ns (triple_read x) v)
-    go refused = refl
-    go (took t n) = refl
+unfolding lengthy stored_from
+stored-read ns x v d w o e g h = ap (handed ns d w) h ∙ ap₂ (λ (a : EntryKey) (b : Value). handed ns a b (origin_of b.kind b.session)) e g
+
+-- What a decoder answers, with what is handed out for no key.
+taken_or : EntryKey → Said EntryKey → EntryKey
+taken_or k (says d) = d
+taken_or k (refuses n) = k
+
+no_triple : EntryKey
+no_triple = entry_key (triple first_subspace [] 0)
+
+module _ (x : Taken Triple) where
+  taken : taken_or no_triple (decoded x) ≡ entry_key (triple_read x)
+  unfolding decoded triple_read taken_or no_triple
+  taken = go x
+    where
+      go : (x : Taken Triple) → taken_or (entry_key (triple first_subspace [] 0)) (decoded x) ≡ entry_key (triple_read x)
+      go refused = refl
+      go (took t n) = refl
+
+  pub key-taken : (d : EntryKey) → says d ≡ decoded x → d ≡ entry_key (triple_read x)
+  unfolding taken_or
+  key-taken d e = ap (taken_or no_triple) e ∙ taken
+
+  pub key-refused : (n : ℕ) → refuses n ≡ decoded x → entry_key (triple first_subspace [] 0) ≡ entry_key (triple_read x)
+  unfolding taken_or no_triple
+  key-refused n e = ap (taken_or no_triple) e ∙ taken
+
+-- How many bytes an encoder has written, as its answer has it.
+pub written-or : (r : Result ℕ Refusal) → result_unwrap_or r 0 ≡ written_length (said r)
+unfolding written_length
+written-or (Ok n) = refl
+written-or (Err r) = refl
 
 -- The path that a key of bytes says is a path.
 pub read-path : (o : KeyOrder) (f : Figures) (k : List ℕ) → Bytes k → is_path f (triple_read (read_in o f k)).path ≡ true

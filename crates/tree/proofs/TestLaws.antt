@@ -1,11 +1,13 @@
 -- What the tests by value answer, a law for each answer. The facts are what the callees ensure and what the branches say.
 -- Assumes nothing.
-use Prim.Native.Nat.{ℕ}
+use Prim.Native.Nat.{ℕ, ◌≤◌}
 use mathlib.Core.Path.{◌≡◌, refl, ap, ◌∙◌}
-use mathlib.Core.Bool.{Bool, true, false, not, ◌&&◌, ◌||◌}
+use mathlib.Core.Bool.{Bool, true, false, not, ◌&&◌}
+use native.Mathlib.Omega.{arith}
 use lib.Dec.{eqb, ltb}
+use borrow.Author.Tests.{ltb-true}
 use Rattle.laws.specs.Prefix.{same_number}
-use Rattle.laws.proofs.Truth.{clash}
+use Rattle.laws.proofs.Truth.{not-true, not-false, refute}
 use Rattle.data_model.specs.declared.area.Area.{Area}
 use Rattle.data_model.specs.declared.range_3d.Range3d.{Range3d}
 use Rattle.data_model.specs.Ignore.{no_flags}
@@ -13,25 +15,20 @@ use Rattle.tree.specs.Stored.{Stored}
 use Rattle.tree.specs.Matching.{in_area, in_range, let_through, listed_in_area, listed_in_range}
 use Rattle.data_model.specs.declared.query_ignore_params.QueryIgnoreParams.{QueryIgnoreParams}
 
--- Let through: with no flag set, payloads that are not all there, empty ones. The two lengths may be read in any way.
+-- Let through: with no flag set; and of a payload that is there as far as the first flag asks, by the second. The two lengths may be read in any way.
 module _ (g : QueryIgnoreParams) (x : Stored) where
-  pub through-free : not (g.ignore_incomplete_payloads || g.ignore_empty_payloads) ≡ true → true ≡ let_through g x
+  pub through-free : not g.ignore_incomplete_payloads ≡ true → not g.ignore_empty_payloads ≡ true → true ≡ let_through g x
   unfolding let_through
-  through-free e = go g.ignore_incomplete_payloads g.ignore_empty_payloads (ltb x.available x.entry.rank.payload_length) (same_number x.entry.rank.payload_length 0) e
+  through-free a b = rw (not-true g.ignore_incomplete_payloads a, not-true g.ignore_empty_payloads b)
+
+  pub through-kept : (m n : ℕ) → m ≡ x.available → n ≡ x.entry.rank.payload_length → (g.ignore_incomplete_payloads ≡ true → n ≤ m) → not g.ignore_empty_payloads ≡ false
+      → not (eqb n 0) ≡ let_through g x
+  unfolding let_through same_number
+  through-kept m n a l f e = rw (← a, ← l, first g.ignore_incomplete_payloads f, not-false g.ignore_empty_payloads e)
     where
-      go : (a b p q : Bool) → not (a || b) ≡ true → true ≡ (not (a && p) && not (b && q))
-      go true b p q e = clash e refl
-      go false true p q e = clash e refl
-      go false false p q e = refl
-
-  module _ (m n : ℕ) (a : m ≡ x.available) (l : n ≡ x.entry.rank.payload_length) where
-    pub through-short : (g.ignore_incomplete_payloads && ltb m n) ≡ true → false ≡ let_through g x
-    unfolding let_through
-    through-short t = rw (← a, ← l, t)
-
-    pub through-rest : (g.ignore_incomplete_payloads && ltb m n) ≡ false → not (g.ignore_empty_payloads && eqb n 0) ≡ let_through g x
-    unfolding let_through same_number
-    through-rest f = rw (← a, ← l, f)
+      first : (b : Bool) → (b ≡ true → n ≤ m) → (b && ltb m n) ≡ false
+      first true h = refute (ltb m n) λ t. omega (arith, h refl, ltb-true m n t)
+      first false h = refl
 
 -- With no flag set nothing is ignored.
 and-all : (b : Bool) → (b && true) ≡ b

@@ -6,3 +6,4 @@ pub mod Matching
 pub mod Interest
 pub mod Address
 pub mod Selection
+pub mod Lent

@@ -10,6 +10,7 @@ use Rattle.data_model.specs.Origin.{origin_kind, origin_session, origin_of, same
 use Rattle.data_model.specs.declared.entry_origin.EntryOrigin.{EntryOrigin}
 use Rattle.keys.specs.Encode.{Triple, triple, spt_key, tsp_key}
 use Rattle.keys.specs.Decode.{Taken, refused, took, read_spt, read_tsp, was_read}
+use Rattle.keys.specs.declared.decode.EntryKey.{EntryKey}
 use Rattle.key_laws.specs.KeyOrder.{Sized, spt_order, tsp_order}
 use Rattle.tree.specs.Value.{available_at, value_length, value_bytes, read_value, is_value}
 use Rattle.tree.specs.declared.value.Value.{Value}
@@ -77,6 +78,10 @@ stored_from namespace t v = record {
 unfoldable pub triple_read : Taken Triple → Triple
 triple_read refused = triple first_subspace [] 0
 triple_read (took t u) = t
+
+-- The same as a decoder hands it out.
+abbrev pub entry_key : Triple → EntryKey
+entry_key t = record { subspace = t.subspace; path = path_of t.path; timestamp = t.timestamp }
 
 unfoldable pub stored : KeyOrder → Figures → List ℕ → List ℕ → Stored
 stored o f namespace r = stored_from namespace (triple_read (read_in o f (key_of r))) (read_value (value_part r))

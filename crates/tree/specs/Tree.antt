@@ -1,5 +1,5 @@
 -- One tree: what makes it well-formed, and where a key stands in it.
-use Rattle.std.specs.Prelude.{ℕ, ◌+◌, ◌*◌, ◌^◌, ◌≤◌, ◌<◌, ◌≡◌, List, Bool, true, ◌&&◌, length, get_or}
+use Rattle.std.specs.Prelude.{ℕ, ◌+◌, ◌*◌, ◌^◌, ◌≤◌, ◌<◌, ◌≡◌, List, Bool, true, false, ◌&&◌, length, get_or, Result, Ok, Err}
 use Rattle.laws.specs.Order.{is_less, is_same}
 use Rattle.laws.specs.Prefix.{same_number, same_list}
 use Rattle.laws.specs.Sorted.{any, all, keep, ascending, Ascends, ◌∈◌}
@@ -63,6 +63,15 @@ keys_below key recs = length (keep (λ (r : List ℕ). is_less (by_bytes (key_of
 
 unfoldable pub has_key : List ℕ → List (List ℕ) → Bool
 has_key key recs = any (λ (r : List ℕ). is_same (by_bytes (key_of r) key)) recs
+
+-- What a search answers: where the key stands, or else where it would stand; and whether it stands there.
+abbrev pub place_in : Result ℕ ℕ → ℕ
+place_in (Ok at) = at
+place_in (Err at) = at
+
+abbrev pub is_found : Result ℕ ℕ → Bool
+is_found (Ok at) = true
+is_found (Err at) = false
 
 -- Whether a record of this key and this value is there.
 unfoldable pub has_record : List ℕ → List ℕ → List (List ℕ) → Bool

@@ -1,18 +1,20 @@
 // Values of the data model and questions about them, for the store: each an equation with the data model's definition.
+// Kept (2): 01 wants store proofs over tree contracts alone, so that what the store needs of `data_model` has a function and a contract here.
+// Kept (4): `same_subspace` for the same reason.
 ghost use Rattle.std.specs.Prelude.{◌≡◌};
 ghost use Rattle.data_model.specs.Path.{field, legal};
 ghost use Rattle.data_model.specs.Subspace.{same_subspace};
-ghost use Rattle.data_model.specs.Entry.{no_entry};
 ghost use Rattle.data_model.specs.Ignore.{no_flags};
 ghost use Rattle.data_model.specs.Range.{legal_range};
-ghost use Rattle.data_model.specs.Area.{empty_range, area_range_answer};
+ghost use Rattle.data_model.specs.Refusal.{said};
+ghost use Rattle.data_model.specs.Area.{area_range_answer};
 
-use data_model::area::{Area, AreaRange};
-use data_model::entry::Entry;
+use data_model::answer::Refusal;
+use data_model::area::Area;
 use data_model::parameters::Subspace;
 use data_model::path::Path;
 use data_model::query_ignore_params::QueryIgnoreParams;
-use data_model::range::PathRange;
+use data_model::range::Range;
 use data_model::range_3d::Range3d;
 
 // Whether a path is legal.
@@ -23,38 +25,25 @@ pub fn is_legal(path: Path) -> bool
 }
 
 // Whether the paths of a range that are looked at are legal.
-pub fn is_legal_range(range: PathRange) -> bool
+pub fn is_legal_range(range: Range<Path>) -> bool
     ensures { result ≡ legal_range field range }
 {
     range.is_legal()
 }
 
 // The 3d range of an area, or the refusal of its path.
-pub fn area_range(area: Area) -> AreaRange
-    ensures { result ≡ area_range_answer field area }
+pub fn area_range(area: Area) -> Result<Range3d, Refusal>
+    ensures { said result ≡ area_range_answer field area }
 {
-    Range3d::from(area)
+    Range3d::try_from(area)
 }
 
 // Whether two subspaces are the same.
+#[tactic(auto, unfolding(data_model::specs::Subspace::same_subspace, laws::specs::Prefix::same_number))]
 pub fn same_subspace(a: Subspace, b: Subspace) -> bool
     ensures { result ≡ same_subspace a b }
 {
-    a.eq(b)
-}
-
-// The entry of an answer that shows none.
-pub fn zero_entry() -> Entry
-    ensures { result ≡ no_entry }
-{
-    Entry::zero()
-}
-
-// The range of an answer that shows none.
-pub fn empty_range() -> Range3d
-    ensures { result ≡ empty_range }
-{
-    Range3d::empty()
+    a == b
 }
 
 // The flags that ignore nothing.

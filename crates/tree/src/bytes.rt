@@ -1,8 +1,8 @@
-// Bytes that are no records, for the store: written, cleared and compared.
+// Bytes that are no records, for the store: numbers and subspaces written, zeros looked for.
+// Kept (2): 01 wants store proofs over tree contracts alone, so that what the store needs of `keys` and `layout` has a function and a contract here.
 ghost use Rattle.std.specs.Prelude.{◌≡◌, ◌≤◌, length, drop};
 ghost use Rattle.laws.specs.Lists.{put};
-ghost use Rattle.laws.specs.Prefix.{same_number, same_list};
-ghost use Rattle.layout.specs.Buffers.{cleared, all_zero};
+ghost use Rattle.layout.specs.Buffers.{all_zero};
 ghost use Rattle.keys.specs.Encode.{be, subspace_key};
 
 use data_model::parameters::Subspace;
@@ -23,25 +23,10 @@ pub fn write_subspace(s: Subspace, out: &mut [u8]) -> usize
     keys::number::write_subspace(s, out)
 }
 
-// Zeroes the bytes from `from` up to `to`.
-pub fn clear(buf: &mut [u8], from: usize, to: usize)
-    requires { (from ≤ to) × (to ≤ length buf.old) }
-    ensures { buf.new ≡ cleared from to buf.old }
-{
-    layout::bytes::clear(buf, from, to);
-}
-
 // Whether the bytes from `from` on are zero.
 pub fn zeros(buf: &[u8], from: usize) -> bool
     requires { from ≤ length buf.now }
     ensures { result ≡ all_zero (drop from buf.now) }
 {
     layout::bytes::zeros(buf, from)
-}
-
-// Whether bytes are the same.
-pub fn same_bytes(a: &[u8], b: &[u8]) -> bool
-    ensures { result ≡ same_list same_number a.now b.now }
-{
-    layout::bytes::same(a, b)
 }

@@ -1,4 +1,7 @@
-// Changes of a tree, for the store above: all records taken out, some taken out, one put in, the available length of one written.
+// Changes of a tree, for the store above: all records taken out, some taken out, one put in, the available
+// length of one written. They take the buffers themselves, which they change.
+// Kept (5): a clause could name what a struct of `&mut` leaves only by the numbers of its parts, as `t.exit.1.0.now`.
+// Kept (2): 01 wants store proofs over tree contracts alone, so that what the store needs of `layout` has a function and a contract here.
 ghost use Rattle.std.specs.Prelude.{◌≡◌, [], ◌+◌, ◌*◌, ◌≤◌, length};
 ghost use Rattle.layout.specs.Buffers.{written};
 ghost use Rattle.layout.specs.Layout.{Editable, records, joined, tree_bytes, dir_numbers, inserted, record_at, offset_at};

@@ -1,59 +1,53 @@
 // Where a key stands in a tree, by halving.
 ghost use Rattle.std.specs.Prelude.{◌≡◌};
-ghost use Rattle.layout.specs.Layout.{records};
-ghost use Rattle.tree.specs.Tree.{Searchable, keys_below, has_key, has_record};
+ghost use Rattle.tree.specs.Tree.{place_in, is_found, keys_below, has_key, has_record};
+ghost use Rattle.tree.specs.Lent.{records_in, IsSearchable};
 
-use crate::stored::{key_at, value_at};
+use crate::stored::Tree;
 use layout::bytes::{less, same};
 
-// How many keys are below a key, which is where it stands or would stand, and whether it is there.
-#[derive(Clone, Copy)]
-pub struct Place {
-    pub at: usize,
-    pub found: bool,
-}
+impl<'a, 'd> Tree<'a, 'd> {
+    // How many keys are below a key.
+    // Kept (3): the project's rule (no heap): the keys lie in the bytes where the directory says, and no slice of keys is there for `partition_point`.
+    fn lower(self, key: &[u8]) -> usize
+        requires { IsSearchable self }
+        ensures { result ≡ keys_below key.now (records_in self.entry) }
+    {
+        let mut lo = 0;
+        let mut hi = self.count;
+        while lo < hi {
+            let mid = lo + (hi - lo) / 2;
+            if less(self.key_at(mid), key) {
+                lo = mid + 1;
+            } else {
+                hi = mid;
+            }
+        }
+        lo
+    }
 
-// How many keys are below a key.
-fn lower(count: usize, dir: &[u32], tree: &[u8], key: &[u8]) -> usize
-    requires { Searchable count dir.now tree.now }
-    ensures { result ≡ keys_below key.now (records count dir.now tree.now) }
-{
-    let mut lo = 0;
-    let mut hi = count;
-    while lo < hi {
-        let mid = lo + (hi - lo) / 2;
-        if less(key_at(tree, dir, mid), key) {
-            lo = mid + 1;
+    // Where a key stands, or else where it would stand: either way as many keys are below it.
+    pub fn find(self, key: &[u8]) -> Result<usize, usize>
+        requires { IsSearchable self }
+        ensures at { place_in result ≡ keys_below key.now (records_in self.entry) }
+        ensures found { is_found result ≡ has_key key.now (records_in self.entry) }
+    {
+        let at = self.lower(key);
+        if at < self.count && same(self.key_at(at), key) {
+            Ok(at)
         } else {
-            hi = mid;
+            Err(at)
         }
     }
-    lo
-}
 
-// Where a key stands or would stand, and whether it is there.
-pub fn find(count: usize, dir: &[u32], tree: &[u8], key: &[u8]) -> Place
-    requires { Searchable count dir.now tree.now }
-    ensures at { result.at ≡ keys_below key.now (records count dir.now tree.now) }
-    ensures found { result.found ≡ has_key key.now (records count dir.now tree.now) }
-{
-    let at = lower(count, dir, tree, key);
-    if at < count {
-        let found = same(key_at(tree, dir, at), key);
-        Place { at, found }
-    } else {
-        Place { at, found: false }
+    // Whether a record of this key and this value is there.
+    pub fn has_record(self, key: &[u8], value: &[u8]) -> bool
+        requires { IsSearchable self }
+        ensures { result ≡ has_record key.now value.now (records_in self.entry) }
+    {
+        match self.find(key) {
+            Ok(at) => same(self.value_at(at), value),
+            Err(_) => false,
+        }
     }
-}
-
-// Whether a record of this key and this value is there.
-pub fn has_record(count: usize, dir: &[u32], tree: &[u8], key: &[u8], value: &[u8]) -> bool
-    requires { Searchable count dir.now tree.now }
-    ensures { result ≡ has_record key.now value.now (records count dir.now tree.now) }
-{
-    let p = find(count, dir, tree, key);
-    if p.found {
-        return same(value_at(tree, dir, p.at), value);
-    }
-    false
 }

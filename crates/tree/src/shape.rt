@@ -1,61 +1,50 @@
 // Whether a tree is well-formed, in one pass.
 ghost use Rattle.std.specs.Prelude.{◌≡◌, cond, true, ◌&&◌, ◌+◌, ◌*◌, ◌-◌, ◌≤◌, ◌<◌, length, get_or, leb, eqb};
-ghost use Rattle.layout.specs.Layout.{record_at};
 ghost use Rattle.data_model.specs.Path.{field};
 ghost use Rattle.tree.specs.Stored.{is_record, key_below};
-ghost use Rattle.tree.specs.Tree.{well_formed, InBounds};
+ghost use Rattle.tree.specs.Tree.{well_formed};
+ghost use Rattle.tree.specs.Lent.{record_in, IsInBounds};
 
-use crate::stored::{KeyOrder, is_record, key_at};
+use crate::stored::{Tree, is_record};
 use layout::bytes::{less, zeros};
 use layout::directory::{offset, size, zero_numbers};
 
-// Whether pair k begins at `at`, and what it cuts out is within the tree and a record.
-fn stands_at(order: KeyOrder, dir: &[u32], tree: &[u8], k: usize, at: usize) -> bool
-    requires { (2 * k + 1 < length dir.now) × (at ≤ length tree.now) }
-    ensures { result ≡ (eqb (get_or dir.now (2 * k) 0) at && (leb (at + get_or dir.now (2 * k + 1) 0) (length tree.now) && is_record order field (record_at k dir.now tree.now))) }
-{
-    let l = size(dir, k);
-    if offset(dir, k) != at {
-        return false;
+impl<'a, 'd> Tree<'a, 'd> {
+    // Whether pair k begins at `at`, and what it cuts out is within the tree and a record.
+    fn lies_at(self, k: usize, at: usize) -> bool
+        requires { (2 * k + 1 < length self.dir.now) × (at ≤ length self.bytes.now) }
+        ensures { result ≡ (eqb (get_or self.entry.dir.now (2 * k) 0) at && (leb (at + get_or self.entry.dir.now (2 * k + 1) 0) (length self.entry.bytes.now) && is_record self.entry.order field (record_in self.entry k))) }
+    {
+        let l = size(self.dir, k);
+        offset(self.dir, k) == at
+            && l <= self.bytes.len() - at
+            && is_record(self.order, &self.bytes[at..at + l])
     }
-    if tree.len() - at < l {
-        return false;
-    }
-    is_record(order, &tree[at..at + l])
-}
 
-// Whether the key of record k is above the one before it, if there is one.
-fn ascends_at(dir: &[u32], tree: &[u8], k: usize) -> bool
-    requires in_bounds { InBounds k dir.now tree.now }
-    requires in_bounds_2 { 0 < k → InBounds (k - 1) dir.now tree.now }
-    ensures { result ≡ cond (eqb k 0) true (key_below (record_at (k - 1) dir.now tree.now) (record_at k dir.now tree.now)) }
-{
-    if k == 0 {
-        return true;
+    // Whether the key of record k is above the one before it, if there is one.
+    fn ascends_at(self, k: usize) -> bool
+        requires in_bounds { IsInBounds self k }
+        requires in_bounds_2 { 0 < k → IsInBounds self (k - 1) }
+        ensures { result ≡ cond (eqb k 0) true (key_below (record_in self.entry (k - 1)) (record_in self.entry k)) }
+    {
+        k == 0 || less(self.key_at(k - 1), self.key_at(k))
     }
-    less(key_at(tree, dir, k - 1), key_at(tree, dir, k))
-}
 
-pub fn well_formed(order: KeyOrder, count: usize, dir: &[u32], tree: &[u8]) -> bool
-    ensures { result ≡ well_formed order field count dir.now tree.now }
-{
-    if dir.len() / 2 < count {
-        return false;
-    }
-    let mut i: usize = 0;
-    let mut at: usize = 0;
-    while i < count {
-        if !stands_at(order, dir, tree, i, at) {
+    // Whether the tree is well-formed: its records chain from its first byte without gaps, zeros stand behind them and behind their pairs,
+    // and the keys ascend.
+    pub fn well_formed(self) -> bool
+        ensures { result ≡ well_formed self.entry.order field self.entry.count self.entry.dir.now self.entry.bytes.now }
+    {
+        if self.dir.len() / 2 < self.count {
             return false;
         }
-        if !ascends_at(dir, tree, i) {
-            return false;
+        let mut at = 0;
+        for k in 0..self.count {
+            if !self.lies_at(k, at) || !self.ascends_at(k) {
+                return false;
+            }
+            at += size(self.dir, k);
         }
-        at += size(dir, i);
-        i += 1;
+        zeros(self.bytes, at) && zero_numbers(self.dir, 2 * self.count)
     }
-    if !zeros(tree, at) {
-        return false;
-    }
-    zero_numbers(dir, 2 * count)
 }

@@ -26,6 +26,8 @@ const SESSION_AT: usize = ORIGIN_AT + 1;
 pub const VALUE: usize = SESSION_AT + 8;
 
 // A value as it lies: kind and session number of an origin, whether or not they are those of one.
+// Kept (1): the definition `read_value` reads any bytes, also such as are of no origin, which `is_value` then refuses.
+// Kept (5): `length value ≡ value_length`: a value is lent as the end of a record, a slice; as an array it would be copied.
 #[derive(Clone, Copy)]
 pub struct Value {
     pub payload_length: u64,
@@ -77,28 +79,25 @@ pub fn encode_entry_values(v: Value, out: &mut [u8]) -> usize
     requires { value_length ≤ length out.old }
     ensures { (result ≡ value_length) × (out.new ≡ put (value_bytes v) out.old) }
 {
-    let digest = v.payload_digest;
-    let token = v.token;
-    write_front(v.payload_length, &digest, out);
-    write_back(&token, v.available, v.kind, v.session, &mut out[TOKEN_AT..]);
+    write_front(v.payload_length, &v.payload_digest, out);
+    write_back(
+        &v.token,
+        v.available,
+        v.kind,
+        v.session,
+        &mut out[TOKEN_AT..],
+    );
     VALUE
 }
 
-fn copy_32(from: &[u8]) -> [u8; 32]
-    requires { length from.now ≡ 32 }
+// Bytes as an array of that length.
+// Kept (4): `try_into` would leave a case to rule out where the lengths differ, which this clause rules out before.
+fn copy<const N: usize>(from: &[u8]) -> [u8; N]
+    requires { length from.now ≡ N }
     ensures { result ≡ from.now }
 {
-    let mut out = [0u8; 32];
-    write(&mut out, 0, from);
-    out
-}
-
-fn copy_64(from: &[u8]) -> [u8; 64]
-    requires { length from.now ≡ 64 }
-    ensures { result ≡ from.now }
-{
-    let mut out = [0u8; 64];
-    write(&mut out, 0, from);
+    let mut out = [0u8; N];
+    out.copy_from_slice(from);
     out
 }
 
@@ -107,12 +106,10 @@ pub fn decode_entry_values(value: &[u8]) -> Value
     requires { length value.now ≡ value_length }
     ensures { result ≡ read_value value.now }
 {
-    let payload_digest = copy_32(&value[DIGEST_AT..TOKEN_AT]);
-    let token = copy_64(&value[TOKEN_AT..AVAILABLE_AT]);
     Value {
         payload_length: read_u64(value),
-        payload_digest,
-        token,
+        payload_digest: copy(&value[DIGEST_AT..TOKEN_AT]),
+        token: copy(&value[TOKEN_AT..AVAILABLE_AT]),
         available: read_u64(&value[AVAILABLE_AT..]),
         kind: value[ORIGIN_AT],
         session: read_u64(&value[SESSION_AT..]),
@@ -156,8 +153,5 @@ pub fn is_value(value: &[u8]) -> bool
     requires { length value.now ≡ value_length }
     ensures { result ≡ is_value (read_value value.now) }
 {
-    if payload_length(value) < available(value) {
-        return false;
-    }
-    has_origin(value)
+    available(value) <= payload_length(value) && has_origin(value)
 }

@@ -8,27 +8,24 @@ ghost use Rattle.data_model.specs.Range3d.{range_includes};
 ghost use Rattle.data_model.specs.Area.{area_includes, area_range_answer};
 ghost use Rattle.data_model.specs.Refusal.{answered};
 ghost use Rattle.plain.specs.Input.{area_of, range_of};
-ghost use Rattle.plain.specs.Answer.{plain_answer, plain_compared, plain_entries_compared};
+ghost use Rattle.plain.specs.Answer.{plain_answer, plain_compared, plain_entries_compared, plain_above};
 ghost use Rattle.plain.specs.RangeAnswer.{byte_of, plain_area_range};
 
-use data_model::above::Above;
+use data_model::area::Area;
 use data_model::entry::Entry;
 use data_model::parameters::Subspace;
 use data_model::path::Path;
 use data_model::range_3d::Range3d;
-use plain::answer::{
-    PlainAnswer, PlainCompared, PlainEntriesCompared, plain_answer, plain_compared,
-    plain_entries_compared,
-};
-use plain::input::{PlainArea, PlainRange, area_of, range_of};
-use plain::range_answer::{PlainAreaRange, byte_of, plain_area_range};
+use plain::answer::{PlainAbove, PlainAnswer, PlainCompared, PlainEntriesCompared};
+use plain::input::{PlainArea, PlainRange};
+use plain::range_answer::PlainAreaRange;
 
 // `Path::is_legal`: whether a path has at most 8 components, each at most 64 bytes, at most 128 in all, and ends that do not descend.
 #[unsafe(no_mangle)]
 pub extern "C" fn vb_path_is_legal(p: Path) -> u8
     ensures { result ≡ byte_of (legal field p) }
 {
-    byte_of(p.is_legal())
+    p.is_legal().into()
 }
 
 // `Path::cmp`: how the first path compares with the second, component by component.
@@ -36,7 +33,7 @@ pub extern "C" fn vb_path_is_legal(p: Path) -> u8
 pub extern "C" fn vb_path_cmp(p: Path, q: Path) -> PlainCompared
     ensures { result ≡ plain_compared (answered (legal field p && legal field q) (by_components (components p) (components q))) }
 {
-    plain_compared(p.cmp(q))
+    p.cmp(q).into()
 }
 
 // `Path::eq`: whether two paths have the same components.
@@ -44,7 +41,7 @@ pub extern "C" fn vb_path_cmp(p: Path, q: Path) -> PlainCompared
 pub extern "C" fn vb_path_eq(p: Path, q: Path) -> PlainAnswer
     ensures { result ≡ plain_answer (answered (legal field p && legal field q) (same_path (components p) (components q))) }
 {
-    plain_answer(p.eq(q))
+    p.eq(q).into()
 }
 
 // `Path::is_prefix_of`: whether the first path is the second or a beginning of it, by whole components.
@@ -52,15 +49,15 @@ pub extern "C" fn vb_path_eq(p: Path, q: Path) -> PlainAnswer
 pub extern "C" fn vb_path_is_prefix_of(p: Path, q: Path) -> PlainAnswer
     ensures { result ≡ plain_answer (answered (legal field p && legal field q) (is_prefix (components p) (components q))) }
 {
-    plain_answer(p.is_prefix_of(q))
+    p.is_prefix_of(q).into()
 }
 
 // `Path::greater_but_not_prefixed`: the least legal path above a path that the path does not prefix; or none.
 #[unsafe(no_mangle)]
-pub extern "C" fn vb_path_greater_but_not_prefixed(p: Path) -> Above
-    ensures { result ≡ above_answer field p }
+pub extern "C" fn vb_path_greater_but_not_prefixed(p: Path) -> PlainAbove
+    ensures { result ≡ plain_above (above_answer field p) }
 {
-    p.greater_but_not_prefixed()
+    p.greater_but_not_prefixed().into()
 }
 
 // `Entry::compare`: whether the first entry is newer than the second, older or the same, by timestamp, then digest, then payload length.
@@ -68,7 +65,7 @@ pub extern "C" fn vb_path_greater_but_not_prefixed(p: Path) -> Above
 pub extern "C" fn vb_entry_compare(a: Entry, b: Entry) -> PlainEntriesCompared
     ensures { result ≡ plain_entries_compared (answered (legal field a.path && legal field b.path) (by_rank (rank_of a) (rank_of b))) }
 {
-    plain_entries_compared(a.compare(b))
+    a.compare(b).into()
 }
 
 // `Entry::prunes`: whether the first entry prunes the second, being newer at its path or a prefix of it.
@@ -76,7 +73,7 @@ pub extern "C" fn vb_entry_compare(a: Entry, b: Entry) -> PlainEntriesCompared
 pub extern "C" fn vb_entry_prunes(a: Entry, b: Entry) -> PlainAnswer
     ensures { result ≡ plain_answer (answered (legal field a.path && legal field b.path) (prunes (entry_of a) (entry_of b))) }
 {
-    plain_answer(a.prunes(b))
+    a.prunes(b).into()
 }
 
 // `Entry::is_pruned_by`: whether the second entry prunes the first.
@@ -84,7 +81,7 @@ pub extern "C" fn vb_entry_prunes(a: Entry, b: Entry) -> PlainAnswer
 pub extern "C" fn vb_entry_is_pruned_by(a: Entry, b: Entry) -> PlainAnswer
     ensures { result ≡ plain_answer (answered (legal field b.path && legal field a.path) (prunes (entry_of b) (entry_of a))) }
 {
-    plain_answer(a.is_pruned_by(b))
+    a.is_pruned_by(b).into()
 }
 
 // `Area::includes_triplet`: whether an area includes a subspace, path and timestamp.
@@ -97,8 +94,9 @@ pub extern "C" fn vb_area_includes_triplet(
 ) -> PlainAnswer
     ensures { result ≡ plain_answer (answered (legal field area.path && legal field path) (area_includes (area_of area) subspace (components path) timestamp)) }
 {
-    let whole = area_of(area);
-    plain_answer(whole.includes_triplet(subspace, path, timestamp))
+    Area::from(area)
+        .includes_triplet(subspace, path, timestamp)
+        .into()
 }
 
 // `Range3d::includes_triplet`: whether a 3d range includes a subspace, path and timestamp.
@@ -111,15 +109,15 @@ pub extern "C" fn vb_range_includes_triplet(
 ) -> PlainAnswer
     ensures { result ≡ plain_answer (answered (legal_range field (range_of range).paths && legal field path) (range_includes (range_of range) subspace (components path) timestamp)) }
 {
-    let whole = range_of(range);
-    plain_answer(whole.includes_triplet(subspace, path, timestamp))
+    Range3d::from(range)
+        .includes_triplet(subspace, path, timestamp)
+        .into()
 }
 
-// `Range3d::from`: the 3d range that includes what an area includes.
+// `Range3d::try_from`: the 3d range that includes what an area includes.
 #[unsafe(no_mangle)]
 pub extern "C" fn vb_area_to_range(area: PlainArea) -> PlainAreaRange
     ensures { result ≡ plain_area_range (area_range_answer field (area_of area)) }
 {
-    let whole = area_of(area);
-    plain_area_range(Range3d::from(whole))
+    Range3d::try_from(Area::from(area)).into()
 }

@@ -8,27 +8,24 @@ ghost use Rattle.query.specs.Listing.{is_found, area_listed, area_part, area_off
 ghost use Rattle.query.specs.Count.{area_counted, summarised};
 ghost use Rattle.query.specs.Interest.{interest_range};
 ghost use Rattle.plain.specs.Input.{area_of, range_of, interest_of, ignore_of};
-ghost use Rattle.plain.specs.Answer.{plain_listed};
+ghost use Rattle.plain.specs.Answer.{plain_listed, plain_counted};
 ghost use Rattle.plain.specs.Found.{plain_found};
 ghost use Rattle.plain.specs.RangeAnswer.{plain_interest_range};
 ghost use Rattle.plain.specs.Part.{plain_part};
 
 use data_model::parameters::Subspace;
 use data_model::path::Path;
-use plain::answer::{PlainListed, plain_listed};
-use plain::found::{PlainEntryFound, plain_found};
-use plain::input::{
-    PlainArea, PlainIgnore, PlainInterest, PlainRange, area_of, ignore_of, interest_of, range_of,
-};
-use plain::part::{PlainPart, plain_part};
-use plain::range_answer::{PlainAreaRange, plain_interest_range};
-use query::answer::Counted;
+use plain::answer::{PlainCounted, PlainListed};
+use plain::found::PlainEntryFound;
+use plain::input::{PlainArea, PlainIgnore, PlainInterest, PlainRange};
+use plain::part::PlainPart;
+use plain::range_answer::PlainAreaRange;
 use query::count::{count_area, summarise};
 use query::entry::entry;
 use query::interest::area_of_interest_to_range;
 use query::listing::{query_area_found, query_range_found, record_key};
 use query::step::{area_step, range_step};
-use store::state::State;
+use store::state::{State, Store};
 
 // `query::entry::entry`: the entry at a subspace and path, its token, available length and origin; or none.
 #[unsafe(no_mangle)]
@@ -44,8 +41,14 @@ pub extern "C" fn vb_find_entry(
 ) -> PlainEntryFound
     ensures { result ≡ plain_found (entry_found field (store_of state spt.now spt_dir.now tsp.now tsp_dir.now) subspace path (ignore_of ignore)) }
 {
-    let flags = ignore_of(ignore);
-    plain_found(entry(state, spt, spt_dir, tsp, tsp_dir, subspace, path, flags))
+    let store = Store {
+        state,
+        spt,
+        spt_dir,
+        tsp,
+        tsp_dir,
+    };
+    entry(store, subspace, path, ignore.into()).into()
 }
 
 // `query::listing::query_area_found`: whether a step of an area's listing gives a record, or the listing is finished, or the refusal. `last` is the key that it remembers.
@@ -62,9 +65,14 @@ pub extern "C" fn vb_query_area_found(
 ) -> PlainListed
     ensures { result ≡ plain_listed (is_found (area_listed field (store_of state spt.now spt_dir.now tsp.now tsp_dir.now) (area_of area) (ignore_of ignore) last.now)) }
 {
-    let whole = area_of(area);
-    let flags = ignore_of(ignore);
-    plain_listed(query_area_found(state, spt, spt_dir, tsp, tsp_dir, whole, flags, last))
+    let store = Store {
+        state,
+        spt,
+        spt_dir,
+        tsp,
+        tsp_dir,
+    };
+    query_area_found(store, area.into(), ignore.into(), last).into()
 }
 
 // The part that `query::listing::query_area` answers, as offset and length in the caller's subspace-first tree; finished or refused it is 0 and 0.
@@ -82,9 +90,14 @@ pub extern "C" fn vb_query_area(
     ensures value { result ≡ plain_part (area_offset field (store_of state spt.now spt_dir.now tsp.now tsp_dir.now) (area_of area) (ignore_of ignore) last.now) (area_part field (store_of state spt.now spt_dir.now tsp.now tsp_dir.now) (area_of area) (ignore_of ignore) last.now) }
     ensures spt_value { take result.length (drop result.offset spt.now) ≡ area_part field (store_of state spt.now spt_dir.now tsp.now tsp_dir.now) (area_of area) (ignore_of ignore) last.now }
 {
-    let whole = area_of(area);
-    let flags = ignore_of(ignore);
-    plain_part(area_step(state, spt, spt_dir, tsp, tsp_dir, whole, flags, last))
+    let store = Store {
+        state,
+        spt,
+        spt_dir,
+        tsp,
+        tsp_dir,
+    };
+    area_step(store, area.into(), ignore.into(), last).into()
 }
 
 // `query::listing::query_range_found`: whether a step of a 3d range's listing gives a record, or the listing is finished, or the refusal. `last` is the key that it remembers.
@@ -101,9 +114,14 @@ pub extern "C" fn vb_query_range_found(
 ) -> PlainListed
     ensures { result ≡ plain_listed (is_found (range_listed field (store_of state spt.now spt_dir.now tsp.now tsp_dir.now) (range_of range) (ignore_of ignore) last.now)) }
 {
-    let whole = range_of(range);
-    let flags = ignore_of(ignore);
-    plain_listed(query_range_found(state, spt, spt_dir, tsp, tsp_dir, whole, flags, last))
+    let store = Store {
+        state,
+        spt,
+        spt_dir,
+        tsp,
+        tsp_dir,
+    };
+    query_range_found(store, range.into(), ignore.into(), last).into()
 }
 
 // The part that `query::listing::query_range` answers, as offset and length in the caller's subspace-first tree; finished or refused it is 0 and 0.
@@ -121,9 +139,14 @@ pub extern "C" fn vb_query_range(
     ensures value { result ≡ plain_part (range_offset field (store_of state spt.now spt_dir.now tsp.now tsp_dir.now) (range_of range) (ignore_of ignore) last.now) (range_part field (store_of state spt.now spt_dir.now tsp.now tsp_dir.now) (range_of range) (ignore_of ignore) last.now) }
     ensures spt_value { take result.length (drop result.offset spt.now) ≡ range_part field (store_of state spt.now spt_dir.now tsp.now tsp_dir.now) (range_of range) (ignore_of ignore) last.now }
 {
-    let whole = range_of(range);
-    let flags = ignore_of(ignore);
-    plain_part(range_step(state, spt, spt_dir, tsp, tsp_dir, whole, flags, last))
+    let store = Store {
+        state,
+        spt,
+        spt_dir,
+        tsp,
+        tsp_dir,
+    };
+    range_step(store, range.into(), ignore.into(), last).into()
 }
 
 // The part that `query::listing::record_key` answers: a record's key, as offset, which is 0, and length in the bytes that were handed in. Of fewer bytes than a value has, nothing.
@@ -132,10 +155,9 @@ pub extern "C" fn vb_record_key(rec: &[u8]) -> PlainPart
     ensures value { result ≡ plain_part 0 (key_of rec.now) }
     ensures rec_value { take result.length (drop result.offset rec.now) ≡ key_of rec.now }
 {
-    let key = record_key(rec);
     PlainPart {
         offset: 0,
-        length: key.len(),
+        length: record_key(rec).len(),
     }
 }
 
@@ -148,11 +170,17 @@ pub extern "C" fn vb_count_area(
     tsp: &[u8],
     tsp_dir: &[u32],
     area: PlainArea,
-) -> Counted
-    ensures { result ≡ area_counted field (store_of state spt.now spt_dir.now tsp.now tsp_dir.now) (area_of area) }
+) -> PlainCounted
+    ensures { result ≡ plain_counted (area_counted field (store_of state spt.now spt_dir.now tsp.now tsp_dir.now) (area_of area)) }
 {
-    let whole = area_of(area);
-    count_area(state, spt, spt_dir, tsp, tsp_dir, whole)
+    let store = Store {
+        state,
+        spt,
+        spt_dir,
+        tsp,
+        tsp_dir,
+    };
+    count_area(store, area.into()).into()
 }
 
 // `query::count::summarise`, its size: how many entries a 3d range includes.
@@ -164,14 +192,21 @@ pub extern "C" fn vb_summarise(
     tsp: &[u8],
     tsp_dir: &[u32],
     range: PlainRange,
-) -> Counted
-    ensures { result ≡ summarised field (store_of state spt.now spt_dir.now tsp.now tsp_dir.now) (range_of range) }
+) -> PlainCounted
+    ensures { result ≡ plain_counted (summarised field (store_of state spt.now spt_dir.now tsp.now tsp_dir.now) (range_of range)) }
 {
-    let whole = range_of(range);
-    summarise(state, spt, spt_dir, tsp, tsp_dir, whole)
+    let store = Store {
+        state,
+        spt,
+        spt_dir,
+        tsp,
+        tsp_dir,
+    };
+    summarise(store, range.into()).into()
 }
 
 // `query::interest::area_of_interest_to_range`: the 3d range of an area of interest: the area's own, its times starting at that of the entry that broke a limit.
+#[tactic(auto, using(crate::proofs::DoorLaws::interest_plain))]
 #[unsafe(no_mangle)]
 pub extern "C" fn vb_area_of_interest_to_range(
     state: State,
@@ -183,6 +218,12 @@ pub extern "C" fn vb_area_of_interest_to_range(
 ) -> PlainAreaRange
     ensures { result ≡ plain_interest_range (interest_range field (store_of state spt.now spt_dir.now tsp.now tsp_dir.now) (interest_of interest)) }
 {
-    let whole = interest_of(interest);
-    plain_interest_range(area_of_interest_to_range(state, spt, spt_dir, tsp, tsp_dir, whole))
+    let store = Store {
+        state,
+        spt,
+        spt_dir,
+        tsp,
+        tsp_dir,
+    };
+    area_of_interest_to_range(store, interest.into()).into()
 }

@@ -9,7 +9,7 @@ ghost use Rattle.virebony.specs.Outcome.{pairs_left, told_pairs};
 
 use data_model::entry::Entry;
 use pairs::ingest_with_room;
-use plain::answer::{PlainIngested, plain_ingested};
+use plain::change::{PlainIngested, plain_ingested};
 use plain::input::{PlainOrigin, ingestion_of};
 use plain::rows::write_rows;
 use store::state::State;
@@ -42,8 +42,7 @@ pub extern "C" fn vb_ingest_entry(
         prune.len(),
         ingestion,
     );
-    let numbers = r.numbers;
-    let ingested = r.ingested;
-    write_rows(numbers, prune, r.count);
-    plain_ingested(ingested)
+    let answer = plain_ingested(state, r.ingested);
+    write_rows(r.numbers, prune, answer.pruned);
+    answer
 }

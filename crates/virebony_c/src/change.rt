@@ -8,16 +8,18 @@ ghost use Rattle.store.specs.Forget.{forget_entry_outcome, entry_forgotten, forg
 ghost use Rattle.pairs.specs.Pairs.{pairs_of, pairs_ingested};
 ghost use Rattle.available.specs.Available.{available_outcome, available_set};
 ghost use Rattle.plain.specs.Input.{is_yes, area_of, ingestion_of};
-ghost use Rattle.virebony.specs.Outcome.{numbers_left, told_numbers, pairs_left, told_pairs};
+ghost use Rattle.plain.specs.Change.{opened_read, entry_forgotten_read, area_forgotten_read};
+ghost use Rattle.virebony.specs.Outcome.{numbers_left, told_numbers, pairs_left, told_pairs, available_read};
 
-use available::AvailableRecorded;
 use data_model::entry::Entry;
 use data_model::parameters::Subspace;
 use data_model::path::Path;
-use plain::answer::{PlainIngested, PlainNumbersIngested};
+use plain::change::{
+    PlainAreaForgotten, PlainAvailableRecorded, PlainEntryForgotten, PlainIngested,
+    PlainNumbersIngested, PlainOpened,
+};
 use plain::input::{PlainArea, PlainOrigin, PlainPairs};
-use store::forget::{AreaForgotten, EntryForgotten};
-use store::state::{Opened, State};
+use store::state::State;
 
 // `store::open::open`: a store of no entries, for at most `limit` of them.
 #[unsafe(no_mangle)]
@@ -29,8 +31,8 @@ pub extern "C" fn vb_open(
     tsp: &mut [u8],
     tsp_dir: &mut [u32],
     tally: &mut [u8],
-) -> Opened
-    ensures { open_outcome result spt.new spt_dir.new tsp.new tsp_dir.new tally.new ≡ opening field namespace.now limit spt.old spt_dir.old tsp.old tsp_dir.old tally.old }
+) -> PlainOpened
+    ensures { open_outcome (opened_read result) spt.new spt_dir.new tsp.new tsp_dir.new tally.new ≡ opening field namespace.now limit spt.old spt_dir.old tsp.old tsp_dir.old tally.old }
 {
     virebony::change::vb_open(namespace, limit, spt, spt_dir, tsp, tsp_dir, tally)
 }
@@ -112,8 +114,8 @@ pub extern "C" fn vb_forget_entry(
     path: Path,
     expects: u8,
     expected_digest: &[u8; 32],
-) -> EntryForgotten
-    ensures { forget_entry_outcome result spt.new spt_dir.new tsp.new tsp_dir.new tally.new ≡ entry_forgotten field (tallied_of state spt.old spt_dir.old tsp.old tsp_dir.old tally.old) subspace path (is_yes expects) expected_digest.now }
+) -> PlainEntryForgotten
+    ensures { forget_entry_outcome (entry_forgotten_read result) spt.new spt_dir.new tsp.new tsp_dir.new tally.new ≡ entry_forgotten field (tallied_of state spt.old spt_dir.old tsp.old tsp_dir.old tally.old) subspace path (is_yes expects) expected_digest.now }
 {
     virebony::change::vb_forget_entry(
         state,
@@ -141,8 +143,8 @@ pub extern "C" fn vb_forget_area(
     area: PlainArea,
     protects: u8,
     protected: PlainArea,
-) -> AreaForgotten
-    ensures { forget_area_outcome result spt.new spt_dir.new tsp.new tsp_dir.new tally.new ≡ area_forgotten field (tallied_of state spt.old spt_dir.old tsp.old tsp_dir.old tally.old) (area_of area) (is_yes protects) (area_of protected) }
+) -> PlainAreaForgotten
+    ensures { forget_area_outcome (area_forgotten_read result) spt.new spt_dir.new tsp.new tsp_dir.new tally.new ≡ area_forgotten field (tallied_of state spt.old spt_dir.old tsp.old tsp_dir.old tally.old) (area_of area) (is_yes protects) (area_of protected) }
 {
     virebony::change::vb_forget_area(
         state, spt, spt_dir, tsp, tsp_dir, tally, area, protects, protected,
@@ -163,8 +165,8 @@ pub extern "C" fn vb_record_available_length(
     expects: u8,
     expected_digest: &[u8; 32],
     available: u64,
-) -> AvailableRecorded
-    ensures { available_outcome result spt.new spt_dir.now tsp.new tsp_dir.now ≡ available_set field (store_of state spt.old spt_dir.now tsp.old tsp_dir.now) subspace path (is_yes expects) expected_digest.now available }
+) -> PlainAvailableRecorded
+    ensures { available_outcome (available_read result) spt.new spt_dir.now tsp.new tsp_dir.now ≡ available_set field (store_of state spt.old spt_dir.now tsp.old tsp_dir.now) subspace path (is_yes expects) expected_digest.now available }
 {
     virebony::change::vb_record_available_length(
         state,
@@ -193,8 +195,8 @@ pub extern "C" fn vb_forget_payload(
     path: Path,
     expects: u8,
     expected_digest: &[u8; 32],
-) -> AvailableRecorded
-    ensures { available_outcome result spt.new spt_dir.now tsp.new tsp_dir.now ≡ available_set field (store_of state spt.old spt_dir.now tsp.old tsp_dir.now) subspace path (is_yes expects) expected_digest.now 0 }
+) -> PlainAvailableRecorded
+    ensures { available_outcome (available_read result) spt.new spt_dir.now tsp.new tsp_dir.now ≡ available_set field (store_of state spt.old spt_dir.now tsp.old tsp_dir.now) subspace path (is_yes expects) expected_digest.now 0 }
 {
     virebony::change::vb_forget_payload(
         state,

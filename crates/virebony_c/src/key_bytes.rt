@@ -4,12 +4,11 @@ ghost use Rattle.data_model.specs.Path.{field, components, legal};
 ghost use Rattle.keys.specs.Encode.{triple, spt_key, tsp_key, roomy, encoded, encoded_in};
 ghost use Rattle.keys.specs.Decode.{read_path, path_read, read_spt, read_tsp, decoded};
 ghost use Rattle.key_reader.specs.Reader.{stepped};
-ghost use Rattle.plain.specs.Answer.{plain_encoded, plain_stepped};
+ghost use Rattle.plain.specs.KeyAnswer.{plain_encoded, plain_decoded, plain_path_read, plain_stepped};
 
 use data_model::parameters::Subspace;
 use data_model::path::Path;
-use keys::decode::{Decoded, PathRead};
-use plain::answer::{PlainEncoded, PlainStepped};
+use plain::key_answer::{PlainDecoded, PlainEncoded, PlainPathRead, PlainStepped};
 
 // `encode_spt_entry_key`: writes the subspace-first key of a triple to the front of a buffer; a refusal leaves the buffer as it was.
 #[unsafe(no_mangle)]
@@ -41,16 +40,16 @@ pub extern "C" fn vb_encode_tsp_entry_key(
 
 // `decode_spt_entry_key`: the triple that a subspace-first key stands for.
 #[unsafe(no_mangle)]
-pub extern "C" fn vb_decode_spt_entry_key(key: &[u8]) -> Decoded
-    ensures { result ≡ decoded (read_spt field key.now) }
+pub extern "C" fn vb_decode_spt_entry_key(key: &[u8]) -> PlainDecoded
+    ensures { result ≡ plain_decoded (decoded (read_spt field key.now)) }
 {
     virebony::key_bytes::vb_decode_spt_entry_key(key)
 }
 
 // `decode_tsp_entry_key`: the triple that a time-first key stands for.
 #[unsafe(no_mangle)]
-pub extern "C" fn vb_decode_tsp_entry_key(key: &[u8]) -> Decoded
-    ensures { result ≡ decoded (read_tsp field key.now) }
+pub extern "C" fn vb_decode_tsp_entry_key(key: &[u8]) -> PlainDecoded
+    ensures { result ≡ plain_decoded (decoded (read_tsp field key.now)) }
 {
     virebony::key_bytes::vb_decode_tsp_entry_key(key)
 }
@@ -65,24 +64,24 @@ pub extern "C" fn vb_read_component_at(key: &[u8], at: usize) -> PlainStepped
 
 // The path at a position of a key, taken by a reader, and the position behind it.
 #[unsafe(no_mangle)]
-pub extern "C" fn vb_read_path_at(key: &[u8], at: usize) -> PathRead
-    ensures { result ≡ path_read at (read_path field (drop at key.now)) }
+pub extern "C" fn vb_read_path_at(key: &[u8], at: usize) -> PlainPathRead
+    ensures { result ≡ plain_path_read (path_read at (read_path field (drop at key.now))) }
 {
     virebony::key_bytes::vb_read_path_at(key, at)
 }
 
 // The triple that a subspace-first key stands for, taken by a reader that holds the key.
 #[unsafe(no_mangle)]
-pub extern "C" fn vb_read_spt_entry_key(key: &[u8]) -> Decoded
-    ensures { result ≡ decoded (read_spt field key.now) }
+pub extern "C" fn vb_read_spt_entry_key(key: &[u8]) -> PlainDecoded
+    ensures { result ≡ plain_decoded (decoded (read_spt field key.now)) }
 {
     virebony::key_bytes::vb_read_spt_entry_key(key)
 }
 
 // The triple that a time-first key stands for, taken by a reader that holds the key.
 #[unsafe(no_mangle)]
-pub extern "C" fn vb_read_tsp_entry_key(key: &[u8]) -> Decoded
-    ensures { result ≡ decoded (read_tsp field key.now) }
+pub extern "C" fn vb_read_tsp_entry_key(key: &[u8]) -> PlainDecoded
+    ensures { result ≡ plain_decoded (decoded (read_tsp field key.now)) }
 {
     virebony::key_bytes::vb_read_tsp_entry_key(key)
 }

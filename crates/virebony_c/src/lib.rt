@@ -1,5 +1,8 @@
 // The library `virebony` for C, and for Rust through C's header bindings/c/virebony.h: a static library with an export for each of its functions. An export calls
 // the function of its name and states its clauses again. It has no `requires`: C may hand in anything.
+// Kept (1): C has no enum with values, as in `virebony`.
+// Kept (5): C lends each buffer by itself.
+// Kept (2): no crate can depend on a static library, so what C calls stands here again, over the library `virebony` that the programs use.
 #![tactic(auto)]
 
 pub mod change;

@@ -8,14 +8,13 @@ ghost use Rattle.data_model.specs.Range3d.{range_includes};
 ghost use Rattle.data_model.specs.Area.{area_includes, area_range_answer};
 ghost use Rattle.data_model.specs.Refusal.{answered};
 ghost use Rattle.plain.specs.Input.{area_of, range_of};
-ghost use Rattle.plain.specs.Answer.{plain_answer, plain_compared, plain_entries_compared};
+ghost use Rattle.plain.specs.Answer.{plain_answer, plain_compared, plain_entries_compared, plain_above};
 ghost use Rattle.plain.specs.RangeAnswer.{byte_of, plain_area_range};
 
-use data_model::above::Above;
 use data_model::entry::Entry;
 use data_model::parameters::Subspace;
 use data_model::path::Path;
-use plain::answer::{PlainAnswer, PlainCompared, PlainEntriesCompared};
+use plain::answer::{PlainAbove, PlainAnswer, PlainCompared, PlainEntriesCompared};
 use plain::input::{PlainArea, PlainRange};
 use plain::range_answer::PlainAreaRange;
 
@@ -53,8 +52,8 @@ pub extern "C" fn vb_path_is_prefix_of(p: Path, q: Path) -> PlainAnswer
 
 // `Path::greater_but_not_prefixed`: the least legal path above a path that the path does not prefix; or none.
 #[unsafe(no_mangle)]
-pub extern "C" fn vb_path_greater_but_not_prefixed(p: Path) -> Above
-    ensures { result ≡ above_answer field p }
+pub extern "C" fn vb_path_greater_but_not_prefixed(p: Path) -> PlainAbove
+    ensures { result ≡ plain_above (above_answer field p) }
 {
     virebony::model::vb_path_greater_but_not_prefixed(p)
 }
@@ -109,7 +108,7 @@ pub extern "C" fn vb_range_includes_triplet(
     virebony::model::vb_range_includes_triplet(range, subspace, path, timestamp)
 }
 
-// `Range3d::from`: the 3d range that includes what an area includes.
+// `Range3d::try_from`: the 3d range that includes what an area includes.
 #[unsafe(no_mangle)]
 pub extern "C" fn vb_area_to_range(area: PlainArea) -> PlainAreaRange
     ensures { result ≡ plain_area_range (area_range_answer field (area_of area)) }

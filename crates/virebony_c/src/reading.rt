@@ -8,19 +8,18 @@ ghost use Rattle.query.specs.Listing.{is_found, area_listed, area_part, area_off
 ghost use Rattle.query.specs.Count.{area_counted, summarised};
 ghost use Rattle.query.specs.Interest.{interest_range};
 ghost use Rattle.plain.specs.Input.{area_of, range_of, interest_of, ignore_of};
-ghost use Rattle.plain.specs.Answer.{plain_listed};
+ghost use Rattle.plain.specs.Answer.{plain_listed, plain_counted};
 ghost use Rattle.plain.specs.Found.{plain_found};
 ghost use Rattle.plain.specs.RangeAnswer.{plain_interest_range};
 ghost use Rattle.plain.specs.Part.{plain_part};
 
 use data_model::parameters::Subspace;
 use data_model::path::Path;
-use plain::answer::PlainListed;
+use plain::answer::{PlainCounted, PlainListed};
 use plain::found::PlainEntryFound;
 use plain::input::{PlainArea, PlainIgnore, PlainInterest, PlainRange};
 use plain::part::PlainPart;
 use plain::range_answer::PlainAreaRange;
-use query::answer::Counted;
 use store::state::State;
 
 // `query::entry::entry`: the entry at a subspace and path, its token, available length and origin; or none.
@@ -128,8 +127,8 @@ pub extern "C" fn vb_count_area(
     tsp: &[u8],
     tsp_dir: &[u32],
     area: PlainArea,
-) -> Counted
-    ensures { result ≡ area_counted field (store_of state spt.now spt_dir.now tsp.now tsp_dir.now) (area_of area) }
+) -> PlainCounted
+    ensures { result ≡ plain_counted (area_counted field (store_of state spt.now spt_dir.now tsp.now tsp_dir.now) (area_of area)) }
 {
     virebony::reading::vb_count_area(state, spt, spt_dir, tsp, tsp_dir, area)
 }
@@ -143,8 +142,8 @@ pub extern "C" fn vb_summarise(
     tsp: &[u8],
     tsp_dir: &[u32],
     range: PlainRange,
-) -> Counted
-    ensures { result ≡ summarised field (store_of state spt.now spt_dir.now tsp.now tsp_dir.now) (range_of range) }
+) -> PlainCounted
+    ensures { result ≡ plain_counted (summarised field (store_of state spt.now spt_dir.now tsp.now tsp_dir.now) (range_of range)) }
 {
     virebony::reading::vb_summarise(state, spt, spt_dir, tsp, tsp_dir, range)
 }

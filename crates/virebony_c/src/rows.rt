@@ -8,7 +8,7 @@ ghost use Rattle.plain.specs.Rows.{pair_of};
 ghost use Rattle.virebony.specs.Outcome.{pairs_left, told_pairs};
 
 use data_model::entry::Entry;
-use plain::answer::PlainIngested;
+use plain::change::PlainIngested;
 use plain::input::PlainOrigin;
 use store::state::State;
 

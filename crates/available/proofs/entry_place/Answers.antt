@@ -1,30 +1,41 @@
 -- `entry_place` meets its contract: each refusal, or the place. Assumes nothing.
-use Prim.Native.Nat.{ℕ}
-use mathlib.Core.Path.{◌≡◌, sym}
-use native.Mathlib.Omega.{arith}
-use lib.ListN.{length-replicate}
-use lib.Seq.{length-take-le}
+use mathlib.Core.Path.{◌≡◌, sym, ap, ◌∙◌}
+use Rattle.std.proofs.Common.{Some}
+use Rattle.std.specs.Prelude.{is_some}
 use Rattle.data_model.specs.Path.{components}
 use Rattle.tree.proofs.FormedLaws.{formed-bounds}
-use Rattle.store.specs.Store.{limit_most}
-use Rattle.available.proofs.Arrived.{stands-marked}
+use Rattle.store.specs.Forget.{digest_in}
+use Rattle.store.proofs.ForgetLaws.{first-inside}
+use Rattle.available.proofs.Arrived.{stands-placed}
 use Rattle.available.proofs.RefusalLaws.{refuses-absent, refuses-digest, refuses-length, refuses-nothing}
 use Rattle.available.proofs.entry_place.Goals as goal
 
-pub slice_bounds-first_marked-end : goal.slice_bounds-first_marked-end
-slice_bounds-first_marked-end c = let g = c.mark_at in sym (length-take-le c.args.count g.new.marks (omega (arith, c.requires.1, g.auto.marks, length-replicate {A = ℕ} limit_most 0)))
+pub returns-in_default-clause-refusal_value : goal.returns-in_default-clause-refusal_value
+returns-in_default-clause-refusal_value c =
+    refuses-absent c.requires.0 c.args.namespace c.args.subspace (components c.args.path) (is_some c.args.expected) (digest_in c.args.expected) c.args.n (c.in_default.ensures c.args.namespace)
 
-pub returns-then-count-place : goal.returns-then-count-place
-returns-then-count-place c = let m = c.mark_at in let f = c.first_marked-place in record { refusal_value = refuses-absent c.requires.0 c.args.namespace c.args.subspace (components c.args.path) c.args.expects c.args.expected_digest c.args.n _ _ (m.ensures c.args.namespace) f.result f.ensures c.if-count-place.true; stands_first = λ z. absurd (let y : ◌≡◌ {A = ℕ} 11 0 = z in omega arith) }
+pub stored_at-requires : goal.stored_at-requires
+stored_at-requires c = formed-bounds c.requires.0 _ (first-inside c.requires.0 c.args.namespace c.args.subspace (components c.args.path) c.in-Some.place (c.in-Some.ensures c.args.namespace))
 
-pub stored_at-a-requires : goal.stored_at-a-requires
-stored_at-a-requires c = formed-bounds c.requires.0 _ c.if-count-place.false
+pub returns-then-is_other-clause-refusal_value : goal.returns-then-is_other-clause-refusal_value
+returns-then-is_other-clause-refusal_value c =
+    let a = c.stored_at in
+    refuses-digest c.requires.0 c.args.namespace c.args.subspace (components c.args.path) (is_some c.args.expected) (digest_in c.args.expected) c.args.n c.in-Some.place (c.in-Some.ensures c.args.namespace) c.requires.3 a.result a.ensures.path_value.1
+    _ c.is_other.ensures c.if-is_other.true
 
-pub returns-then-is_other : goal.returns-then-is_other
-returns-then-is_other c = let m = c.mark_at in let f = c.first_marked-place in let a = c.stored_at-a in record { refusal_value = refuses-digest c.requires.0 c.args.namespace c.args.subspace (components c.args.path) c.args.expects c.args.expected_digest c.args.n _ _ (m.ensures c.args.namespace) f.result f.ensures c.requires.3 c.if-count-place.false a.result a.ensures.path_value.1 _ c.is_other.ensures c.if-is_other.true; stands_first = λ z. absurd (let y : ◌≡◌ {A = ℕ} 9 0 = z in omega arith) }
+pub returns-then-e-n-clause-refusal_value : goal.returns-then-e-n-clause-refusal_value
+returns-then-e-n-clause-refusal_value c =
+    let a = c.stored_at in
+    refuses-length c.requires.0 c.args.namespace c.args.subspace (components c.args.path) (is_some c.args.expected) (digest_in c.args.expected) c.args.n c.in-Some.place (c.in-Some.ensures c.args.namespace) c.requires.3 a.result a.ensures.path_value.1
+    _ c.is_other.ensures c.if-is_other.false c.if-e-n.true
 
-pub returns-then-e-n : goal.returns-then-e-n
-returns-then-e-n c = let m = c.mark_at in let f = c.first_marked-place in let a = c.stored_at-a in record { refusal_value = refuses-length c.requires.0 c.args.namespace c.args.subspace (components c.args.path) c.args.expects c.args.expected_digest c.args.n _ _ (m.ensures c.args.namespace) f.result f.ensures c.requires.3 c.if-count-place.false a.result a.ensures.path_value.1 _ c.is_other.ensures c.if-is_other.false (omega (arith, c.if-e-n.true)); stands_first = λ z. absurd (let y : ◌≡◌ {A = ℕ} 12 0 = z in omega arith) }
+pub returns-clause-refusal_value : goal.returns-clause-refusal_value
+returns-clause-refusal_value c =
+    let a = c.stored_at in
+    refuses-nothing c.requires.0 c.args.namespace c.args.subspace (components c.args.path) (is_some c.args.expected) (digest_in c.args.expected) c.args.n c.in-Some.place (c.in-Some.ensures c.args.namespace) c.requires.3 a.result a.ensures.path_value.1
+    _ c.is_other.ensures c.if-is_other.false c.if-e-n.false
 
-pub returns : goal.returns
-returns c = let m = c.mark_at in let f = c.first_marked-place in let a = c.stored_at-a in record { refusal_value = refuses-nothing c.requires.0 c.args.namespace c.args.subspace (components c.args.path) c.args.expects c.args.expected_digest c.args.n _ _ (m.ensures c.args.namespace) f.result f.ensures c.requires.3 c.if-count-place.false a.result a.ensures.path_value.1 _ c.is_other.ensures c.if-is_other.false (omega (arith, c.if-e-n.false)); stands_first = λ z. stands-marked c.requires.0 c.args.namespace c.args.subspace (components c.args.path) _ _ (m.ensures c.args.namespace) f.result f.ensures c.if-count-place.false }
+pub returns-clause-stands_first : goal.returns-clause-stands_first
+returns-clause-stands_first c = λ k e.
+    let f : c.in-Some.place ≡ k = cc in
+    stands-placed c.requires.0 c.args.namespace c.args.subspace (components c.args.path) k (ap Some (sym f) ∙ c.in-Some.ensures c.args.namespace)

@@ -6,4 +6,4 @@ pub returns : goal.returns
 unfolding stepped_says stepped
 returns c =
     let e = c.next_component-component.ensures in
-    cc (e.0, e.1, e.2, c.position-position.ensures, c.rest-left.ensures.0)
+    cc (e.0, e.1, e.2, c.position.ensures, c.rest.ensures.0)

@@ -23,4 +23,4 @@ pub returns : goal.returns
 returns c =
     let l = c.loop-k in
     let n : length c.args.pairs ≡ 1024 = search rules in
-    (refl, numbers-all c.args.pairs (replicate 2048 0) l.numbers l.k l.invariant.2 (omega (arith, length-replicate {A = ℕ} 2048 0)) (omega arith), c.pruned_count-count.ensures)
+    (refl, numbers-all c.args.pairs (replicate 2048 0) l.numbers l.k l.invariant.2 (omega (arith, length-replicate {A = ℕ} 2048 0)) (omega arith))

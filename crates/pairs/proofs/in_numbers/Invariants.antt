@@ -8,6 +8,3 @@ use Rattle.pairs.proofs.in_numbers.Given as goal
 
 abbrev pub invariant-loop-k : goal.invariant-loop-k
 invariant-loop-k l = (l.k ≤ 1024) × (length l.numbers ≡ 2048) × (l.numbers ≡ put (numbers_of (take l.k l.pairs)) (replicate 2048 0))
-
-abbrev pub decreases-loop-k : goal.decreases-loop-k
-decreases-loop-k l = 1024 - l.k

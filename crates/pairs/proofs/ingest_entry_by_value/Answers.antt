@@ -6,4 +6,4 @@ pub returns : goal.returns
 returns c =
     let i = c.ingest_entry-ingested in
     let n = c.in_numbers in
-    (rw (n.ensures.0, n.ensures.1, pairs-again) i.ensures, n.ensures.2)
+    rw (n.ensures.0, n.ensures.1, pairs-again) i.ensures

@@ -11,4 +11,4 @@ pub slice_bounds-ingest_entry_numbers-end : goal.slice_bounds-ingest_entry_numbe
 slice_bounds-ingest_entry_numbers-end c = sym (length-take-le _ (replicate 2048 0) (omega (arith, length-replicate {A = ℕ} 2048 0)))
 
 pub returns : goal.returns
-returns c = let n = c.numbers_used-n.ensures in (with-front _ _ _ _ _ _ _ _ _ _ _ n.0 n.1 c.numbers-2-1.given c.ingest_entry_numbers-ingested.ensures, c.pruned_count-count.ensures)
+returns c = let n = c.numbers_used-n.ensures in with-front _ _ _ _ _ _ _ _ _ _ _ n.0 n.1 c.numbers-2-1.given c.ingest_entry_numbers-ingested.ensures

@@ -5,6 +5,3 @@ use Rattle.pairs.proofs.write_pairs.Given as goal
 
 abbrev pub invariant-loop-k : goal.invariant-loop-k
 invariant-loop-k l = (l.k ≤ l.n) × (l.pairs ≡ pairs_into l.numbers l.initial.pairs l.k)
-
-abbrev pub decreases-loop-k : goal.decreases-loop-k
-decreases-loop-k l = l.n - l.k

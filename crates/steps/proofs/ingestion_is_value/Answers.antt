@@ -19,5 +19,5 @@ returns c =
       payload = search rules;
       digest = search rules;
       token = search rules;
-      session = c.session_is_number-number.ensures;
+      session = c.session_is_number.ensures;
     })

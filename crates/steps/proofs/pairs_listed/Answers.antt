@@ -3,4 +3,4 @@ use Rattle.call_laws.proofs.Links.{pairs-listed}
 use Rattle.steps.proofs.pairs_listed.Goals as goal
 
 pub returns : goal.returns
-returns c = pairs-listed _ _ _ _ _ _ _ _ _ _ _ _ _ _ _ c.ingest_entry_by_value.ensures.0
+returns c = pairs-listed _ _ _ _ _ _ _ _ _ _ _ _ _ _ _ c.ingest_entry_by_value.ensures

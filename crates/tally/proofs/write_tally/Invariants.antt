@@ -7,7 +7,7 @@ use Rattle.tally.proofs.TallyBytes.{TallyWrote}
 use Rattle.tally.proofs.write_tally.Given as goal
 
 abbrev pub invariant-loop-k : goal.invariant-loop-k
-invariant-loop-k l = (l.k ≤ l.count) × (l.at + item_length * (l.count - l.k) ≤ length l.tally) × (length l.tally ≡ length l.initial.tally) × TallyWrote l.count l.dir l.tree l.initial.tally l.tally l.k l.at
+invariant-loop-k l = (l.k ≤ l.tree.count) × (l.at + item_length * (l.tree.count - l.k) ≤ length l.tally) × (length l.tally ≡ length l.initial.tally) × TallyWrote l.tree.count l.tree.dir.now l.tree.bytes.now l.initial.tally l.tally l.k l.at
 
 abbrev pub decreases-loop-k : goal.decreases-loop-k
-decreases-loop-k l = l.count - l.k
+decreases-loop-k l = l.tree.count - l.k

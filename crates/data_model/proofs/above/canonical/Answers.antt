@@ -17,15 +17,15 @@ p-bytes c = search rules
 p-ends : (c : Start) → length c.args.p.ends ≡ 8
 p-ends c = search rules
 
-pub start-total-requires : goal.start-total-requires
-start-total-requires c = omega (arith, p-ends (goal.at.start-total-requires c).Start, legal-count field c.args.p c.requires)
+pub start-requires : goal.start-requires
+start-requires c = omega (arith, p-ends (goal.at.start-requires c).Start, legal-count field c.args.p c.requires)
 
 pub front-requires : goal.front-requires
-front-requires c = (legal-count field c.args.p c.requires, omega (arith, c.start-total.ensures, (last_within _ _ 0 _ (legal-these field c.args.p c.requires)).1))
+front-requires c = (legal-count field c.args.p c.requires, omega (arith, c.start.ensures, (last_within _ _ 0 _ (legal-these field c.args.p c.requires)).1))
 
 pub returns : goal.returns
 returns c =
     let a = c.args in
     c.front.ensures
-    ∙ ap (λ (n : ℕ). value_of (take n a.p.bytes) (take a.p.count a.p.ends) a.p.count) c.start-total.ensures
+    ∙ ap (λ (n : ℕ). value_of (take n a.p.bytes) (take a.p.count a.p.ends) a.p.count) c.start.ensures
     ∙ canonical-value a.p (omega (arith, p-bytes (goal.at.returns c).Start)) (omega (arith, p-ends (goal.at.returns c).Start, legal-count field a.p c.requires)) c.requires

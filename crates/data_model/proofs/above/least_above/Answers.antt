@@ -18,31 +18,30 @@ few c =
     components-length c.args.p (omega (arith, legal-count field c.args.p c.requires))
 
 pub loop-i-init : goal.loop-i-init
-loop-i-init c = (omega (arith, few c), above-begins field (components c.args.p) c.args.p.count (omega (arith, few c)))
+loop-i-init c = above-begins field (components c.args.p) c.args.p.count (omega (arith, few c))
 
-pub raised_at-a-requires : goal.raised_at-a-requires
-raised_at-a-requires c = (c.requires, omega (arith, few (goal.at.raised_at-a-requires c).Start))
-
-pub returns-then-found : goal.returns-then-found
-returns-then-found c =
+pub returns-in-Some : goal.returns-in-Some
+returns-in-Some c =
     let l = c.loop-i in
     let cs = components c.args.p in
     let e : l.i - 1 + 1 ≡ l.i = omega arith in
-    let h : above_from field cs (l.i - 1 + 1) ≡ none = ap (λ (n : ℕ). above_from field cs n) e ∙ l.invariant.1 in
-    let r = found_some _ _ c.raised_at-a.ensures c.if-found.true in
-    c.raised_at-a.ensures ∙ ap above_found (r.1 ∙ sym (above-here field cs (l.i - 1) (omega arith) h r.0 r.1))
+    let h : above_from field cs (l.i - 1 + 1) ≡ none = ap (λ (n : ℕ). above_from field cs n) e ∙ l.invariant in
+    let s = sym c.in-Some.is ∙ c.raised_at.ensures in
+    let r = found_some _ _ s in
+    s ∙ ap above_found (r.1 ∙ sym (above-here field cs (l.i - 1) (omega (arith, few (goal.at.returns-in-Some c).Start)) h r.0 r.1))
 
 pub loop-i-preserved : goal.loop-i-preserved
 loop-i-preserved c =
     let l = c.loop-i in
     let cs = components c.args.p in
     let e : l.i - 1 + 1 ≡ l.i = omega arith in
-    let h : above_from field cs (l.i - 1 + 1) ≡ none = ap (λ (n : ℕ). above_from field cs n) e ∙ l.invariant.1 in
-    (omega arith, above-next field cs (l.i - 1) (omega arith) h (found_none _ _ c.raised_at-a.ensures c.if-found.false))
+    let h : above_from field cs (l.i - 1 + 1) ≡ none = ap (λ (n : ℕ). above_from field cs n) e ∙ l.invariant in
+    above-next field cs (l.i - 1) (omega (arith, few (goal.at.loop-i-preserved c).Start)) h (found_none _ (sym c.in_default.is ∙ c.raised_at.ensures))
 
 pub returns : goal.returns
+unfolding above_found
 returns c =
     let l = c.loop-i in
     let cs = components c.args.p in
     let e : l.i ≡ 0 = omega arith in
-    c.none_above.ensures ∙ ap above_found (sym (above-ends field cs (ap (λ (n : ℕ). above_from field cs n) (sym e) ∙ l.invariant.1)))
+    ap above_found (sym (above-ends field cs (ap (λ (n : ℕ). above_from field cs n) (sym e) ∙ l.invariant)))

@@ -1,14 +1,9 @@
 -- `least_above` meets its contract: no component from i on can be replaced. Assumes nothing.
-use Prim.Native.Nat.{◌≤◌}
 use mathlib.Core.Path.{◌≡◌}
 use mathlib.Core.Option.{none}
-use lib.ListN.{length}
 use Rattle.data_model.specs.Path.{field, components}
 use Rattle.data_model.proofs.Raise.{above_from}
 use Rattle.data_model.proofs.above.least_above.Given as goal
 
 abbrev pub invariant-loop-i : goal.invariant-loop-i
-invariant-loop-i l = (l.i ≤ length (components l.p)) × (above_from field (components l.p) l.i ≡ none)
-
-abbrev pub decreases-loop-i : goal.decreases-loop-i
-decreases-loop-i l = l.i
+invariant-loop-i l = above_from field (components l.p) l.i ≡ none

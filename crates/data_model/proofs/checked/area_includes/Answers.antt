@@ -1,22 +1,25 @@
 -- `area_includes` meets its contract. Assumes nothing.
 use mathlib.Core.Path.{sym, ◌∙◌}
-use Rattle.laws.proofs.Truth.{not-true, not-false}
-use Rattle.data_model.specs.Path.{components, is_prefix}
+use Rattle.laws.proofs.Truth.{clash}
 use Rattle.data_model.specs.Area.{area_includes}
-use Rattle.data_model.proofs.RangeLaws.{and-last-false, and-last-true}
+use Rattle.data_model.proofs.Derived.{times_included}
+use Rattle.data_model.proofs.RangeLaws.{not_first, not_last, by_middle}
 use Rattle.data_model.proofs.checked.area_includes.Goals as goal
+use Rattle.data_model.proofs.checked.area_includes.Goals.{then-includes, else-includes}
 
-pub returns-then-not-includes : goal.returns-then-not-includes
+pub returns-then-includes-2 : goal.returns-then-includes-2
 unfolding area_includes
-returns-then-not-includes c = rw (sym c.includes.ensures ∙ not-true _ c.if-not-includes.true-raw)
+returns-then-includes-2 c =
+    elim c.if-includes.branch [
+      | then-includes w ↦ c.is_prefix_of.ensures ∙ by_middle _ _ _ (sym c.includes.ensures ∙ w.if-includes.true) (sym (w.includes-then-includes.ensures ∙ times_included _ _) ∙ sym w.value-is ∙ c.if-includes-2.true)
+      | else-includes w ↦ clash c.if-includes-2.true (w.value-is ∙ w.if-includes.false)
+    ]
 
-pub returns-then-not-includes-2 : goal.returns-then-not-includes-2
+pub returns-else-includes-2 : goal.returns-else-includes-2
 unfolding area_includes
-returns-then-not-includes-2 c = rw (sym c.includes.ensures ∙ not-false _ c.if-not-includes.false-raw) (and-last-false (is_prefix (components c.args.area.path) (components c.args.path)) _ (sym c.includes-2.ensures ∙ not-true _ c.if-not-includes-2.true-raw))
-
-pub is_prefix_of-requires : goal.is_prefix_of-requires
-is_prefix_of-requires c = c.requires
-
-pub returns : goal.returns
-unfolding area_includes
-returns c = rw (sym c.includes.ensures ∙ not-false _ c.if-not-includes.false-raw) (c.is_prefix_of.ensures ∙ and-last-true _ _ (sym c.includes-2.ensures ∙ not-false _ c.if-not-includes-2.false-raw))
+returns-else-includes-2 c =
+    c.if-includes-2.false
+    ∙ elim c.if-includes.branch [
+      | then-includes w ↦ not_last _ _ _ (sym (w.includes-then-includes.ensures ∙ times_included _ _) ∙ sym w.value-is ∙ c.if-includes-2.false)
+      | else-includes w ↦ not_first _ _ (sym c.includes.ensures ∙ w.if-includes.false)
+    ]

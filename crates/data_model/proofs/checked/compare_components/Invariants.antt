@@ -1,11 +1,6 @@
 -- `compare_components` meets its contract: what is left of both compares as the whole does. Assumes nothing.
-use Prim.Native.Nat.{◌-◌}
-use lib.ListN.{length}
 use Rattle.data_model.proofs.Compare.{Comparing}
 use Rattle.data_model.proofs.checked.compare_components.Given as goal
 
 abbrev pub invariant-loop-i : goal.invariant-loop-i
 invariant-loop-i l = Comparing l.a l.a_ends l.b l.b_ends l.i l.a_from l.b_from
-
-abbrev pub decreases-loop-i : goal.decreases-loop-i
-decreases-loop-i l = length l.a_ends - l.i

@@ -2,11 +2,12 @@
 use Prim.Native.Nat.{◌≤◌}
 use mathlib.Core.Path.{◌≡◌, sym, ap, ◌∙◌}
 use native.Mathlib.Omega.{arith}
+use borrow.Author.Tests.{lt-leb}
 use lib.ListN.{length}
-use lib.Seq.{length-take-le}
+use Rattle.laws.specs.Order.{is_same}
 use Rattle.data_model.specs.Path.{field, components}
 use Rattle.data_model.proofs.Values.{legal-count, legal-within, ends-take}
-use Rattle.laws.specs.Order.{is_same}
+use Rattle.data_model.proofs.Derived.{tested_same}
 use Rattle.data_model.proofs.Compare.{prefix-longer, prefix-cut}
 use borrow.Author.Rules.{rules}
 use Rattle.data_model.proofs.checked.is_prefix_of.Goals as goal
@@ -19,43 +20,36 @@ p-bytes c = search rules
 q-bytes : (c : Start) → length c.args.q.bytes ≡ 128
 q-bytes c = search rules
 
-p-ends : (c : Start) → length c.args.p.ends ≡ 8
-p-ends c = search rules
-
-q-ends : (c : Start) → length c.args.q.ends ≡ 8
-q-ends c = search rules
-
 p-few : (c : Start) → c.args.p.count ≤ length c.args.p.ends
-p-few c = omega (arith, p-ends c, legal-count field c.args.p c.requires.0)
+p-few c =
+    let n : length c.args.p.ends ≡ 8 = search rules in
+    omega (arith, legal-count field c.args.p c.requires.0)
 
 q-few : (c : Start) → c.args.q.count ≤ length c.args.q.ends
-q-few c = omega (arith, q-ends c, legal-count field c.args.q c.requires.1)
+q-few c =
+    let n : length c.args.q.ends ≡ 8 = search rules in
+    omega (arith, legal-count field c.args.q c.requires.1)
 
-pub returns-then-q-m : goal.returns-then-q-m
-returns-then-q-m c = sym (prefix-longer _ _ (p-few (goal.at.returns-then-q-m c).Start) (q-few (goal.at.returns-then-q-m c).Start) c.if-q-m.true)
-
-pub slice_bounds-p_ends-end : goal.slice_bounds-p_ends-end
-slice_bounds-p_ends-end c = p-few (goal.at.slice_bounds-p_ends-end c).Start
-
-pub slice_bounds-compare_components-end-2 : goal.slice_bounds-compare_components-end-2
-slice_bounds-compare_components-end-2 c = sym (length-take-le _ c.args.p.ends (p-few (goal.at.slice_bounds-compare_components-end-2 c).Start))
-
-pub slice_bounds-q_ends-end : goal.slice_bounds-q_ends-end
-slice_bounds-q_ends-end c = omega (arith, q-few (goal.at.slice_bounds-q_ends-end c).Start, c.if-q-m.false)
-
-pub slice_bounds-compare_components-end-4 : goal.slice_bounds-compare_components-end-4
-slice_bounds-compare_components-end-4 c = sym (length-take-le _ c.args.q.ends (omega (arith, q-few (goal.at.slice_bounds-compare_components-end-4 c).Start, c.if-q-m.false)))
+pub shared_ref_as_front-compare_components : goal.shared_ref_as_front-compare_components
+shared_ref_as_front-compare_components c = legal-count field c.args.p c.requires.0
 
 pub compare_components-requires : goal.compare_components-requires
-compare_components-requires c = (
-  legal-within field _ c.requires.0 (omega (arith, p-bytes (goal.at.compare_components-requires c).Start)) (omega (arith, p-bytes (goal.at.compare_components-requires c).Start)),
-  ends-take _ _ 0 c.args.p.count c.args.q.count c.args.q.ends c.if-q-m.false
-      (legal-within field _ c.requires.1 (omega (arith, q-bytes (goal.at.compare_components-requires c).Start)) (omega (arith, q-bytes (goal.at.compare_components-requires c).Start))),
-)
+compare_components-requires c =
+    let s = (goal.at.compare_components-requires c).Start in (
+      legal-within field _ c.requires.0 (omega (arith, p-bytes s)) (omega (arith, p-bytes s)),
+      ends-take _ _ 0 c.args.p.count c.args.q.count c.args.q.ends (omega arith) (legal-within field _ c.requires.1 (omega (arith, q-bytes s)) (omega (arith, q-bytes s))),
+    )
 
-pub returns : goal.returns
+pub returns-then-p-q : goal.returns-then-p-q
 unfolding components
-returns c =
-    c.is_equal.ensures
+returns-then-p-q c =
+    let s = (goal.at.returns-then-p-q c).Start in
+    c.eq.ensures
+    ∙ tested_same c.compare_components.result
     ∙ ap is_same c.compare_components.ensures
-    ∙ sym (prefix-cut c.args.p c.args.q (p-few (goal.at.returns c).Start) (q-few (goal.at.returns c).Start) c.if-q-m.false)
+    ∙ sym (prefix-cut c.args.p c.args.q (p-few s) (q-few s) (omega arith))
+
+pub returns-else-p-q : goal.returns-else-p-q
+returns-else-p-q c =
+    let s = (goal.at.returns-else-p-q c).Start in
+    lt-leb _ _ (omega arith) ∙ sym (prefix-longer c.args.p c.args.q (p-few s) (q-few s) (omega arith))

@@ -1,21 +1,20 @@
 -- `decode_tsp_entry_key_at` meets its contract. Assumes nothing.
-use mathlib.Core.Path.{sym, ap, ◌∙◌}
-use mathlib.Core.List.{List}
-use Prim.Native.Nat.{ℕ}
+use Prim.Native.Nat.{◌<◌}
+use mathlib.Core.Path.{◌≡◌, ◌∙◌}
 use native.Mathlib.Omega.{arith}
 use lib.ListN.{length, drop, length-drop}
-use Rattle.data_model.specs.Path.{field}
-use Rattle.keys.specs.Decode.{read_tsp, decoded}
-use Rattle.keys.proofs.Reading.{rest}
-use Rattle.keys.proofs.Decoding.{whole-short}
+use Rattle.std.proofs.Common.{rules}
+use Rattle.data_model.specs.Said.{refuses}
+use Rattle.data_model.specs.Refusal.{said, no_key}
+use Rattle.keys.specs.Decode.{read_tsp}
+use Rattle.keys.proofs.Decoding.{whole-short, decoded-refused}
 use Rattle.keys.proofs.decode.decode_tsp_entry_key_at.Goals as goal
 
-pub returns-then-key-at : goal.returns-then-key-at
+pub returns-in_err-ok_or : goal.returns-in_err-ok_or
 unfolding read_tsp
-returns-then-key-at c =
+returns-in_err-ok_or c =
     let k = c.args.key.now in
     let n = c.args.at in
-    c.refused_key.ensures ∙ ap decoded (sym (whole-short 24 0 (length (drop n k)) _ _ (omega (arith, length-drop n k))))
-
-pub returns : goal.returns
-returns c = c.decode_tsp_entry_key.ensures ∙ ap (λ (k : List ℕ). decoded (read_tsp field k)) (rest c.args.key.now c.args.at)
+    let s : said c.from_residual.result ≡ refuses no_key = search rules in
+    let h : length k < n = search rules in
+    s ∙ decoded-refused _ (whole-short 24 0 (length (drop n k)) _ _ (omega (arith, length-drop n k)))

@@ -4,8 +4,8 @@ use lib.ListN.{length}
 use Rattle.keys.proofs.Reading.{Reading}
 use Rattle.keys.proofs.decode.read_component.Given as goal
 
-abbrev pub invariant-loop-at : goal.invariant-loop-at
-invariant-loop-at l = Reading l.lim l.k l.initial.bytes l.bytes l.at l.n
+abbrev pub invariant-loop-b : goal.invariant-loop-b
+invariant-loop-b l = Reading l.lim l.k l.initial.bytes l.bytes l.at l.n
 
-abbrev pub decreases-loop-at : goal.decreases-loop-at
-decreases-loop-at l = length l.k - l.at
+abbrev pub decreases-loop-b : goal.decreases-loop-b
+decreases-loop-b l = length l.k - l.at

@@ -8,38 +8,37 @@ use Rattle.laws.proofs.Lists.{wrote_none, wrote-lent, wrote-all, wrote-length}
 use Rattle.keys.proofs.Encoding.{component-at, component-done, escaped-most}
 use Rattle.keys.proofs.encode.encode_component.Goals as goal
 
-pub loop-i-init : goal.loop-i-init
-loop-i-init c = (omega arith, omega arith, wrote_none _ _)
+pub loop-b-init : goal.loop-b-init
+loop-b-init c = (omega arith, wrote_none _ _)
 
 pub overflow_add-at : goal.overflow_add-at
 overflow_add-at c =
-    let l = c.loop-i in
+    let l = c.loop-b in
     let s = c.args.c.now in
     let e = c.encode_byte-at in
-    omega (arith, e.ensures.0, escaped-most (get_or s l.i 0))
+    omega (arith, e.ensures.0, escaped-most (get_or s l.b-index 0))
 
-pub loop-i-preserved : goal.loop-i-preserved
-loop-i-preserved c =
-    let l = c.loop-i in
+pub loop-b-preserved : goal.loop-b-preserved
+loop-b-preserved c =
+    let l = c.loop-b in
     let s = c.args.c.now in
     let e = c.encode_byte-at in (
-      omega arith,
-      omega (arith, e.ensures.0, escaped-most (get_or s l.i 0)),
-      wrote-lent _ (escaped (get_or s l.i 0)) (component_key (drop (l.i + 1) s)) _ l.out _ l.at e.result
-          (rw (component-at s l.i (omega arith)) at l.invariant.2)
-          (omega (arith, e.ensures.0, escaped-most (get_or s l.i 0), l.invariant.2.size))
+      omega (arith, e.ensures.0, escaped-most (get_or s l.b-index 0)),
+      wrote-lent _ (escaped (get_or s l.b-index 0)) (component_key (drop (l.b-index + 1) s)) _ l.out _ l.at e.result
+          (rw (component-at s l.b-index (omega arith)) at l.invariant.1)
+          (omega (arith, e.ensures.0, escaped-most (get_or s l.b-index 0), l.invariant.1.size))
           e.ensures.0
           e.ensures.1,
     )
 
 pub returns : goal.returns
 returns c =
-    let l = c.loop-i in
+    let l = c.loop-b in
     let a = c.args in
     let e = c.write_mark in
     let d = wrote-lent (component_key a.c.now) (component_end) [] a.out.now l.out _ l.at e.result
-    (rw (component-done a.c.now l.i (omega arith)) at l.invariant.2)
-    (omega (arith, e.ensures.0, l.invariant.2.size))
+    (rw (component-done a.c.now l.b-index (omega arith)) at l.invariant.1)
+    (omega (arith, e.ensures.0, l.invariant.1.size))
     e.ensures.0
     e.ensures.1 in
     (wrote-length _ _ _ _ d, wrote-all _ _ _ _ d)

@@ -11,84 +11,83 @@ use Rattle.data_model.proofs.Values.{next-end, NextEnd, length-piece, ends-top}
 use Rattle.laws.specs.Lists.{piece}
 use Rattle.keys.proofs.Encoding.{path-at, path-done, component-most}
 use Rattle.keys.proofs.encode.encode_components.Goals as goal
-use Rattle.keys.proofs.encode.encode_components.Goals.{In-loop-i}
+use Rattle.keys.proofs.encode.encode_components.Goals.{In-loop-end}
 
 -- In a turn: the end that it reads is within the bytes, and not below the last one.
-next : (c : In-loop-i)
-    → NextEnd (length c.args.bytes.now) (length c.args.bytes.now) c.loop-i.from c.loop-i.i c.args.ends.now
+next : (c : In-loop-end)
+    → NextEnd (length c.args.bytes.now) (length c.args.bytes.now) c.loop-end.from c.loop-end.end-index c.args.ends.now
 next c =
     let a = c.args in
-    next-end (length a.bytes.now) (length a.bytes.now) c.loop-i.from c.loop-i.i a.ends.now (omega arith) c.loop-i.invariant.2
+    next-end (length a.bytes.now) (length a.bytes.now) c.loop-end.from c.loop-end.end-index a.ends.now (omega arith) c.loop-end.invariant.1
 
 -- The component that a turn writes is at most twice its length and its mark.
-long : (c : In-loop-i) → let a = c.args in let e = get_or a.ends.now c.loop-i.i 0 in
-    length (component_key (piece c.loop-i.from e a.bytes.now)) ≤ 2 * (e - c.loop-i.from) + 2
+long : (c : In-loop-end) → let a = c.args in let e = get_or a.ends.now c.loop-end.end-index 0 in
+    length (component_key (piece c.loop-end.from e a.bytes.now)) ≤ 2 * (e - c.loop-end.from) + 2
 long c =
     let a = c.args in
-    let e = get_or a.ends.now c.loop-i.i 0 in
-    let x = piece c.loop-i.from e a.bytes.now in
-    omega (arith, component-most x, length-piece c.loop-i.from e a.bytes.now (next c).low)
+    let e = get_or a.ends.now c.loop-end.end-index 0 in
+    let x = piece c.loop-end.from e a.bytes.now in
+    omega (arith, component-most x, length-piece c.loop-end.from e a.bytes.now (next c).low)
 
-pub loop-i-init : goal.loop-i-init
-loop-i-init c = (omega arith, omega arith, c.requires.0, wrote_none _ _)
+pub loop-end-init : goal.loop-end-init
+loop-end-init c = (omega arith, c.requires.0, wrote_none _ _)
 
 pub slice_bounds-encode_component-count : goal.slice_bounds-encode_component-count
-slice_bounds-encode_component-count c = (next (goal.at.slice_bounds-encode_component-count c).In-loop-i).up
+slice_bounds-encode_component-count c = (next (goal.at.slice_bounds-encode_component-count c).In-loop-end).up
 
 pub slice_bounds-encode_component-start : goal.slice_bounds-encode_component-start
-slice_bounds-encode_component-start c = (next (goal.at.slice_bounds-encode_component-start c).In-loop-i).up
+slice_bounds-encode_component-start c = (next (goal.at.slice_bounds-encode_component-start c).In-loop-end).up
 
 pub slice_bounds-encode_component-end : goal.slice_bounds-encode_component-end
-slice_bounds-encode_component-end c = (next (goal.at.slice_bounds-encode_component-end c).In-loop-i).low
+slice_bounds-encode_component-end c = (next (goal.at.slice_bounds-encode_component-end c).In-loop-end).low
 
-pub slice_bounds-encode_component-count-in-loop-i : goal.slice_bounds-encode_component-count-in-loop-i
-slice_bounds-encode_component-count-in-loop-i c = c.loop-i.invariant.3.room
+pub slice_bounds-encode_component-count-in-loop-end : goal.slice_bounds-encode_component-count-in-loop-end
+slice_bounds-encode_component-count-in-loop-end c = c.loop-end.invariant.2.room
 
 pub encode_component-at-requires : goal.encode_component-at-requires
 encode_component-at-requires c =
-    let l = c.loop-i in
+    let l = c.loop-end in
     let a = c.args in
-    let n = next (goal.at.encode_component-at-requires c).In-loop-i in
-    simp (length-piece l.from (get_or a.ends.now l.i 0) a.bytes.now n.low, length-piece l.at (length l.out) l.out (le_refl (length l.out)))
-    (omega (arith, n.up, n.low, l.invariant.3.size, c.requires.1))
+    let n = next (goal.at.encode_component-at-requires c).In-loop-end in
+    simp (length-piece l.from (get_or a.ends.now l.end-index 0) a.bytes.now n.low, length-piece l.at (length l.out) l.out (le_refl (length l.out)))
+    (omega (arith, n.up, n.low, l.invariant.2.size, c.requires.1))
 
 pub overflow_add-at : goal.overflow_add-at
 overflow_add-at c =
     let e = c.encode_component-at in
-    omega (arith, e.ensures.0, long (goal.at.overflow_add-at c).In-loop-i, (next (goal.at.overflow_add-at c).In-loop-i).up, (next (goal.at.overflow_add-at c).In-loop-i).low, c.loop-i.invariant.1, c.requires.1)
+    omega (arith, e.ensures.0, long (goal.at.overflow_add-at c).In-loop-end, (next (goal.at.overflow_add-at c).In-loop-end).up, (next (goal.at.overflow_add-at c).In-loop-end).low, c.loop-end.invariant.0, c.requires.1)
 
-pub loop-i-preserved : goal.loop-i-preserved
-loop-i-preserved c =
-    let l = c.loop-i in
+pub loop-end-preserved : goal.loop-end-preserved
+loop-end-preserved c =
+    let l = c.loop-end in
     let a = c.args in
     let e = c.encode_component-at in
-    let n = next (goal.at.loop-i-preserved c).In-loop-i in (
-      omega arith,
-      omega (arith, e.ensures.0, long (goal.at.loop-i-preserved c).In-loop-i, n.up),
+    let n = next (goal.at.loop-end-preserved c).In-loop-end in (
+      omega (arith, e.ensures.0, long (goal.at.loop-end-preserved c).In-loop-end, n.up),
       n.more,
-      wrote-lent _ (component_key (piece l.from (get_or a.ends.now l.i 0) a.bytes.now)) _ _ l.out _ l.at e.result
-          (rw (path-at a.bytes.now l.from l.i a.ends.now (omega arith)) at l.invariant.3)
-          (omega (arith, e.ensures.0, long (goal.at.loop-i-preserved c).In-loop-i, n.up, n.low, l.invariant.3.size, c.requires.1))
+      wrote-lent _ (component_key (piece l.from (get_or a.ends.now l.end-index 0) a.bytes.now)) _ _ l.out _ l.at e.result
+          (rw (path-at a.bytes.now l.from l.end-index a.ends.now (omega arith)) at l.invariant.2)
+          (omega (arith, e.ensures.0, long (goal.at.loop-end-preserved c).In-loop-end, n.up, n.low, l.invariant.2.size, c.requires.1))
           e.ensures.0
           e.ensures.1,
     )
 
 pub write_mark-requires : goal.write_mark-requires
 write_mark-requires c =
-    let l = c.loop-i in
-    let top = ends-top _ _ _ _ l.invariant.2 in
+    let l = c.loop-end in
+    let top = ends-top _ _ _ _ l.invariant.1 in
     simp (length-piece l.at (length l.out) l.out (le_refl (length l.out)))
-    (omega (arith, top, l.invariant.3.size))
+    (omega (arith, top, l.invariant.2.size))
 
 pub returns : goal.returns
 returns c =
-    let l = c.loop-i in
+    let l = c.loop-end in
     let a = c.args in
     let e = c.write_mark in
-    let top = ends-top _ _ _ _ l.invariant.2 in
+    let top = ends-top _ _ _ _ l.invariant.1 in
     let d = wrote-lent (path_key (cut a.bytes.now 0 a.ends.now)) (path_end) [] a.out.now l.out _ l.at e.result
-    (rw (path-done a.bytes.now l.from l.i a.ends.now (omega arith)) at l.invariant.3)
-    (omega (arith, e.ensures.0, l.invariant.3.size, top, c.requires.1))
+    (rw (path-done a.bytes.now l.from l.end-index a.ends.now (omega arith)) at l.invariant.2)
+    (omega (arith, e.ensures.0, l.invariant.2.size, top, c.requires.1))
     e.ensures.0
     e.ensures.1 in
     (wrote-length _ _ _ _ d, wrote-all _ _ _ _ d)

@@ -1,5 +1,5 @@
 -- `encode_components` meets its contract. The invariant: what is written so far, with the key of the components left, is the path's key. Assumes nothing.
-use Prim.Native.Nat.{◌≤◌, ◌*◌, ◌-◌, ◌+◌}
+use Prim.Native.Nat.{◌≤◌, ◌*◌, ◌+◌}
 use mathlib.Core.Path.{◌≡◌}
 use mathlib.Core.Bool.{true}
 use lib.ListN.{length, drop}
@@ -8,12 +8,8 @@ use Rattle.keys.specs.Encode.{path_key}
 use Rattle.laws.proofs.Lists.{Wrote}
 use Rattle.keys.proofs.encode.encode_components.Given as goal
 
-abbrev pub invariant-loop-i : goal.invariant-loop-i
-invariant-loop-i l =
-    (l.i ≤ length l.ends)
-    × (l.at ≤ 2 * l.from + 2 * l.i)
-    × (legal_ends (length l.bytes) (length l.bytes) l.from (drop l.i l.ends) ≡ true)
-    × Wrote (path_key (cut l.bytes 0 l.ends)) (path_key (cut l.bytes l.from (drop l.i l.ends))) l.initial.out l.out l.at
-
-abbrev pub decreases-loop-i : goal.decreases-loop-i
-decreases-loop-i l = length l.ends - l.i
+abbrev pub invariant-loop-end : goal.invariant-loop-end
+invariant-loop-end l =
+    (l.at ≤ 2 * l.from + 2 * l.end-index)
+    × (legal_ends (length l.bytes) (length l.bytes) l.from (drop l.end-index l.ends) ≡ true)
+    × Wrote (path_key (cut l.bytes 0 l.ends)) (path_key (cut l.bytes l.from (drop l.end-index l.ends))) l.initial.out l.out l.at

@@ -1,5 +1,5 @@
 -- `encode_path` meets its contract: its components are those that the ends that count cut. Assumes nothing.
-use mathlib.Core.Path.{◌≡◌, sym}
+use mathlib.Core.Path.{◌≡◌}
 use native.Mathlib.Omega.{arith}
 use lib.ListN.{length, take}
 use lib.Seq.{length-take-le}
@@ -8,15 +8,8 @@ use Rattle.data_model.proofs.Values.{legal-count, legal-these, ends-wider}
 use borrow.Author.Rules.{rules}
 use Rattle.keys.proofs.encode.encode_path.Goals as goal
 
-pub slice_bounds-ends-end : goal.slice_bounds-ends-end
-slice_bounds-ends-end c =
-    let n : length c.args.p.ends ≡ 8 = search rules in
-    omega (arith, legal-count field c.args.p c.requires.0)
-
-pub slice_bounds-encode_components-end-2 : goal.slice_bounds-encode_components-end-2
-slice_bounds-encode_components-end-2 c =
-    let n : length c.args.p.ends ≡ 8 = search rules in
-    sym (length-take-le c.args.p.count c.args.p.ends (omega (arith, legal-count field c.args.p c.requires.0)))
+pub shared_ref_as_front-encode_components : goal.shared_ref_as_front-encode_components
+shared_ref_as_front-encode_components c = omega (arith, legal-count field c.args.p c.requires.0)
 
 pub encode_components-requires : goal.encode_components-requires
 encode_components-requires c =

@@ -17,19 +17,19 @@ use Rattle.keys.proofs.encode.write_spt_key.Goals.{After-slice_known-3-1}
 
 -- The buffer after the path came back.
 abbrev mid : (c : After-slice_known-3-1) → List ℕ
-mid c = put_mid 16 (length c.write_subspace.new.out - 16) c.write_subspace.new.out c.encode_path-n.new.out
+mid c = put_mid 16 (length c.write_subspace-at.new.out - 16) c.write_subspace-at.new.out c.encode_path-at.new.out
 
-long : (c : After-slice_known-3-1) → c.encode_path-n.result ≤ 274
-long c = omega (arith, c.encode_path-n.ensures.0, legal-most field c.args.p c.requires.0)
+long : (c : After-slice_known-3-1) → c.encode_path-at.result ≤ 274
+long c = omega (arith, c.encode_path-at.ensures.0, legal-most field c.args.p c.requires.0)
 
 -- What is written once the path is, and what is to come: the timestamp.
 after : (c : After-slice_known-3-1) → let a = c.args in
-    Wrote (spt_key (triple a.s (components a.p) a.t)) (be 8 a.t) a.out.now (mid c) (16 + c.encode_path-n.result)
+    Wrote (spt_key (triple a.s (components a.p) a.t)) (be 8 a.t) a.out.now (mid c) (16 + c.encode_path-at.result)
 unfolding spt_key
 after c =
     let a = c.args in
-    let f = c.write_subspace in
-    let g = c.encode_path-n in
+    let f = c.write_subspace-at in
+    let g = c.encode_path-at in
     let size : length f.new.out ≡ length a.out.now = search rules in
     wrote-lent _ (path_key (components a.p)) (be 8 a.t) _ f.new.out _ 16 g.result
     (wrote-first (subspace_key a.s) _ a.out.now f.new.out 16 (omega (arith, c.requires.1)) (sym (subspace-length a.s)) f.ensures.1)
@@ -49,7 +49,7 @@ slice_bounds-write_u64-start c = (after c).room
 pub write_u64-requires : goal.write_u64-requires
 write_u64-requires c =
     let m = mid (goal.at.write_u64-requires c).After-slice_known-3-1 in
-    let at = 16 + c.encode_path-n.result in
+    let at = 16 + c.encode_path-at.result in
     simp (length-piece at (length m) m (le_refl (length m)))
     (omega (arith, long (goal.at.write_u64-requires c).After-slice_known-3-1, (after (goal.at.write_u64-requires c).After-slice_known-3-1).size, c.requires.1))
 
@@ -60,7 +60,7 @@ pub returns : goal.returns
 returns c =
     let a = c.args in
     let g = c.write_u64 in
-    wrote-last _ (be 8 a.t) _ (mid (goal.at.returns c).After-slice_known-3-1) _ (16 + c.encode_path-n.result) g.result
+    wrote-last _ (be 8 a.t) _ (mid (goal.at.returns c).After-slice_known-3-1) _ (16 + c.encode_path-at.result) g.result
     (after (goal.at.returns c).After-slice_known-3-1)
     (omega (arith, long (goal.at.returns c).After-slice_known-3-1, (after (goal.at.returns c).After-slice_known-3-1).size, g.ensures.0, c.requires.1))
     (g.ensures.0 ∙ sym (be-length 8 a.t))

@@ -1,10 +1,6 @@
 -- `counts_to_end` meets its contract. Assumes nothing.
-use Prim.Native.Nat.{◌-◌}
 use Rattle.keys.proofs.Counting.{Fronting}
 use Rattle.keys.proofs.judge.counts_to_end.Given as goal
 
 abbrev pub invariant-loop-j : goal.invariant-loop-j
 invariant-loop-j l = Fronting l.w l.at l.k l.j l.ok l.n
-
-abbrev pub decreases-loop-j : goal.decreases-loop-j
-decreases-loop-j l = l.w - l.j

@@ -15,6 +15,3 @@ returns-then-w-eq-STRETCH c =
   where
     counted : ℕ → ℕ → Counts
     counted at w = record { sound = sound w at c.args.k.now; others = others w at c.args.k.now; ends = endings w at c.args.k.now }
-
-pub returns : goal.returns
-returns c = c.counts_of-2.ensures

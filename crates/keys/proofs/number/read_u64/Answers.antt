@@ -4,4 +4,4 @@ use Rattle.keys.proofs.Decoding.{number-8}
 use Rattle.keys.proofs.number.read_u64.Goals as goal
 
 pub returns : goal.returns
-returns c = omega (arith, number-8 c.args.k.now c.requires, c.wide-b0.ensures.0, c.wide-b1.ensures.0, c.wide-b2.ensures.0, c.wide-b3.ensures.0, c.wide-b4.ensures.0, c.wide-b5.ensures.0, c.wide-b6.ensures.0, c.wide-b7.ensures.0)
+returns c = omega (arith, number-8 c.args.k.now c.requires, c.from_be_bytes.ensures)

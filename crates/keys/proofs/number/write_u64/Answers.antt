@@ -1,31 +1,9 @@
--- `write_u64` meets its contract: eight stores one after the other. Assumes nothing.
+-- `write_u64` meets its contract: eight bytes, then what stood behind them. Assumes nothing.
 use mathlib.Core.Path.{refl}
-use native.Mathlib.Omega.{arith}
-use lib.ListN.{length-set}
-use Rattle.laws.proofs.Lists.{put-sets}
-use Rattle.keys.proofs.Encoding.{eight_bytes, be-8}
+use Rattle.laws.specs.Lists.{put}
+use Rattle.keys.proofs.Encoding.{be-8}
 use Rattle.keys.proofs.number.write_u64.Goals as goal
 
-pub bounds-out-1 : goal.bounds-out-1
-bounds-out-1 c = simp length-set (omega arith)
-
-pub bounds-out-2 : goal.bounds-out-2
-bounds-out-2 c = simp length-set (omega arith)
-
-pub bounds-out-3 : goal.bounds-out-3
-bounds-out-3 c = simp length-set (omega arith)
-
-pub bounds-out-4 : goal.bounds-out-4
-bounds-out-4 c = simp length-set (omega arith)
-
-pub bounds-out-5 : goal.bounds-out-5
-bounds-out-5 c = simp length-set (omega arith)
-
-pub bounds-out-6 : goal.bounds-out-6
-bounds-out-6 c = simp length-set (omega arith)
-
-pub bounds-out-7 : goal.bounds-out-7
-bounds-out-7 c = simp length-set (omega arith)
-
 pub returns : goal.returns
-returns c = (refl, rw be-8 (put-sets (eight_bytes c.args.x) c.args.out.now c.requires))
+unfolding put
+returns c = (refl, rw (c.copy_from_slice.ensures.after, c.to_be_bytes.ensures, be-8) refl)

@@ -13,11 +13,6 @@ numbers : (c : After-end_of-e)
 numbers c =
     spans (laid _ _ _ c.requires.0.laid) c.args.at c.requires.1 c.end_of-o.result c.end_of-e.result c.end_of-o.ensures.0 c.end_of-e.ensures.0
 
-pub overflow_add-o : goal.overflow_add-o
-overflow_add-o c =
-    let x = numbers (goal.at.overflow_add-o c).After-end_of-e in
-    omega arith
-
 pub overflow_sub-e : goal.overflow_sub-e
 overflow_sub-e c =
     let x = numbers (goal.at.overflow_sub-e c).After-end_of-e in

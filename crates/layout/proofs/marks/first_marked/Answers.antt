@@ -1,17 +1,26 @@
 -- `first_marked` meets its contract. Assumes nothing.
-use mathlib.Core.Path.{refl}
-use native.Mathlib.Omega.{arith}
-use Rattle.layout.proofs.MarkLaws.{first-stop, first_on, first-end}
+use Rattle.std.proofs.Common.{rules, tests}
+use Rattle.std.proofs.lemmas.Iterator.{YieldsList-from_slice}
+use Rattle.std.proofs.lemmas.Iterator.Search.{position_from_yields_List}
+use mathlib.Core.Path.{◌≡◌, sym, ◌∙◌}
+use Prim.Native.Nat.{ℕ, ◌-◌}
+use lib.Dec.{eqb}
+use lib.ListN.{length, take, drop}
+use Rattle.std.specs.List.{position}
+use Rattle.layout.proofs.MarkLaws.{marked_at, marked_nowhere}
 use Rattle.layout.proofs.marks.first_marked.Goals as goal
+use Rattle.layout.proofs.marks.first_marked.Goals.{After-position}
 
-pub loop-k-init : goal.loop-k-init
-loop-k-init c = (omega arith, refl)
+-- What is found in the part of the marks.
+found : (c : After-position) → c.position.result ≡ position (λ (m : ℕ). eqb m 1) (take (length c.args.marks.now - c.args.from) (drop c.args.from c.args.marks.now))
+found c = position_from_yields_List (λ (m : ℕ). eqb m 1) _ _ c.position.result c.position.ensures.ran (YieldsList-from_slice _ c.iter.ensures.rest) (λ x b q k. search (rules, tests))
 
-pub returns-then-marks-k-eq1 : goal.returns-then-marks-k-eq1
-returns-then-marks-k-eq1 c = omega (arith, first-stop c.args.marks.now c.loop-k.k (omega arith) c.if-marks-k-eq1.true)
+pub returns-in-Some : goal.returns-in-Some
+returns-in-Some c =
+    let a = c.args in
+    marked_at a.marks.now a.from c.in-Some.k (sym (found (goal.at.returns-in-Some c).After-position) ∙ c.in-Some.is)
 
-pub loop-k-preserved : goal.loop-k-preserved
-loop-k-preserved c = (omega arith, omega (arith, first_on c.args.marks.now c.loop-k.k (omega arith) c.if-marks-k-eq1.false))
-
-pub returns : goal.returns
-returns c = omega (arith, first-end c.args.marks.now c.loop-k.k (omega arith))
+pub returns-in-None : goal.returns-in-None
+returns-in-None c =
+    let a = c.args in
+    marked_nowhere a.marks.now a.from c.requires (sym (found (goal.at.returns-in-None c).After-position) ∙ c.in-None.is)

@@ -7,5 +7,5 @@ pub returns : goal.returns
 returns c =
     let a = c.args in
     let g = c.carry_out-a in
-    let f = c.write_answer-n in
+    let f = c.write_answer in
     (f.ensures.1, line-written (leaving a.given a.spt.now a.spt_dir.now a.tsp.now a.tsp_dir.now a.tally.now a.prune.now) a.line.now a.out.now f.new.out _ f.result g.ensures f.ensures.0 f.ensures.2)

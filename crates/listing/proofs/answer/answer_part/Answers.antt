@@ -21,8 +21,8 @@ slice_bounds-append-count c = let l = c.loop-stop in omega (arith, l.invariant.0
 pub append-m-requires : goal.append-m-requires
 append-m-requires c = let l = c.loop-stop in omega (arith, l.invariant.2, l.invariant.3)
 
-pub slice_bounds-l-end-in-loop-stop : goal.slice_bounds-l-end-in-loop-stop
-slice_bounds-l-end-in-loop-stop c =
+pub slice_bounds-answer_line-end-in-loop-stop : goal.slice_bounds-answer_line-end-in-loop-stop
+slice_bounds-answer_line-end-in-loop-stop c =
     let w = c.append-m in
     sym (length-take-le w.result w.new.line (omega (arith, w.auto.line, w.ensures.0)))
 
@@ -85,13 +85,13 @@ loop-stop-preserved c =
 pub slice_bounds-append-count-2 : goal.slice_bounds-append-count-2
 slice_bounds-append-count-2 c = let l = c.loop-stop in omega (arith, l.invariant.0, l.invariant.1)
 
-pub append-kept-requires : goal.append-kept-requires
-append-kept-requires c = let l = c.loop-stop in omega (arith, l.invariant.2, l.invariant.3)
+pub append-requires : goal.append-requires
+append-requires c = let l = c.loop-stop in omega (arith, l.invariant.2, l.invariant.3)
 
 pub returns : goal.returns
 returns c =
     let l = c.loop-stop in
     let t = c.loop-stop-test.false in
-    let w = c.append-kept in
+    let w = c.append in
     let e = part_end c.args.bytes.now (leaving l.state l.spt l.spt_dir l.tsp l.tsp_dir l.tally l.prune) l.line l.out l.at l.n l.to l.stop l.invariant.3 l.invariant.12 l.invariant.0 t _ w.ensures.1 in
     (omega (arith, w.ensures.0, l.invariant.3), e.0, e.1)

@@ -34,5 +34,5 @@ pub returns-in-Refused : goal.returns-in-Refused
 unfolding answer_text
 returns-in-Refused c =
     let w = c.write_numbered in
-    let n = c.wide in
-    answer-said c.args.answer (numbered refused_word n.result) c.args.out.now w.new.out w.result (ap answer_text c.in-Refused.is ∙ ap (numbered refused_word) (sym n.ensures.0)) w.ensures.1 w.ensures.0 w.ensures.2
+    let n = c.from in
+    answer-said c.args.answer (numbered refused_word n.result) c.args.out.now w.new.out w.result (ap answer_text c.in-Refused.is ∙ ap (numbered refused_word) (sym n.ensures)) w.ensures.1 w.ensures.0 w.ensures.2

@@ -3,25 +3,26 @@ use native.Mathlib.Omega.{arith}
 use Rattle.layout.specs.Layout.{records}
 use Rattle.layout.proofs.LaidLaws.{records-many}
 use Rattle.query.proofs.StepLaws.{passed-few, above-found, above-absent}
+use Rattle.std.proofs.Common.{refl, true, false, ◌+◌, ◌≤◌, ◌≡◌}
+use Rattle.query.specs.Listing.{not_above}
 use Rattle.query.proofs.step.place_above.Goals as goal
+use Rattle.query.proofs.step.place_above.Goals.{In-Ok}
+
+-- So many records are passed.
+passed : (c : In-Ok) → (c.in-Ok.at + 1 ≡ not_above c.args.last.now (records c.args.tree.count c.args.tree.dir.now c.args.tree.bytes.now)) × (c.in-Ok.at + 1 ≤ c.args.tree.count)
+passed c =
+    let l = records c.args.tree.count c.args.tree.dir.now c.args.tree.bytes.now in
+    let e = above-found c.args.last.now l c.requires.ascends c.in-Ok.at c.in-Ok.ensures.at true c.in-Ok.ensures.found refl in
+    (e, omega (arith, e, passed-few c.args.last.now l, records-many c.args.tree.count c.args.tree.dir.now c.args.tree.bytes.now c.requires.few))
 
 pub overflow_add-result : goal.overflow_add-result
-overflow_add-result c =
-    let f = c.find-place in
-    let l = records c.args.count c.args.spt_dir.now c.args.spt.now in
-    let e = above-found c.args.last.now l c.requires.ascends f.result.at f.ensures.at f.result.found f.ensures.found c.if-place.true in
-    omega (arith, e, passed-few c.args.last.now l, records-many c.args.count c.args.spt_dir.now c.args.spt.now c.requires.few)
+overflow_add-result c = let h = (passed c).1 in let n = c.requires.few in omega arith
 
-pub returns-then-place : goal.returns-then-place
-returns-then-place c =
-    let f = c.find-place in
-    let l = records c.args.count c.args.spt_dir.now c.args.spt.now in
-    let e = above-found c.args.last.now l c.requires.ascends f.result.at f.ensures.at f.result.found f.ensures.found c.if-place.true in
-    (e, omega (arith, e, passed-few c.args.last.now l, records-many c.args.count c.args.spt_dir.now c.args.spt.now c.requires.few))
+pub returns-in-Ok : goal.returns-in-Ok
+returns-in-Ok c = passed c
 
-pub returns : goal.returns
-returns c =
-    let f = c.find-place in
-    let l = records c.args.count c.args.spt_dir.now c.args.spt.now in
-    let e = above-absent c.args.last.now l c.requires.ascends f.result.at f.ensures.at f.result.found f.ensures.found c.if-place.false in
-    (e, omega (arith, e, passed-few c.args.last.now l, records-many c.args.count c.args.spt_dir.now c.args.spt.now c.requires.few))
+pub returns-in-Err : goal.returns-in-Err
+returns-in-Err c =
+    let l = records c.args.tree.count c.args.tree.dir.now c.args.tree.bytes.now in
+    let e = above-absent c.args.last.now l c.requires.ascends c.in-Err.at c.in-Err.ensures.at false c.in-Err.ensures.found refl in
+    (e, omega (arith, e, passed-few c.args.last.now l, records-many c.args.tree.count c.args.tree.dir.now c.args.tree.bytes.now c.requires.few))

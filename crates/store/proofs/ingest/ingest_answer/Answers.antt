@@ -1,106 +1,124 @@
 -- `ingest_answer` meets its contract: each way's answer is the definition's. Assumes nothing.
-use Prim.Native.Nat.{◌*◌}
-use mathlib.Core.Path.{◌≡◌, sym, ◌∙◌}
+use Rattle.std.proofs.Common.{rules}
+use mathlib.Core.Path.{◌≡◌, refl, sym, ap, ◌∙◌}
 use native.Mathlib.Omega.{arith}
-use lib.Seq.{length-take-le}
+use Rattle.std.proofs.Common.{Ok}
+use Rattle.layout.specs.Layout.{records}
+use Rattle.data_model.specs.Said.{Said, refuses, says}
 use Rattle.data_model.specs.Path.{field}
+use Rattle.data_model.specs.Refusal.{refusal_number}
 use Rattle.data_model.specs.Entry.{entry_of}
-use Rattle.store.specs.Store.{tallied_of}
-use Rattle.store.specs.Ingest.{verdict_says, ingest_refusal, place_decided}
-use Rattle.store.proofs.IngestLaws.{Ready, in_spt, decided-own, ready, ready-ordered, answers-refused, answers-late, answers-already, old-bounds, answers-old, take-fits, answers-take, marked-own, refused-unlike, obsolete-unlike, held-unlike}
+use Rattle.tree.specs.Stored.{contents}
+use Rattle.store.specs.Store.{Tallied, tree_of, dir_of}
+use Rattle.store.specs.Lent.{lent, lent_with}
+use Rattle.store.specs.Ingest.{succeeds, ingested_says, plain_answer, place_decided, ingest_refusal}
+use Rattle.store.specs.declared.decide.PlaceDecision.{PlaceDecision}
+use Rattle.store.proofs.CheckLaws.{cut-asks}
+use Rattle.store.proofs.DecideLaws.{shown}
+use Rattle.store.proofs.IngestLaws.{Ready, ready, in_spt, ready-ordered, decided-own, marked-own, answers-refused, answers-late, answers-already, answers-old, answers-take, old-bounds, take-fits}
 use Rattle.store.proofs.ingest.ingest_answer.Goals as goal
-use Rattle.store.proofs.ingest.ingest_answer.Goals.{After-decide-d, Else-refusal-ne0}
+use Rattle.store.proofs.ingest.ingest_answer.Goals.{Start, After-spt-tree, In_ok-check_ingestion, After-from_residual, After-from_residual-in_err-d}
 
-zero : (c : Else-refusal-ne0) → ingest_refusal field (tallied_of c.args.state c.args.spt.now c.args.spt_dir.now c.args.tsp.now c.args.tsp_dir.now c.args.tally.now) c.args.prune.now c.args.ingestion.entry ≡ 0
-zero c = sym c.ingest_refusal-refusal.ensures ∙ c.if-refusal-ne0.false
+abbrev handed : Start → Tallied
+handed c = lent_with c.args.store c.args.tally.now
 
-known : (c : Else-refusal-ne0) → Ready (tallied_of c.args.state c.args.spt.now c.args.spt_dir.now c.args.tsp.now c.args.tsp_dir.now c.args.tally.now).store c.args.prune.now c.args.ingestion.entry
-known c = ready (tallied_of c.args.state c.args.spt.now c.args.spt_dir.now c.args.tsp.now c.args.tsp_dir.now c.args.tally.now) c.args.prune.now c.args.ingestion.entry (zero c)
+zero : (c : In_ok-check_ingestion) → ingest_refusal field (lent_with c.args.store c.args.tally.now) c.args.prune.now c.args.ingestion.entry ≡ 0
+zero c = sym c.in_ok-check_ingestion.ensures
 
-own : (c : After-decide-d) → c.decide-d.result ≡ place_decided c.args.state.limit (in_spt (tallied_of c.args.state c.args.spt.now c.args.spt_dir.now c.args.tsp.now c.args.tsp_dir.now c.args.tally.now).store) (entry_of c.args.ingestion.entry) c.args.ingestion.prevent_pruning
-own c =
-    decided-own (tallied_of c.args.state c.args.spt.now c.args.spt_dir.now c.args.tsp.now c.args.tsp_dir.now c.args.tally.now).store c.args.prune.now c.args.ingestion.entry c.args.ingestion.prevent_pruning (ready (tallied_of c.args.state c.args.spt.now c.args.spt_dir.now c.args.tsp.now c.args.tsp_dir.now c.args.tally.now) c.args.prune.now c.args.ingestion.entry (sym c.ingest_refusal-refusal.ensures ∙ c.if-refusal-ne0.false)) c.decide-d.result c.decide-d.ensures.decision
+known : (c : In_ok-check_ingestion) → Ready (lent c.args.store) c.args.prune.now c.args.ingestion.entry
+known c = ready (lent_with c.args.store c.args.tally.now) c.args.prune.now c.args.ingestion.entry (zero c)
 
-pub returns-then-refusal-ne0 : goal.returns-then-refusal-ne0
-unfolding verdict_says
-returns-then-refusal-ne0 c =
-    let f = c.ingest_refusal-refusal in
-    record { answer = answers-refused (tallied_of c.args.state c.args.spt.now c.args.spt_dir.now c.args.tsp.now c.args.tsp_dir.now c.args.tally.now) c.args.prune.now c.args.ingestion f.result f.ensures c.if-refusal-ne0.true _ c.plain_answer.ensures; marks = λ n q. refused-unlike c.plain_answer.ensures q }
+-- What is decided in the tree cut to its room is decided in the store's.
+own : (c : After-spt-tree) → Ready (lent c.args.store) c.args.prune.now c.args.ingestion.entry → (d : Said PlaceDecision)
+    → d ≡ place_decided c.args.store.state.limit (contents c.spt-tree.result.order field c.args.ingestion.entry.namespace_id (records c.spt-tree.result.count c.spt-tree.result.dir.now c.spt-tree.result.bytes.now)) (entry_of c.args.ingestion.entry) c.args.ingestion.prevent_pruning
+    → d ≡ place_decided c.args.store.state.limit (in_spt (lent c.args.store)) (entry_of c.args.ingestion.entry) c.args.ingestion.prevent_pruning
+unfolding tree_of dir_of
+own c v d e =
+    let i = c.args.ingestion in
+    let t = c.spt-tree.ensures in
+    decided-own (lent c.args.store) c.args.prune.now i.entry i.prevent_pruning v d (e ∙ rw (t.0, t.1, t.2, t.3) refl)
 
-pub overflow_mul-n : goal.overflow_mul-n
-overflow_mul-n c = let m = (known c).passes.most in omega arith
+told : (c : After-from_residual) → ingested_says c.args.store.state c.from_residual.result ≡ plain_answer (refuses (refusal_number c.in_err-check_ingestion.field-0.0)) c.args.store.state
+told c = search rules
 
-pub overflow_mul-m : goal.overflow_mul-m
-overflow_mul-m c = let m = (known c).passes.most in omega arith
+told-late : (c : After-from_residual-in_err-d) → ingested_says c.args.store.state c.from_residual-in_err-d.result ≡ plain_answer (refuses (refusal_number c.in_err-d.field-0.0)) c.args.store.state
+told-late c = search rules
 
-pub slice_bounds-decide-end : goal.slice_bounds-decide-end
-slice_bounds-decide-end c =
-    let r = (known c).passes.room.spt in
-    sym (length-take-le _ c.args.spt.now (omega arith))
+pub returns-in_err-check_ingestion-clause-answer : goal.returns-in_err-check_ingestion-clause-answer
+returns-in_err-check_ingestion-clause-answer c = answers-refused (handed (goal.at.returns-in_err-check_ingestion-clause-answer c).Start) c.args.prune.now c.args.ingestion _ c.in_err-check_ingestion.ensures _ (told c)
 
-pub slice_bounds-decide-end-2 : goal.slice_bounds-decide-end-2
-slice_bounds-decide-end-2 c =
-    let r = (known c).passes.room.spt_dir in
-    sym (length-take-le (2 * c.args.state.limit) c.args.spt_dir.now (omega arith))
+pub spt-tree-requires : goal.spt-tree-requires
+spt-tree-requires c = cut-asks (lent c.args.store) (known (goal.at.spt-tree-requires c).In_ok-check_ingestion).passes
 
-pub decide-d-requires : goal.decide-d-requires
-decide-d-requires c =
-    let v = known (goal.at.decide-d-requires c).Else-refusal-ne0 in
+pub decide-requires : goal.decide-requires
+unfolding tree_of dir_of
+decide-requires c =
+    let v = known (goal.at.decide-requires c).In_ok-check_ingestion in
     let m = v.passes.most in
     let f = v.passes.few in
-    (ready-ordered (tallied_of c.args.state c.args.spt.now c.args.spt_dir.now c.args.tsp.now c.args.tsp_dir.now c.args.tally.now).store c.args.prune.now c.args.ingestion.entry v, omega arith, v.legal_path, omega (arith, c.requires))
+    let t = c.spt-tree.ensures in
+    rw (t.0, t.1, t.2, t.3) (ready-ordered (lent c.args.store) c.args.prune.now c.args.ingestion.entry v, omega arith, v.legal_path, omega (arith, c.requires))
 
-pub slice_bounds-obsolete_answer-end : goal.slice_bounds-obsolete_answer-end
-slice_bounds-obsolete_answer-end c =
-    let r = (known (goal.at.slice_bounds-obsolete_answer-end c).Else-refusal-ne0).passes.room.spt in
-    sym (length-take-le _ c.args.spt.now (omega arith))
+pub returns-in_err-d-clause-answer : goal.returns-in_err-d-clause-answer
+returns-in_err-d-clause-answer c =
+    let a = goal.at.returns-in_err-d-clause-answer c in
+    let z = zero a.In_ok-check_ingestion in
+    let e = own a.After-spt-tree (known a.In_ok-check_ingestion) _ c.in_err-d.ensures.decision in
+    answers-late (handed a.Start) c.args.prune.now c.args.ingestion z _ e _ refl _ (told-late c)
 
-pub slice_bounds-obsolete_answer-end-in-Old : goal.slice_bounds-obsolete_answer-end-in-Old
-slice_bounds-obsolete_answer-end-in-Old c =
-    let r = (known (goal.at.slice_bounds-obsolete_answer-end-in-Old c).Else-refusal-ne0).passes.room.spt_dir in
-    sym (length-take-le (2 * c.args.state.limit) c.args.spt_dir.now (omega arith))
+pub stored_at-a-requires : goal.stored_at-a-requires
+unfolding tree_of dir_of
+stored_at-a-requires c =
+    let a = goal.at.stored_at-a-requires c in
+    let z = zero a.In_ok-check_ingestion in
+    let e = own a.After-spt-tree (known a.In_ok-check_ingestion) _ c.in_ok-d.ensures.decision in
+    let t = c.spt-tree.ensures in
+    rw (t.2, t.3) (old-bounds (handed a.Start) c.args.prune.now c.args.ingestion z _ e _ (ap says c.in-Old.is))
 
-pub obsolete_answer-requires : goal.obsolete_answer-requires
-obsolete_answer-requires c =
-    old-bounds (tallied_of c.args.state c.args.spt.now c.args.spt_dir.now c.args.tsp.now c.args.tsp_dir.now c.args.tally.now) c.args.prune.now c.args.ingestion (zero (goal.at.obsolete_answer-requires c).Else-refusal-ne0) c.decide-d.result (own (goal.at.obsolete_answer-requires c).After-decide-d)
-    _ c.in-Old.is
+pub overflow_sub-state : goal.overflow_sub-state
+overflow_sub-state c =
+    let a = goal.at.overflow_sub-state c in
+    let z = zero a.In_ok-check_ingestion in
+    let e = own a.After-spt-tree (known a.In_ok-check_ingestion) _ c.in_ok-d.ensures.decision in
+    (take-fits (handed a.Start) c.args.prune.now c.args.ingestion z _ e _ (ap says c.in-Take.is)).0
 
-pub taken_answer-requires : goal.taken_answer-requires
-taken_answer-requires c =
-    take-fits (tallied_of c.args.state c.args.spt.now c.args.spt_dir.now c.args.tsp.now c.args.tsp_dir.now c.args.tally.now) c.args.prune.now c.args.ingestion (zero (goal.at.taken_answer-requires c).Else-refusal-ne0) c.decide-d.result (own (goal.at.taken_answer-requires c).After-decide-d)
-    _ c.in-Take.is
+pub overflow_add-state : goal.overflow_add-state
+overflow_add-state c =
+    let v = known (goal.at.overflow_add-state c).In_ok-check_ingestion in
+    let m = v.passes.most in
+    let f = v.passes.few in
+    omega arith
 
-pub returns-in-Refuse : goal.returns-in-Refuse
-unfolding verdict_says
-returns-in-Refuse c =
-    record {
-      answer = answers-late (tallied_of c.args.state c.args.spt.now c.args.spt_dir.now c.args.tsp.now c.args.tsp_dir.now c.args.tally.now) c.args.prune.now c.args.ingestion (zero (goal.at.returns-in-Refuse c).Else-refusal-ne0) c.decide-d.result (own (goal.at.returns-in-Refuse c).After-decide-d)
-          _ c.in-Refuse.is _ c.plain_answer-in-Refuse.ensures;
-      marks = λ n q. refused-unlike c.plain_answer-in-Refuse.ensures q;
-    }
+pub returns-in-Old-clause-answer : goal.returns-in-Old-clause-answer
+unfolding tree_of dir_of
+returns-in-Old-clause-answer c =
+    let a = goal.at.returns-in-Old-clause-answer c in
+    let z = zero a.In_ok-check_ingestion in
+    let e = own a.After-spt-tree (known a.In_ok-check_ingestion) _ c.in_ok-d.ensures.decision in
+    let t = c.spt-tree.ensures in
+    answers-old (handed a.Start) c.args.prune.now c.args.ingestion z _ e _ (ap says c.in-Old.is) _
+    (shown c.args.store.state _ c.stored_at-a.result c.stored_at-a.ensures.value
+    ∙ rw (t.0, t.2, t.3) refl)
 
-pub returns-in-Old : goal.returns-in-Old
-returns-in-Old c =
-    record {
-      answer = answers-old (tallied_of c.args.state c.args.spt.now c.args.spt_dir.now c.args.tsp.now c.args.tsp_dir.now c.args.tally.now) c.args.prune.now c.args.ingestion (zero (goal.at.returns-in-Old c).Else-refusal-ne0) c.decide-d.result (own (goal.at.returns-in-Old c).After-decide-d)
-          _ c.in-Old.is _ c.obsolete_answer.ensures;
-      marks = λ n q. obsolete-unlike _ c.obsolete_answer.ensures q;
-    }
+pub returns-in-Already-clause-answer : goal.returns-in-Already-clause-answer
+returns-in-Already-clause-answer c =
+    let a = goal.at.returns-in-Already-clause-answer c in
+    let z = zero a.In_ok-check_ingestion in
+    let e = own a.After-spt-tree (known a.In_ok-check_ingestion) _ c.in_ok-d.ensures.decision in
+    answers-already (handed a.Start) c.args.prune.now c.args.ingestion z _ e (ap says c.in-Already.is) _ refl
 
-pub returns-in-Already : goal.returns-in-Already
-unfolding verdict_says
-returns-in-Already c =
-    record {
-      answer = answers-already (tallied_of c.args.state c.args.spt.now c.args.spt_dir.now c.args.tsp.now c.args.tsp_dir.now c.args.tally.now) c.args.prune.now c.args.ingestion (zero (goal.at.returns-in-Already c).Else-refusal-ne0) c.decide-d.result (own (goal.at.returns-in-Already c).After-decide-d)
-          c.in-Already.is _ c.plain_answer-in-Already.ensures;
-      marks = λ n q. held-unlike c.plain_answer-in-Already.ensures q;
-    }
+pub returns-in-Take-clause-answer : goal.returns-in-Take-clause-answer
+returns-in-Take-clause-answer c =
+    let a = goal.at.returns-in-Take-clause-answer c in
+    let z = zero a.In_ok-check_ingestion in
+    let e = own a.After-spt-tree (known a.In_ok-check_ingestion) _ c.in_ok-d.ensures.decision in
+    answers-take (handed a.Start) c.args.prune.now c.args.ingestion z _ e _ (ap says c.in-Take.is) _ (ap (plain_answer (says (succeeds c.in-Take.pruned))) c.with_count.ensures)
 
-pub returns-in-Take : goal.returns-in-Take
-unfolding verdict_says
-returns-in-Take c =
-    record {
-      answer = answers-take (tallied_of c.args.state c.args.spt.now c.args.spt_dir.now c.args.tsp.now c.args.tsp_dir.now c.args.tally.now) c.args.prune.now c.args.ingestion (zero (goal.at.returns-in-Take c).Else-refusal-ne0) c.decide-d.result (own (goal.at.returns-in-Take c).After-decide-d)
-          _ c.in-Take.is _ c.taken_answer.ensures;
-      marks = λ n q. marked-own (tallied_of c.args.state c.args.spt.now c.args.spt_dir.now c.args.tsp.now c.args.tsp_dir.now c.args.tally.now).store c.args.prune.now c.args.ingestion.entry (known (goal.at.returns-in-Take c).Else-refusal-ne0) _ (c.decide-d.ensures.marks _ c.in-Take.is);
-    }
+pub returns-in-Take-clause-marks : goal.returns-in-Take-clause-marks
+unfolding tree_of dir_of
+returns-in-Take-clause-marks c = λ n q.
+    let a = goal.at.returns-in-Take-clause-marks c in
+    let e = c.args.ingestion.entry in
+    let m = c.decide.ensures.marks c.in-Take.pruned (c.in_ok-d.was ∙ ap Ok c.in-Take.is) in
+    marked-own (lent c.args.store) c.args.prune.now e (known a.In_ok-check_ingestion) _
+    (let t = c.spt-tree.ensures in rw (t.0, t.1, t.2, t.3) at m)

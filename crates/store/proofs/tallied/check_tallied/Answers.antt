@@ -1,58 +1,67 @@
--- `check_tallied` meets its contract: the store's tests, then the tally's. Assumes nothing.
-use mathlib.Core.Path.{◌≡◌, sym, ap, ◌∙◌}
-use mathlib.Core.Bool.{Bool, ◌&&◌}
-use native.Mathlib.Omega.{arith}
-use lib.Seq.{length-take-le}
+-- `check_tallied` meets its contract. Assumes nothing.
+use Rattle.std.proofs.Common.{rules}
+use mathlib.Core.Path.{◌≡◌, refl, sym, ap, ◌∙◌}
+use mathlib.Core.Bool.{◌&&◌}
 use Rattle.data_model.specs.Path.{field}
+use Rattle.data_model.specs.Refusal.{refused_with, refusal_number}
+use Rattle.store.specs.Store.{held}
 use Rattle.tree.specs.declared.stored.KeyOrder.TheVariants.{Spt}
-use Rattle.store.specs.Store.{tree_of, dir_of, tallied_of}
-use Rattle.store.specs.Refusal.{store_refusal, tally_fits}
-use Rattle.store.proofs.CheckLaws.{holds, fails}
-use Rattle.store.proofs.TalliedLaws.{TalliedPassed, tallied-early, tallied-wrong, tallied-none, fits-passed, right-read}
+use lib.Seq.{length-take-le}
+use native.Mathlib.Omega.{arith}
+use Rattle.tally.specs.Tally.{tally_right}
+use Rattle.store.specs.Lent.{lent, lent_with}
+use Rattle.store.specs.Refusal.{unless, ◌or_else◌, tally_fits, tallied_refusal, store_refusal}
+use Rattle.store.proofs.CheckLaws.{early, cut-asks}
+use Rattle.store.proofs.TalliedLaws.{TalliedPassed, fits-passed, right-read}
 use Rattle.store.proofs.tallied.check_tallied.Goals as goal
-use Rattle.store.proofs.tallied.check_tallied.Goals.{After-check_store-n, Else-n-ne0}
+use Rattle.store.proofs.tallied.check_tallied.Goals.{After-check, After-from_residual, In_ok-check, After-tally_is, then-tally_fits, else-tally_fits}
 
--- The store's refusal, its other buffers the tally and what the caller says of the rest.
-tested : (c : After-check_store-n) → c.check_store-n.result ≡ store_refusal field (tallied_of c.args.state c.args.spt.now c.args.spt_dir.now c.args.tsp.now c.args.tsp_dir.now c.args.tally.now).store (tally_fits (tallied_of c.args.state c.args.spt.now c.args.spt_dir.now c.args.tsp.now c.args.tsp_dir.now c.args.tally.now) && c.args.rooms)
-tested c = c.check_store-n.ensures ∙ ap (λ (b : Bool). store_refusal field (tallied_of c.args.state c.args.spt.now c.args.spt_dir.now c.args.tsp.now c.args.tsp_dir.now c.args.tally.now).store (b && c.args.rooms)) c.tally_fits-fits.ensures
+asked : (c : After-check) → c.if-tally_fits.check ≡ tally_fits (lent_with c.args.store c.args.tally.now) && c.args.rooms
+asked c = elim c.if-tally_fits.branch [ then-tally_fits w ↦ search rules | else-tally_fits w ↦ search rules ]
 
-known : (c : Else-n-ne0) → TalliedPassed (tallied_of c.args.state c.args.spt.now c.args.spt_dir.now c.args.tsp.now c.args.tsp_dir.now c.args.tally.now)
-known c = (fits-passed (tallied_of c.args.state c.args.spt.now c.args.spt_dir.now c.args.tsp.now c.args.tsp_dir.now c.args.tally.now) c.args.rooms (sym (c.check_store-n.ensures ∙ ap (λ (b : Bool). store_refusal field (tallied_of c.args.state c.args.spt.now c.args.spt_dir.now c.args.tsp.now c.args.tsp_dir.now c.args.tally.now).store (b && c.args.rooms)) c.tally_fits-fits.ensures) ∙ c.if-n-ne0.false)).0
+answered : (c : After-from_residual) → refused_with c.from_residual.result ≡ refusal_number c.in_err-check.field-0.0
+answered c = search rules
 
-pub returns-then-n-ne0 : goal.returns-then-n-ne0
-returns-then-n-ne0 c = tallied-early (tallied_of c.args.state c.args.spt.now c.args.spt_dir.now c.args.tsp.now c.args.tsp_dir.now c.args.tally.now) c.args.rooms c.check_store-n.result (tested (goal.at.returns-then-n-ne0 c).After-check_store-n) c.if-n-ne0.true
+known : (c : In_ok-check) → TalliedPassed (lent_with c.args.store c.args.tally.now)
+known c = (fits-passed (lent_with c.args.store c.args.tally.now) c.args.rooms (sym (ap (store_refusal field (lent c.args.store)) (asked (goal.at.spt-requires c).After-check)) ∙ sym c.in_ok-check.ensures)).0
 
-pub overflow_mul-t : goal.overflow_mul-t
-overflow_mul-t c = let m = (known (goal.at.overflow_mul-t c).Else-n-ne0).passes.most in omega arith
+pub returns-in_err-check : goal.returns-in_err-check
+unfolding tallied_refusal
+returns-in_err-check c = answered c ∙ early _ _ _ (c.in_err-check.ensures ∙ ap (store_refusal field (lent c.args.store)) (asked (goal.at.returns-in_err-check c).After-check))
 
-pub overflow_mul-d : goal.overflow_mul-d
-overflow_mul-d c = let m = (known (goal.at.overflow_mul-d c).Else-n-ne0).passes.most in omega arith
+pub spt-requires : goal.spt-requires
+spt-requires c = cut-asks (lent c.args.store) (known (goal.at.spt-requires c).In_ok-check).passes
 
-pub overflow_mul-i : goal.overflow_mul-i
-overflow_mul-i c = let m = (known (goal.at.overflow_mul-i c).Else-n-ne0).passes.most in omega arith
+pub overflow_mul-store : goal.overflow_mul-store
+overflow_mul-store c = let m = (known (goal.at.overflow_mul-store c).In_ok-check).passes.most in omega arith
 
 pub slice_bounds-tally_is-end : goal.slice_bounds-tally_is-end
-slice_bounds-tally_is-end c = sym (length-take-le _ c.args.spt_dir.now (known (goal.at.slice_bounds-tally_is-end c).Else-n-ne0).passes.room.spt_dir)
-
-pub slice_bounds-tally_is-end-2 : goal.slice_bounds-tally_is-end-2
-slice_bounds-tally_is-end-2 c = sym (length-take-le _ c.args.spt.now (known (goal.at.slice_bounds-tally_is-end-2 c).Else-n-ne0).passes.room.spt)
-
-pub slice_bounds-tally_is-end-3 : goal.slice_bounds-tally_is-end-3
-slice_bounds-tally_is-end-3 c = sym (length-take-le _ c.args.tally.now (known (goal.at.slice_bounds-tally_is-end-3 c).Else-n-ne0).room)
+slice_bounds-tally_is-end c = sym (length-take-le _ _ (known (goal.at.slice_bounds-tally_is-end c).In_ok-check).room)
 
 pub tally_is-requires : goal.tally_is-requires
-unfolding tree_of dir_of
 tally_is-requires c =
-    let k = known (goal.at.tally_is-requires c).Else-n-ne0 in
+    let k = known (goal.at.tally_is-requires c).In_ok-check in
     let f = k.passes.few in
-    (k.passes.ordered Spt, omega (arith, length-take-le _ c.args.tally.now k.room))
+    let t = c.spt.ensures in
+    (rw (t.1, t.2, t.3) (k.passes.ordered Spt), rw t.1 (omega (arith, length-take-le _ c.args.tally.now k.room)))
+
+-- What the tally was compared with is that of what the store holds.
+right : (c : After-tally_is) → TalliedPassed (lent_with c.args.store c.args.tally.now) → c.tally_is.result ≡ tally_right c.args.store.state.limit (held field Spt (lent c.args.store)) c.args.tally.now
+right c k =
+    right-read (lent_with c.args.store c.args.tally.now) k.room c.tally_is.result
+    λ ns. c.tally_is.ensures ns ∙ rw (c.spt.ensures.1, c.spt.ensures.2, c.spt.ensures.3) refl
+
+passes : (c : In_ok-check) → 0 ≡ store_refusal field (lent c.args.store) (tally_fits (lent_with c.args.store c.args.tally.now) && c.args.rooms)
+passes c = c.in_ok-check.ensures ∙ ap (store_refusal field (lent c.args.store)) (asked (goal.at.spt-requires c).After-check)
 
 pub returns-then-not-tally_is : goal.returns-then-not-tally_is
+unfolding tallied_refusal ◌or_else◌ unless
 returns-then-not-tally_is c =
-    tallied-wrong (tallied_of c.args.state c.args.spt.now c.args.spt_dir.now c.args.tsp.now c.args.tsp_dir.now c.args.tally.now) c.args.rooms c.check_store-n.result (tested (goal.at.returns-then-not-tally_is c).After-check_store-n) c.if-n-ne0.false
-    (fails (right-read (tallied_of c.args.state c.args.spt.now c.args.spt_dir.now c.args.tsp.now c.args.tsp_dir.now c.args.tally.now) (known (goal.at.returns-then-not-tally_is c).Else-n-ne0).room c.tally_is.result c.tally_is.ensures) c.if-not-tally_is.true-raw)
+    let a = goal.at.returns-then-not-tally_is c in
+    rw (← passes a.In_ok-check, ← right a.After-tally_is (known a.In_ok-check), c.if-not-tally_is.true)
 
 pub returns : goal.returns
+unfolding tallied_refusal ◌or_else◌ unless
 returns c =
-    tallied-none (tallied_of c.args.state c.args.spt.now c.args.spt_dir.now c.args.tsp.now c.args.tsp_dir.now c.args.tally.now) c.args.rooms c.check_store-n.result (tested (goal.at.returns c).After-check_store-n) c.if-n-ne0.false
-    (holds (right-read (tallied_of c.args.state c.args.spt.now c.args.spt_dir.now c.args.tsp.now c.args.tsp_dir.now c.args.tally.now) (known (goal.at.returns c).Else-n-ne0).room c.tally_is.result c.tally_is.ensures) c.if-not-tally_is.false-raw)
+    let a = goal.at.returns c in
+    rw (← passes a.In_ok-check, ← right a.After-tally_is (known a.In_ok-check), c.if-not-tally_is.false)

@@ -1,18 +1,9 @@
--- `write_count` meets its contract: four stores one after the other. Assumes nothing.
-use native.Mathlib.Omega.{arith}
-use lib.ListN.{length-set}
-use Rattle.laws.proofs.Lists.{put-sets}
-use Rattle.tally.proofs.TallyBytes.{four_bytes, be-4}
+-- `write_count` meets its contract: the last four of eight bytes. Assumes nothing.
+use mathlib.Core.Path.{refl}
+use Rattle.laws.specs.Lists.{put}
+use Rattle.tally.proofs.TallyBytes.{be-4}
 use Rattle.tally.proofs.item.write_count.Goals as goal
 
-pub bounds-out-1 : goal.bounds-out-1
-bounds-out-1 c = simp length-set (omega arith)
-
-pub bounds-out-2 : goal.bounds-out-2
-bounds-out-2 c = simp length-set (omega arith)
-
-pub bounds-out-3 : goal.bounds-out-3
-bounds-out-3 c = simp length-set (omega arith)
-
 pub returns : goal.returns
-returns c = rw be-4 (put-sets (four_bytes c.args.n) c.args.out.now c.requires)
+unfolding put
+returns c = rw (c.copy_from_slice.ensures.after, c.to_be_bytes.ensures, be-4) refl

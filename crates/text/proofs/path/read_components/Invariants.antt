@@ -1,5 +1,5 @@
 -- `read_components` meets its contract. The invariant: the components filled in so far, and those left. Assumes nothing.
-use Prim.Native.Nat.{◌≤◌, ◌-◌}
+use Prim.Native.Nat.{◌≤◌}
 use mathlib.Core.Path.{◌≡◌}
 use mathlib.Core.Bool.{true}
 use mathlib.Core.List.{map}
@@ -13,6 +13,3 @@ use Rattle.text.proofs.path.read_components.Given as goal
 
 abbrev pub invariant-loop-n : goal.invariant-loop-n
 invariant-loop-n l = (l.at ≤ length l.s) × (all is_component_field (fields slash (drop l.at l.s)) ≡ true) × Filling (map hex_of (fields slash l.s)) (map hex_of (fields slash (drop l.at l.s))) l.initial.bytes l.initial.ends l.bytes l.ends l.total l.n
-
-abbrev pub decreases-loop-n : goal.decreases-loop-n
-decreases-loop-n l = length l.ends - l.n

@@ -17,7 +17,7 @@ use Rattle.text.proofs.Lists.{put-fits}
 use Rattle.text.proofs.PathLaws.{component-most, path-none, path-some, first-low, behind-legal}
 use borrow.Author.Rules.{rules}
 use Rattle.text.proofs.path_text.write_path.Goals as goal
-use Rattle.text.proofs.path_text.write_path.Goals.{After-write_behind, Else-n-eq0}
+use Rattle.text.proofs.path_text.write_path.Goals.{After-write_behind, Else-p-eq0}
 
 -- How long the two lists are, and that the first end is within the bytes.
 record Sizes (p : Path) : Type 0 where
@@ -25,7 +25,7 @@ record Sizes (p : Path) : Type 0 where
   ends : length p.ends ≡ 8
   low : get_or p.ends 0 0 ≤ 128
 
-sizes : (c : Else-n-eq0) → Sizes c.args.p
+sizes : (c : Else-p-eq0) → Sizes c.args.p
 sizes c =
     let e : length c.args.p.ends ≡ 8 = search rules in
     record { bytes = search rules; ends = e; low = first-low c.args.p c.requires.0 (omega arith) e }
@@ -58,46 +58,46 @@ wrote c z =
     let r = wrote-last _ _ _ w.new.out _ w.result b.result d (fits c z) b.ensures.0 b.ensures.1 in
     (r.0 ∙ ap length (sym e), r.1 ∙ ap (λ (x : List ℕ). put x c.args.out.now) (sym e))
 
-pub returns-then-n-eq0 : goal.returns-then-n-eq0
-returns-then-n-eq0 c =
-    let e = path-none c.args.p c.if-n-eq0.true in
+pub returns-then-p-eq0 : goal.returns-then-p-eq0
+returns-then-p-eq0 c =
+    let e = path-none c.args.p c.if-p-eq0.true in
     (sym (ap length e), put-sets (45 ∷ []) c.args.out.now (omega (arith, c.requires.1)) ∙ ap (λ (x : List ℕ). put x c.args.out.now) (sym e))
 
-pub slice_bounds-bytes-end : goal.slice_bounds-bytes-end
-slice_bounds-bytes-end c = let z = sizes (goal.at.slice_bounds-bytes-end c).Else-n-eq0 in omega (arith, z.bytes, z.low)
+pub shared_ref_as_front-write_component : goal.shared_ref_as_front-write_component
+shared_ref_as_front-write_component c = let z = sizes (goal.at.shared_ref_as_front-write_component c).Else-p-eq0 in omega (arith, z.bytes, z.low)
 
 pub slice_bounds-write_component-end : goal.slice_bounds-write_component-end
 slice_bounds-write_component-end c =
-    let z = sizes (goal.at.slice_bounds-write_component-end c).Else-n-eq0 in
+    let z = sizes (goal.at.slice_bounds-write_component-end c).Else-p-eq0 in
     sym (length-take-le (get_or c.args.p.ends 0 0) c.args.p.bytes (omega (arith, z.low, z.bytes)))
 
 pub write_component-at-requires : goal.write_component-at-requires
 write_component-at-requires c =
-    let z = sizes (goal.at.write_component-at-requires c).Else-n-eq0 in
+    let z = sizes (goal.at.write_component-at-requires c).Else-p-eq0 in
     omega (arith, z.low, length-take-le (get_or c.args.p.ends 0 0) c.args.p.bytes (omega (arith, z.low, z.bytes)), c.requires.1)
 
 pub slice_bounds-write_behind-end-2 : goal.slice_bounds-write_behind-end-2
 slice_bounds-write_behind-end-2 c =
-    let z = sizes (goal.at.slice_bounds-write_behind-end-2 c).Else-n-eq0 in
+    let z = sizes (goal.at.slice_bounds-write_behind-end-2 c).Else-p-eq0 in
     omega (arith, z.ends, legal-count field c.args.p c.requires.0)
 
 pub slice_bounds-write_behind-count-2 : goal.slice_bounds-write_behind-count-2
 slice_bounds-write_behind-count-2 c =
-    let z = sizes (goal.at.slice_bounds-write_behind-count-2 c).Else-n-eq0 in
+    let z = sizes (goal.at.slice_bounds-write_behind-count-2 c).Else-p-eq0 in
     let w = c.write_component-at in
     let r : length w.new.out ≡ length c.args.out.now = search rules in
     omega (arith, first c.args.p w.result z w.ensures.0, z.low, c.requires.1)
 
 pub slice_bounds-write_behind-start-2 : goal.slice_bounds-write_behind-start-2
 slice_bounds-write_behind-start-2 c =
-    let z = sizes (goal.at.slice_bounds-write_behind-start-2 c).Else-n-eq0 in
+    let z = sizes (goal.at.slice_bounds-write_behind-start-2 c).Else-p-eq0 in
     let w = c.write_component-at in
     let r : length w.new.out ≡ length c.args.out.now = search rules in
     omega (arith, first c.args.p w.result z w.ensures.0, z.low, c.requires.1)
 
 pub write_behind-requires : goal.write_behind-requires
 write_behind-requires c =
-    let z = sizes (goal.at.write_behind-requires c).Else-n-eq0 in
+    let z = sizes (goal.at.write_behind-requires c).Else-p-eq0 in
     let p = c.args.p in
     let w = c.write_component-at in
     let r : length w.new.out ≡ length c.args.out.now = search rules in
@@ -118,9 +118,9 @@ write_behind-requires c =
 
 pub overflow_add-result : goal.overflow_add-result
 overflow_add-result c =
-    let z = sizes (goal.at.overflow_add-result c).Else-n-eq0 in
+    let z = sizes (goal.at.overflow_add-result c).Else-p-eq0 in
     let b = (goal.at.overflow_add-result c).After-write_behind in
     omega (arith, (wrote b z).0, fits b z)
 
 pub returns : goal.returns
-returns c = wrote (goal.at.returns c).After-write_behind (sizes (goal.at.returns c).Else-n-eq0)
+returns c = wrote (goal.at.returns c).After-write_behind (sizes (goal.at.returns c).Else-p-eq0)

@@ -8,8 +8,11 @@ use Rattle.laws.specs.Lists.{put}
 use Rattle.keys.specs.Encode.{subspace_key}
 use Rattle.keys.proofs.Encoding.{subspace-length}
 use Rattle.text.specs.Hex.{hex_text}
-use Rattle.text.proofs.ValueLaws.{put_whole, subspace-short, subspace-long}
+use Rattle.text.proofs.ValueLaws.{put_whole, short-low, subspace-short, subspace-long}
 use Rattle.text.proofs.value.write_subspace.Goals as goal
+
+pub overflow_cast-s : goal.overflow_cast-s
+overflow_cast-s c = omega (arith, short-low c.args.s (sym c.is_short.ensures ∙ c.if-is_short.true))
 
 pub returns-then-is_short : goal.returns-then-is_short
 returns-then-is_short c =

@@ -9,5 +9,5 @@ returns-then-max_size-eq-NO_LIMIT c = adds_none _ _ _ c.if-max_size-eq-NO_LIMIT.
 pub overflow_add-result : goal.overflow_add-result
 overflow_add-result c = omega (arith, fits-size c.args.max_size c.args.size c.args.length c.if-max_size-eq-NO_LIMIT.false c.requires)
 
-pub returns : goal.returns
-returns c = adds-size _ _ _ c.if-max_size-eq-NO_LIMIT.false
+pub returns-else-max_size-eq-NO_LIMIT : goal.returns-else-max_size-eq-NO_LIMIT
+returns-else-max_size-eq-NO_LIMIT c = adds-size _ _ _ c.if-max_size-eq-NO_LIMIT.false

@@ -4,6 +4,6 @@ use Rattle.tree.proofs.stored.stored_in.Goals as goal
 
 pub returns : goal.returns
 returns c =
-    let d = c.decode_key-d in
+    let d = c.key_said-d in
     let v = c.decode_entry_values-v in
-    stored-read _ _ _ d.result v.result _ d.ensures v.ensures c.new-origin.ensures
+    stored-read _ _ _ d.result v.result _ d.ensures v.ensures c.new.ensures

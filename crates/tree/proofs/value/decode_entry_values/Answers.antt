@@ -8,5 +8,5 @@ use Rattle.tree.proofs.value.decode_entry_values.Goals as goal
 pub returns : goal.returns
 returns c =
     let b = c.args.value.now in
-    value-parts b _ _ c.copy_32-payload_digest.result c.copy_64-token.result c.read_u64.result c.read_u64-2.result _ c.read_u64-3.result
-    c.read_u64.ensures c.copy_32-payload_digest.ensures c.copy_64-token.ensures (rest b available_at) c.read_u64-2.ensures refl (rest b session_at) c.read_u64-3.ensures
+    value-parts b _ _ c.copy.result c.copy-2.result c.read_u64.result c.read_u64-2.result _ c.read_u64-3.result
+    c.read_u64.ensures c.copy.ensures c.copy-2.ensures (rest b available_at) c.read_u64-2.ensures refl (rest b session_at) c.read_u64-3.ensures

@@ -1,16 +1,6 @@
 -- `write_front` meets its contract. Assumes nothing.
-use native.Mathlib.Omega.{arith}
 use Rattle.tree.proofs.RecordParts.{front-wrote}
 use Rattle.tree.proofs.value.write_front.Goals as goal
-
-pub write_u64-requires : goal.write_u64-requires
-write_u64-requires c = omega (arith, c.requires.1)
-
-pub write-requires : goal.write-requires
-write-requires c = omega (arith, c.requires.0, c.requires.1, c.write_u64.auto.out)
-
-pub shape_of-out : goal.shape_of-out
-shape_of-out c = omega (arith, c.write.auto.buf, c.write_u64.auto.out)
 
 pub returns : goal.returns
 returns c =

@@ -1,6 +1,0 @@
--- `stands_at` meets its contract: the bytes of two addresses are the same. Assumes nothing.
-use Rattle.tree.proofs.CoverLaws.{stands-bytes}
-use Rattle.tree.proofs.entries.stands_at.Goals as goal
-
-pub returns : goal.returns
-returns c = stands-bytes c.requires (λ i. (c.shared_slice_known-2-1.given i).fits) _ _ c.address_at.ensures _ c.same.ensures

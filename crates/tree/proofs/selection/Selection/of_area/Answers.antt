@@ -1,6 +1,0 @@
--- `of_area` meets its contract. Assumes nothing.
-use mathlib.Core.Path.{refl}
-use Rattle.tree.proofs.selection.Selection.of_area.Goals as goal
-
-pub returns : goal.returns
-returns c = refl
