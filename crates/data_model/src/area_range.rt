@@ -31,6 +31,7 @@ fn subspaces_of(subspace: AreaSubspace) -> Range<Subspace>
 }
 
 // The paths of an area: from its path up to the least legal path above that it does not prefix.
+#[inline(always)]
 fn paths_of(path: Path) -> Range<Path>
     requires { legal field path ≡ true }
     ensures { result ≡ paths_up_to (components path) (above field (components path)) }
@@ -50,6 +51,7 @@ impl TryFrom<Area> for Range3d {
 
     ghost try_from_gives = { λ area result. said result ≡ area_range_answer field area };
 
+    #[inline(always)]
     #[tactic(auto, unfolding(crate::specs::Area::area_range_answer, crate::specs::Area::area_range))]
     fn try_from(area: Area) -> Result<Range3d, Refusal> {
         if !area.path.is_legal() {

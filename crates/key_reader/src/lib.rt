@@ -60,6 +60,7 @@ impl<'a> KeyReader<'a> {
     }
 
     // Decodes the path that begins at the reader's position. The reader stays where it is.
+    #[inline(always)]
     pub fn decode_path(self) -> Result<PathRead, Refusal>
         ensures { said result ≡ path_read self.entry.at (read_path field (drop self.entry.at self.entry.bytes.now)) }
     {
@@ -104,6 +105,7 @@ pub fn component_at(bytes: &[u8], at: usize) -> Stepped
 }
 
 // Decodes the path that begins at a position of a key, through a reader.
+#[inline(always)]
 pub fn path_at(bytes: &[u8], at: usize) -> Result<PathRead, Refusal>
     ensures { said result ≡ path_read at (read_path field (drop at bytes.now)) }
 {

@@ -112,6 +112,7 @@ pub fn component_bytes(key: &[u8], at: usize) -> Result<Next, Refusal>
 }
 
 // The path at a position, and the position behind it. How many bytes and components it may have is what the value has room for.
+#[inline(always)]
 pub fn decode_path(key: &[u8], at: usize) -> Result<PathRead, Refusal>
     ensures { said result ≡ path_read at (read_path field (drop at key.now)) }
 {
@@ -127,13 +128,23 @@ pub fn decode_path(key: &[u8], at: usize) -> Result<PathRead, Refusal>
     })
 }
 
+// The path of a key with so many bytes before it. `decode_path` is compiled where it is used, so that its answer is written where it is wanted: once here
+// for all keys, and once for the reader of a path.
+#[inline(never)]
+fn path_behind(key: &[u8], before: usize) -> Result<PathRead, Refusal>
+    requires { before ≤ length key.now }
+    ensures { said result ≡ path_read 0 (read_path field (drop before key.now)) }
+{
+    decode_path(&key[before..], 0)
+}
+
 // A key with so many bytes before its path and so many behind it; the subspace stands before the path, the timestamp at a position. The
 // path is read from the part of the key behind the bytes before it.
 fn decode_key(key: &[u8], before: usize, behind: usize, time: usize) -> Result<EntryKey, Refusal>
     requires { (16 ≤ before) × (before + behind ≤ 24) × (24 ≤ length key.now) × (time + 8 ≤ length key.now) }
     ensures { said result ≡ decoded (read_key field before behind time key.now) }
 {
-    let read = decode_path(&key[before..], 0)?;
+    let read = path_behind(key, before)?;
     if before + read.next + behind != key.len() {
         return Err(Refusal::NoKey);
     }

@@ -48,6 +48,53 @@ struct Begun {
     kept: usize,
 }
 
+// The store's buffers, its prune list and the line's, with just the room that each asks for.
+
+fn tree_bytes() -> [u8; TREE]
+    ensures { length result ≡ tree_room field program_limit }
+{
+    [0; TREE]
+}
+
+fn numbers() -> [u32; NUMBERS]
+    ensures { length result ≡ dir_room program_limit }
+{
+    [0; NUMBERS]
+}
+
+fn tally_bytes() -> [u8; TALLY]
+    ensures { length result ≡ tally_room program_limit }
+{
+    [0; TALLY]
+}
+
+fn line_bytes() -> [u8; KEPT]
+    ensures { length result ≡ kept_most }
+{
+    [0; KEPT]
+}
+
+// Room for a read.
+fn read_bytes() -> [u8; READ]
+    ensures { length result ≡ read_most }
+{
+    [0; READ]
+}
+
+// Room for an answer to each byte of a read, should all be newlines.
+fn answer_bytes() -> [u8; ANSWERS]
+    ensures { length result ≡ answer_text_most * read_most }
+{
+    [0; ANSWERS]
+}
+
+// Whether a read of so many bytes was the last: it did not fill its buffer, so the input has ended.
+fn is_last(got: usize) -> bool
+    ensures { result ≡ ltb got read_most }
+{
+    got < READ
+}
+
 // Reads until the buffer is full or the input has ended; answers how many bytes were read.
 fn read_full<R: Read>(reader: &mut R, bytes: &mut [u8]) -> io::Result<usize>
     ensures { IfOk result (λ n. n ≤ length bytes.new) }
@@ -66,7 +113,7 @@ fn read_full<R: Read>(reader: &mut R, bytes: &mut [u8]) -> io::Result<usize>
 
 // Kept (5): the store's buffers are lent one by one: a clause could name what a struct of `&mut` leaves only by the numbers of its parts.
 
-// Reads the input, and prints the answers to the lines that end in each read. A read that does not fill its buffer was the last: the input has ended.
+// Reads the input, and prints the answers to the lines that end in each read.
 fn answer_reads<R: Input + Print>(
     rt: &R,
     opened: State,
@@ -85,7 +132,7 @@ fn answer_reads<R: Input + Print>(
 {
     let mut state = opened;
     let mut kept = 0;
-    let mut input = [0; READ];
+    let mut input = read_bytes();
     let mut reader = rt.reader();
     for _ in 0..u64::MAX {
         let got = read_full(&mut reader, &mut input)?;
@@ -105,7 +152,7 @@ fn answer_reads<R: Input + Print>(
         rt.write_all(&out[..part.written])?;
         state = part.state;
         kept = part.kept;
-        if got < READ {
+        if is_last(got) {
             return Ok(Begun { state, kept });
         }
     }
@@ -147,15 +194,14 @@ fn run<R: Input + Print>(
 }
 
 fn main(rt: HostRuntime) -> io::Result<()> {
-    let mut spt = [0; TREE];
-    let mut spt_dir = [0; NUMBERS];
-    let mut tsp = [0; TREE];
-    let mut tsp_dir = [0; NUMBERS];
-    let mut tally = [0; TALLY];
-    let mut prune = [0; NUMBERS];
-    let mut line = [0; KEPT];
-    // Room for an answer to each byte of a read, should all be newlines.
-    let mut out = [0; ANSWERS];
+    let mut spt = tree_bytes();
+    let mut spt_dir = numbers();
+    let mut tsp = tree_bytes();
+    let mut tsp_dir = numbers();
+    let mut tally = tally_bytes();
+    let mut prune = numbers();
+    let mut line = line_bytes();
+    let mut out = answer_bytes();
     run(
         &rt,
         &mut spt,

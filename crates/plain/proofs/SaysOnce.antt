@@ -7,7 +7,7 @@ use Rattle.std.specs.declared.cmp.Ordering.{Ordering}
 use Rattle.std.specs.declared.cmp.Ordering.TheVariants as ordering
 use Rattle.laws.specs.Order.{Order, less, same, greater}
 use Rattle.data_model.specs.Said.{Said, refuses, says}
-use Rattle.data_model.specs.Refusal.{refusal_number, said, said_by, ordering_says, recency_says}
+use Rattle.data_model.specs.Refusal.{refusal_number, said, said_by, refused_with, ordering_says, recency_says}
 use Rattle.data_model.specs.declared.answer.Refusal.{Refusal}
 use Rattle.data_model.specs.declared.answer.Refusal.TheVariants as refusal
 use Rattle.data_model.specs.declared.answer.Recency.{Recency}
@@ -89,6 +89,14 @@ said-once {A} = once said (said_for (λ (a : A). a)) back
     back : (a : Result A Refusal) → said_for (λ (a : A). a) (said a) ≡ a
     back (Ok a) = refl
     back (Err r) = refused-back (Err (refusal_for (refusal_number r))) r
+
+-- A test's answer, which has no values: its number alone. What a recording and a forgetting of payload answer is one.
+pub refused-once : (a b : Result Unit Refusal) → refused_with a ≡ refused_with b → a ≡ b
+refused-once = once refused_with (λ (n : ℕ). by_refusal n (Ok tt)) back
+  where
+    back : (a : Result Unit Refusal) → by_refusal (refused_with a) (Ok tt) ≡ a
+    back (Ok u) = refl
+    back (Err r) = refused-back (Ok tt) r
 
 -- The cases of a comparison, and of the comparison of two entries.
 abbrev ordering_for : Order → Ordering

@@ -91,6 +91,7 @@ impl From<Result<EntryKey, Refusal>> for PlainDecoded {
 impl From<Result<PathRead, Refusal>> for PlainPathRead {
     ghost from_gives = { λ answer plain. plain ≡ plain_path_read (said answer) };
 
+    #[inline(always)]
     fn from(answer: Result<PathRead, Refusal>) -> PlainPathRead {
         match answer {
             Ok(read) => PlainPathRead {

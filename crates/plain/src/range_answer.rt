@@ -20,6 +20,7 @@ pub struct PlainAreaRange {
 }
 
 // The end of a range, told as `none` if it is open, and 1 if it is open, else 0.
+#[inline(always)]
 fn plain_end<T: Copy>(end: RangeEnd<T>, none: T) -> (T, u8)
     ensures { result ≡ plain_end end none }
 {
@@ -61,6 +62,7 @@ impl From<Range<Subspace>> for PlainSubspaces {
 impl From<Range<Path>> for PlainPaths {
     ghost from_gives = { λ range plain. plain ≡ plain_paths range };
 
+    #[inline(always)]
     fn from(range: Range<Path>) -> PlainPaths {
         let (end, open) = plain_end(range.end, Path::new_empty());
         PlainPaths {
@@ -75,6 +77,7 @@ impl From<Range<Path>> for PlainPaths {
 impl From<Range3d> for PlainRange {
     ghost from_gives = { λ range plain. plain ≡ plain_range range };
 
+    #[inline(always)]
     fn from(range: Range3d) -> PlainRange {
         PlainRange {
             subspaces: range.subspaces.into(),
@@ -88,6 +91,7 @@ impl From<Range3d> for PlainRange {
 impl From<Result<Range3d, Refusal>> for PlainAreaRange {
     ghost from_gives = { λ answer plain. plain ≡ plain_area_range (said answer) };
 
+    #[inline(always)]
     fn from(answer: Result<Range3d, Refusal>) -> PlainAreaRange {
         match answer {
             Ok(range) => PlainAreaRange {

@@ -13,7 +13,8 @@ use Rattle.laws.specs.Lists.{piece}
 use Rattle.laws.specs.Sorted.{all}
 use Rattle.laws.proofs.Truth.{split, and-true}
 use Rattle.std.specs.Prelude.{Option, Some, None}
-use Rattle.std.specs.List.{slice_split, onto_first, position_or_len}
+use Rattle.std.proofs.lemmas.List.Splits.{length-slice_split}
+use Rattle.std.specs.List.{slice_split, onto_first, position_or_len, count_by}
 use Rattle.text.specs.Fields.{fields, front, on_first}
 
 module _ (sep : ℕ) where
@@ -77,6 +78,10 @@ module _ (sep : ℕ) where
       fields-first (drop at s)
       ∙ ap₂ ◌∷◌ (sym (ap (λ (k : ℕ). take k (drop at s)) n ∙ front-take (drop at s)))
       (ap behind (drop-drop (length (front sep (drop at s))) at s ∙ ap (λ (k : ℕ). drop k s) (sym h)))
+
+  -- A field more than there are bytes that part them.
+  pub fields-count : (s : List ℕ) → length (fields sep s) ≡ count_by (λ b. eqb b sep) s + 1
+  fields-count s = sym (ap length (fields-split s)) ∙ length-slice_split (λ b. eqb b sep) s
 
   pub behind_more : (s : List ℕ) (e : ℕ) → e < length s → behind (drop e s) ≡ fields sep (drop (e + 1) s)
   behind_more s e h = rw (drop-cons s e 0 h, add-one)

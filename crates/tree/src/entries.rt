@@ -24,13 +24,12 @@ use keys::encode::KEY_MOST;
 use layout::bytes::same;
 
 impl<'a, 'd> Tree<'a, 'd> {
-    // Whether record k makes the entry obsolete. `address`: the entry's. The entry is lent, so that a walk copies it for no record that it does not
-    // look at further.
+    // Whether record k makes the entry obsolete. `address`: the entry's. The entry is lent, so that a walk copies it for no record.
     fn outdates_at(self, k: usize, e: &Entry, address: &[u8]) -> bool
         requires { (IsReadable self k) × (address.now ≡ address_key e.now.subspace_id (components e.now.path)) × (Sized (triple_of (entry_of e.now))) }
         ensures { result ≡ outdates (entry_of e.now) (stored_in self.entry e.now.namespace_id k) }
     {
-        begins(address, self.open_at(k)) && matches!(self.compare_with(k, *e), Recency::Newer)
+        begins(address, self.open_at(k)) && matches!(self.compare_lent(k, e), Recency::Newer)
     }
 
     // Whether the entry removes record k: where it covers it, and record k is older. `front`: the entry's address without its end.
@@ -38,7 +37,7 @@ impl<'a, 'd> Tree<'a, 'd> {
         requires { (IsReadable self k) × (front.now ≡ open_key e.now.subspace_id (components e.now.path)) × (Sized (triple_of (entry_of e.now))) }
         ensures { result ≡ removes (entry_of e.now) (stored_in self.entry e.now.namespace_id k) }
     {
-        begins(self.address_at(k), front) && matches!(self.compare_with(k, *e), Recency::Older)
+        begins(self.address_at(k), front) && matches!(self.compare_lent(k, e), Recency::Older)
     }
 
     // Whether record k stands at the subspace and path that the bytes of `address` are of.

@@ -35,6 +35,14 @@ impl<'a, 'd> Tree<'a, 'd> {
         requires { IsReadable self k }
         ensures { recency_says result ≡ by_rank (rank_at self.entry.order (record_in self.entry k)) (rank_of e) }
     {
+        self.compare_lent(k, &e)
+    }
+
+    // The same of an entry that is lent, so that a walk copies it for no record.
+    pub(crate) fn compare_lent(self, k: usize, e: &Entry) -> Recency
+        requires { IsReadable self k }
+        ensures { recency_says result ≡ by_rank (rank_at self.entry.order (record_in self.entry k)) (rank_of e.now) }
+    {
         let a = self.value_at(k);
         compare_ranks(
             self.time_at(k),

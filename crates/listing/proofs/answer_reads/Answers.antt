@@ -14,7 +14,7 @@ whatever (Err e) p = p
 pub loop-init : goal.loop-init
 loop-init g c =
     let a = c.args in
-    (omega arith, c.requires.0, refl, by-none (leaving a.opened a.spt.now a.spt_dir.now a.tsp.now a.tsp_dir.now a.tally.now a.prune.now) (take 0 a.line.now) refl)
+    (omega arith, c.requires.0, c.read_bytes-input.ensures, refl, by-none (leaving a.opened a.spt.now a.spt_dir.now a.tsp.now a.tsp_dir.now a.tally.now a.prune.now) (take 0 a.line.now) refl)
 
 pub loop-preserved : goal.loop-preserved
 loop-preserved g c =
@@ -22,14 +22,15 @@ loop-preserved g c =
     let p = c.answer_part-part in (
       p.ensures.0,
       p.auto.line ∙ l.invariant.1,
-      p.auto.out ∙ l.invariant.2,
-      by-more l.invariant.3 (take c.in_ok-got.got c.read_full.new.bytes) (ap (λ (x : WrittenPart). x.answers.left) p.ensures.2) (ap (λ (x : WrittenPart). x.line) p.ensures.2),
+      c.read_full.auto.bytes ∙ l.invariant.2,
+      p.auto.out ∙ l.invariant.3,
+      by-more l.invariant.4 (take c.in_ok-got.got c.read_full.new.bytes) (ap (λ (x : WrittenPart). x.answers.left) p.ensures.2) (ap (λ (x : WrittenPart). x.line) p.ensures.2),
     )
 
-pub returns-then-got-lt-READ-clause-ok : goal.returns-then-got-lt-READ-clause-ok
-returns-then-got-lt-READ-clause-ok g c =
+pub returns-then-is_last-clause-ok : goal.returns-then-is_last-clause-ok
+returns-then-is_last-clause-ok g c =
     let p = c.answer_part-part in
-    (p.ensures.0, by-more c.loop.invariant.3 (take c.in_ok-got.got c.read_full.new.bytes) (ap (λ (x : WrittenPart). x.answers.left) p.ensures.2) (ap (λ (x : WrittenPart). x.line) p.ensures.2))
+    (p.ensures.0, by-more c.loop.invariant.4 (take c.in_ok-got.got c.read_full.new.bytes) (ap (λ (x : WrittenPart). x.answers.left) p.ensures.2) (ap (λ (x : WrittenPart). x.line) p.ensures.2))
 
 pub returns-in_err-write_all-clause-err : goal.returns-in_err-write_all-clause-err
 returns-in_err-write_all-clause-err g c =
@@ -40,7 +41,7 @@ returns-in_err-write_all-clause-err g c =
       state = p.result.state;
       kept = p.result.kept;
       few = p.ensures.0;
-      reads = by-more l.invariant.3 (take c.in_ok-got.got c.read_full.new.bytes) (ap (λ (x : WrittenPart). x.answers.left) p.ensures.2) (ap (λ (x : WrittenPart). x.line) p.ensures.2);
+      reads = by-more l.invariant.4 (take c.in_ok-got.got c.read_full.new.bytes) (ap (λ (x : WrittenPart). x.answers.left) p.ensures.2) (ap (λ (x : WrittenPart). x.line) p.ensures.2);
     } in
     whatever c.from_residual-in_err-write_all.result stopped
 
@@ -52,6 +53,6 @@ returns-in_err-got-clause-err g c =
       state = l.state;
       kept = l.kept;
       few = l.invariant.0;
-      reads = l.invariant.3;
+      reads = l.invariant.4;
     } in
     whatever c.from_residual.result stopped

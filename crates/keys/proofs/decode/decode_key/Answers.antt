@@ -1,9 +1,8 @@
 -- `decode_key` meets its contract: no path, bytes left over, or a key. Assumes nothing.
 use Prim.Native.Nat.{ℕ, ◌+◌, ◌-◌, ◌≤◌}
 use mathlib.Core.Path.{◌≡◌, ap, ◌∙◌}
-use mathlib.Core.List.{List}
 use native.Mathlib.Omega.{arith}
-use lib.ListN.{length, drop, take, length-drop}
+use lib.ListN.{length, drop, length-drop}
 use Rattle.std.proofs.Common.{rules}
 use Rattle.data_model.specs.Path.{field}
 use Rattle.data_model.specs.Said.{refuses, says}
@@ -21,16 +20,13 @@ returns-in_err-read c =
     let a = c.args in
     let n = refused_with c.from_residual.result in
     let s : said c.from_residual.result ≡ refuses n = search rules in
-    let e : refuses n ≡ path_read 0 (read_path field (take (length a.key.now - a.before) (drop a.before a.key.now))) = search rules in
-    let r = path-refused 0 _ n (e ∙ ap (λ (k : List ℕ). path_read 0 (read_path field k)) (rest a.key.now a.before)) in
+    let e : refuses n ≡ path_read 0 (read_path field (drop a.before a.key.now)) = search rules in
+    let r = path-refused 0 _ n e in
     s ∙ ap refuses r.1 ∙ decoded-refused _ (whole-refused a.before a.behind (length a.key.now) _ _ r.0)
 
 -- What reading the path answered, and that what it took is within the key.
 read : (c : In_ok-read) → says c.in_ok-read.read ≡ path_read 0 (read_path field (drop c.args.before c.args.key.now))
-read c =
-    let a = c.args in
-    let e : says c.in_ok-read.read ≡ path_read 0 (read_path field (take (length a.key.now - a.before) (drop a.before a.key.now))) = search rules in
-    e ∙ ap (λ (k : List ℕ). path_read 0 (read_path field k)) (rest a.key.now a.before)
+read c = search rules
 
 long : (c : In_ok-read) → c.args.before + c.in_ok-read.read.next ≤ length c.args.key.now
 long c =

@@ -15,19 +15,19 @@ use Rattle.tree.proofs.AddressLaws.{outdates-not}
 use Rattle.tree.proofs.CoverLaws.{outdates-rank}
 use Rattle.tree.proofs.RankLaws.{not-newer}
 use Rattle.tree.proofs.stored.Tree.outdates_at.Goals as goal
-use Rattle.tree.proofs.stored.Tree.outdates_at.Goals.{After-compare_with}
+use Rattle.tree.proofs.stored.Tree.outdates_at.Goals.{After-compare_lent}
 
-by_rank_lem : (c : After-compare_with) (g : Bool) → is_greater (by_rank (rank_at c.args.self.order (record_at c.args.k c.args.self.dir.now c.args.self.bytes.now)) (rank_of c.args.e.now)) ≡ g
+by_rank_lem : (c : After-compare_lent) (g : Bool) → is_greater (by_rank (rank_at c.args.self.order (record_at c.args.k c.args.self.dir.now c.args.self.bytes.now)) (rank_of c.args.e.now)) ≡ g
     → g ≡ outdates (entry_of c.args.e.now) (stored c.args.self.order field c.args.e.now.namespace_id (record_at c.args.k c.args.self.dir.now c.args.self.bytes.now))
 unfolding entry_of
 by_rank_lem c g q = outdates-rank c.requires.0 c.args.self.fits c.args.e.now c.requires.2 _ g q _ _ c.open_at.ensures c.requires.1 c.begins.ensures (ap not c.if-begins.true)
 
 pub returns-in-Newer : goal.returns-in-Newer
 unfolding is_greater
-returns-in-Newer c = by_rank_lem (goal.at.returns-in-Newer c).After-compare_with true (ap is_greater (ranked-newer _ _ c.compare_with.ensures c.in-Newer.is))
+returns-in-Newer c = by_rank_lem (goal.at.returns-in-Newer c).After-compare_lent true (ap is_greater (ranked-newer _ _ c.compare_lent.ensures c.in-Newer.is))
 
 pub returns-in_default : goal.returns-in_default
-returns-in_default c = by_rank_lem (goal.at.returns-in_default c).After-compare_with false (not-newer _ _ c.compare_with.ensures c.in_default.not-Newer)
+returns-in_default c = by_rank_lem (goal.at.returns-in_default c).After-compare_lent false (not-newer _ _ c.compare_lent.ensures c.in_default.not-Newer)
 
 pub returns-else-begins : goal.returns-else-begins
 unfolding entry_of

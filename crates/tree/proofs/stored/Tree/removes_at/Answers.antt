@@ -15,19 +15,19 @@ use Rattle.tree.proofs.AddressLaws.{removes-not}
 use Rattle.tree.proofs.CoverLaws.{removes-rank}
 use Rattle.tree.proofs.RankLaws.{not-older}
 use Rattle.tree.proofs.stored.Tree.removes_at.Goals as goal
-use Rattle.tree.proofs.stored.Tree.removes_at.Goals.{After-compare_with}
+use Rattle.tree.proofs.stored.Tree.removes_at.Goals.{After-compare_lent}
 
-by_rank_lem : (c : After-compare_with) (g : Bool) → is_less (by_rank (rank_at c.args.self.order (record_at c.args.k c.args.self.dir.now c.args.self.bytes.now)) (rank_of c.args.e.now)) ≡ g
+by_rank_lem : (c : After-compare_lent) (g : Bool) → is_less (by_rank (rank_at c.args.self.order (record_at c.args.k c.args.self.dir.now c.args.self.bytes.now)) (rank_of c.args.e.now)) ≡ g
     → g ≡ removes (entry_of c.args.e.now) (stored c.args.self.order field c.args.e.now.namespace_id (record_at c.args.k c.args.self.dir.now c.args.self.bytes.now))
 unfolding entry_of
 by_rank_lem c g q = removes-rank c.requires.0 c.args.self.fits c.args.e.now c.requires.2 _ g q _ _ c.requires.1 c.address_at.ensures c.begins.ensures (ap not c.if-begins.true)
 
 pub returns-in-Older : goal.returns-in-Older
 unfolding is_less
-returns-in-Older c = by_rank_lem (goal.at.returns-in-Older c).After-compare_with true (ap is_less (ranked-older _ _ c.compare_with.ensures c.in-Older.is))
+returns-in-Older c = by_rank_lem (goal.at.returns-in-Older c).After-compare_lent true (ap is_less (ranked-older _ _ c.compare_lent.ensures c.in-Older.is))
 
 pub returns-in_default : goal.returns-in_default
-returns-in_default c = by_rank_lem (goal.at.returns-in_default c).After-compare_with false (not-older _ _ c.compare_with.ensures c.in_default.not-Older)
+returns-in_default c = by_rank_lem (goal.at.returns-in_default c).After-compare_lent false (not-older _ _ c.compare_lent.ensures c.in_default.not-Older)
 
 pub returns-else-begins : goal.returns-else-begins
 unfolding entry_of
